@@ -1,0 +1,37 @@
+//! Accesses to cells.
+
+use crate::list::ListOf;
+use crate::node::NodeId;
+
+/// A cell: 0 is the input's cursor, 1 is the output, declared cells follow from 2 in order, an array's
+/// elements one after the other.
+#[derive(Clone, Copy, PartialEq, Eq, Debug)]
+pub struct CellId(pub u32);
+
+/// Whether a cell is read or written.
+#[derive(Clone, Copy, PartialEq, Eq, Debug)]
+pub enum AccessKind {
+    Read,
+    Write,
+}
+
+/// One access: the value that was read or written.
+#[derive(Clone, Copy, PartialEq, Eq, Debug)]
+pub struct Access {
+    pub cell: CellId,
+    pub kind: AccessKind,
+    pub value: i64,
+}
+
+/// An access and the stage instance that made it.
+#[derive(Clone, Copy, PartialEq, Eq, Debug)]
+pub struct NodeAccess {
+    pub node: NodeId,
+    pub access: Access,
+}
+
+/// Accesses in the order in which they were made.
+pub type Accesses = ListOf<Access>;
+
+/// Accesses with their instances, in the order in which they were made.
+pub type NodeAccesses = ListOf<NodeAccess>;

@@ -1,0 +1,26 @@
+//! Columns of the pipeline dag: iterations as lists of their stage instances.
+
+use crate::list::ListOf;
+use crate::node::Nodes;
+use crate::trap::Trap;
+
+/// How an iteration ended.
+#[derive(Clone, Copy, PartialEq, Eq, Debug)]
+pub enum ColumnEnd {
+    /// At the end of the loop's body.
+    End,
+    /// By a false test, which closes the loop.
+    Closed,
+    /// By a trap, which in instance 0 closes the loop too.
+    Trapped(Trap),
+}
+
+/// An iteration: its stage instances in order, and its end where it has come to one.
+#[derive(Drop)]
+pub struct Column {
+    pub nodes: Nodes,
+    pub end: Option<ColumnEnd>,
+}
+
+/// The columns of a dag, iteration 0 first.
+pub type Columns = ListOf<Column>;

@@ -1,0 +1,14 @@
+//! Plain types of pipeline programs and their runs, and in `specs/` the definitions that every other crate cites.
+#![tactic(auto)]
+
+pub mod access;
+pub mod column;
+pub mod event;
+pub mod list;
+pub mod memory;
+pub mod name;
+pub mod node;
+pub mod report;
+pub mod symbol;
+pub mod trap;
+pub mod tree;

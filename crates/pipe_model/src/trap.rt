@@ -1,0 +1,41 @@
+//! Traps: the ends that the language gives to a step that cannot be made.
+
+use crate::node::NodeId;
+
+/// Why an iteration, `init` or `final` ended before its end.
+#[derive(Clone, Copy, PartialEq, Eq, Debug)]
+pub enum Trap {
+    /// A sum, difference, product, negative, quotient or implied stage number outside `i64`.
+    Overflow,
+    /// A divisor is 0.
+    DivZero,
+    /// An index outside its array.
+    Index,
+    /// The instance has no step of its budget left.
+    Budget,
+    /// The next stage's number is not above the current one.
+    StageOrder,
+    /// The iteration has had as many instances as the limit allows.
+    StageLimit,
+    /// `take()` where no input number is left.
+    InputEnd,
+    /// The loop goes on after as many iterations as the limit allows.
+    IterLimit,
+    /// `emit` after as many numbers as the limit allows.
+    OutputLimit,
+}
+
+/// Where a trap came: in `init`, in a stage instance (with its stage number), or in `final`.
+#[derive(Clone, Copy, PartialEq, Eq, Debug)]
+pub enum TrapPlace {
+    Init,
+    At(NodeId, i64),
+    Last,
+}
+
+/// A trap and its place.
+#[derive(Clone, Copy, PartialEq, Eq, Debug)]
+pub struct TrapAt {
+    pub place: TrapPlace,
+    pub trap: Trap,
+}

@@ -1,0 +1,78 @@
+//! Syntax trees of programs.
+
+use crate::list::ListOf;
+use crate::name::Name;
+
+/// An expression. Round brackets leave no trace in it.
+#[derive(Drop)]
+pub enum Expr {
+    Number(i64),
+    /// A local or a plain cell.
+    Name(Name),
+    /// An element of an array.
+    Element(Name, Box<Expr>),
+    /// A two-place operator by its code.
+    Binary(u8, Box<Expr>, Box<Expr>),
+    /// A one-place operator by its code: 1 is the negative, 2 is `!`.
+    Unary(u8, Box<Expr>),
+    /// Whether an input number is left.
+    More,
+    /// The next input number.
+    Take,
+    /// The iteration's number.
+    Iter,
+}
+
+/// A statement.
+#[derive(Drop)]
+#[cycle(tree)]
+pub enum Stmt {
+    Let(Name, Expr),
+    Assign(Name, Expr),
+    AssignElement(Name, Expr, Expr),
+    Emit(Expr),
+    If(Expr, Block, Block),
+    While(Expr, Block),
+    /// `pipe_wait`, with or without a stage number.
+    Wait(Option<Expr>),
+    /// `pipe_continue`, with or without a stage number.
+    Continue(Option<Expr>),
+}
+
+/// Statements in order.
+#[derive(Drop)]
+#[cycle(tree)]
+pub struct Block {
+    pub statements: Vec<Stmt>,
+}
+
+/// A cell with its declared value, or an array of so many cells that each have it.
+#[derive(Drop)]
+pub struct Declaration {
+    pub name: Name,
+    pub size: Option<i64>,
+    pub value: i64,
+}
+
+/// The declarations of a program, in order.
+pub type Declarations = ListOf<Declaration>;
+
+/// What a program may use: iterations, stage instances an iteration, steps an instance, emitted numbers.
+#[derive(Clone, Copy, PartialEq, Eq, Debug)]
+pub struct Limits {
+    pub iterations: i64,
+    pub stages: i64,
+    pub steps: i64,
+    pub emits: i64,
+}
+
+/// A program: what runs before the loop, the loop with its test and body, and what runs after it.
+#[derive(Drop)]
+pub struct Program {
+    pub limits: Limits,
+    pub cells: Declarations,
+    pub init: Block,
+    pub test: Expr,
+    pub body: Block,
+    pub last: Block,
+}
