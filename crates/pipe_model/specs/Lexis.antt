@@ -1,0 +1,93 @@
+-- Lexical structure: which text is which symbol, and how the bytes of a source divide into symbols, the longest at each place.
+use Rattle.std.specs.Prelude.{◌≡◌, ◌≢◌, ℕ, ◌+◌, ◌-◌, ◌*◌, ◌≤◌, ◌^◌, pos, ◌≤ℤ◌, Bool, true, List, [], ◌∷◌, ◌++◌, length, fold, nat_le, ◌==◌, ◌&&◌, ◌||◌, Option, Some, None, if◌then◌else◌, position, codes}
+use Rattle.std.specs.List.{list_all}
+use Rattle.std.specs.Str.{bytes_eq}
+use Rattle.pipe_model.specs.declared.symbol.Symbol.{Symbol}
+use Rattle.pipe_model.specs.declared.symbol.Symbol.TheVariants as symbols
+
+-- space, tab, carriage return and line feed separate symbols
+abbrev pub is_blank : ℕ → Bool
+is_blank b = (b == 32) || ((b == 9) || ((b == 13) || (b == 10)))
+
+-- a decimal digit
+abbrev pub is_digit : ℕ → Bool
+is_digit b = nat_le 48 b && nat_le b 57
+
+-- a letter or `_`
+abbrev pub is_letter : ℕ → Bool
+is_letter b = (nat_le 65 b && nat_le b 90) || ((nat_le 97 b && nat_le b 122) || (b == 95))
+
+-- what may follow in a name
+abbrev pub is_name_byte : ℕ → Bool
+is_name_byte b = is_letter b || is_digit b
+
+-- the number that decimal digits write
+abbrev pub number_of : List ℕ → ℕ
+number_of digits = fold (λ n d. 10 * n + (d - 48)) 0 digits
+
+-- the reserved words, in the order by which a symbol names them
+abbrev pub reserved_words : List (List ℕ)
+reserved_words = codes "version" ∷ codes "limits" ∷ codes "iterations" ∷ codes "stages" ∷ codes "steps" ∷ codes "emits" ∷ codes "cell" ∷ codes "init"
+    ∷ codes "pipe_while" ∷ codes "pipe_wait" ∷ codes "pipe_continue" ∷ codes "final" ∷ codes "let" ∷ codes "if" ∷ codes "else" ∷ codes "while"
+    ∷ codes "emit" ∷ codes "more" ∷ codes "take" ∷ codes "iter" ∷ codes "input" ∷ codes "output" ∷ []
+
+-- a reserved word where there is one at this place of their list, else a name
+abbrev pub word_or_name : Option ℕ → List ℕ → Symbol
+word_or_name (Some k) text = symbols.Word k
+word_or_name None text = symbols.Name text
+
+-- a text that begins with a letter, as a symbol
+abbrev pub word_symbol : List ℕ → Symbol
+word_symbol text = word_or_name (position (λ word. bytes_eq word text) reserved_words) text
+
+-- a sign or operator and its text
+pub record Punctuation : Type 0 where
+  pub text : List ℕ
+  pub symbol : Symbol
+
+-- an operator by its text and code
+abbrev pub operator : List ℕ → ℕ → Punctuation
+operator text code = record { text = text; symbol = symbols.Operator code }
+
+-- a sign of one byte, which is its own name
+abbrev pub sign : ℕ → Punctuation
+sign b = record { text = b ∷ []; symbol = symbols.Sign b }
+
+-- the operators, and the signs `!` `=` `(` `)` `[` `]` `{` `}` `,` `;`
+abbrev pub punctuation : List Punctuation
+punctuation = operator (codes "||") 1 ∷ operator (codes "&&") 2 ∷ operator (codes "==") 3 ∷ operator (codes "!=") 4 ∷ operator (codes "<") 5
+    ∷ operator (codes "<=") 6 ∷ operator (codes ">") 7 ∷ operator (codes ">=") 8 ∷ operator (codes "+") 9 ∷ operator (codes "-") 10
+    ∷ operator (codes "*") 11 ∷ operator (codes "/") 12 ∷ operator (codes "%") 13
+    ∷ sign 33 ∷ sign 61 ∷ sign 40 ∷ sign 41 ∷ sign 91 ∷ sign 93 ∷ sign 123 ∷ sign 125 ∷ sign 44 ∷ sign 59 ∷ []
+
+-- the symbol of this text in a table
+abbrev pub symbol_in : List Punctuation → List ℕ → Option Symbol
+symbol_in [] text = None
+symbol_in (p ∷ ps) text = if bytes_eq p.text text then Some p.symbol else symbol_in ps text
+
+-- the symbol that a text is, if it is one: a word or name, a number, or punctuation
+abbrev pub symbol_of : List ℕ → Option Symbol
+symbol_of [] = None
+symbol_of (b ∷ bs) =
+    if is_letter b then (if list_all is_name_byte bs then Some (word_symbol (b ∷ bs)) else None)
+    else (if is_digit b then (if list_all is_digit bs then Some (symbols.Number (pos (number_of (b ∷ bs)))) else None)
+    else symbol_in punctuation (b ∷ bs))
+
+-- no longer front of what stands here is the text of a symbol
+pub record IsLongest (text rest : List ℕ) : Type 0 where
+  pub longest : (more after : List ℕ) (s : Symbol) → rest ≡ more ++ after → more ≢ [] → symbol_of (text ++ more) ≡ Some s → ⊥
+
+-- the bytes divide into the symbols, each the longest at its place, with blanks between them
+pub data Divides : List ℕ → List Symbol → Type 0 where
+  AtEnd : Divides [] []
+  Blank : {bytes : List ℕ} {found : List Symbol} (b : ℕ) → is_blank b ≡ true → Divides bytes found → Divides (b ∷ bytes) found
+  Taken : {rest : List ℕ} {found : List Symbol} (text : List ℕ) (s : Symbol) → symbol_of text ≡ Some s → IsLongest text rest → Divides rest found
+      → Divides (text ++ rest) (s ∷ found)
+
+-- a name has at most 64 bytes, and a number is an `i64`
+abbrev pub IsWithinBounds : Symbol → Type 0
+IsWithinBounds (symbols.Name text) = length text ≤ 64
+IsWithinBounds (symbols.Word k) = Unit {0}
+IsWithinBounds (symbols.Number n) = n ≤ℤ pos (2 ^ 63 - 1)
+IsWithinBounds (symbols.Operator code) = Unit {0}
+IsWithinBounds (symbols.Sign b) = Unit {0}

@@ -1,0 +1,79 @@
+-- The lines that a call prints, as functions of plain data. Numbers are plain decimal; every line ends with a line feed.
+use Rattle.std.specs.Prelude.{ℕ, ℤ, List, [], ◌++◌, Option, Some, None, codes}
+use Rattle.std.specs.Fmt.{decimal, signed_decimal}
+use Rattle.std.specs.List.{flat_map}
+use Rattle.pipe_model.specs.declared.access.AccessKind.{AccessKind}
+use Rattle.pipe_model.specs.declared.access.AccessKind.TheVariants as accesses
+use Rattle.pipe_model.specs.declared.node.NodeId.{NodeId}
+use Rattle.pipe_model.specs.declared.report.Report.{Report}
+use Rattle.pipe_model.specs.declared.trap.Trap.{Trap}
+use Rattle.pipe_model.specs.declared.trap.Trap.TheVariants as traps
+use Rattle.pipe_model.specs.declared.trap.TrapAt.{TrapAt}
+use Rattle.pipe_model.specs.declared.trap.TrapPlace.{TrapPlace}
+use Rattle.pipe_model.specs.declared.trap.TrapPlace.TheVariants as places
+
+-- one line for each emitted number
+abbrev pub output_lines : List ℤ → List ℕ
+output_lines output = flat_map (λ v. signed_decimal v ++ codes "\n") output
+
+-- the name of a trap
+abbrev pub trap_name : Trap → List ℕ
+trap_name traps.Overflow = codes "Overflow"
+trap_name traps.DivZero = codes "DivZero"
+trap_name traps.Index = codes "Index"
+trap_name traps.Budget = codes "Budget"
+trap_name traps.StageOrder = codes "StageOrder"
+trap_name traps.StageLimit = codes "StageLimit"
+trap_name traps.InputEnd = codes "InputEnd"
+trap_name traps.IterLimit = codes "IterLimit"
+trap_name traps.OutputLimit = codes "OutputLimit"
+
+-- an instance by its iteration and its stage number
+abbrev pub instance_text : NodeId → ℤ → List ℕ
+instance_text node number = decimal node.iteration ++ (codes "/" ++ signed_decimal number)
+
+-- where a trap came
+abbrev pub trap_place : TrapPlace → List ℕ
+trap_place places.Init = codes "in init"
+trap_place (places.At node number) = codes "at " ++ instance_text node number
+trap_place places.Last = codes "in final"
+
+-- the line of a trap
+abbrev pub trap_line : TrapAt → List ℕ
+trap_line t = codes "trap " ++ (trap_name t.trap ++ (codes " " ++ (trap_place t.place ++ codes "\n")))
+
+-- the line of a trap, where there is one
+abbrev pub trap_lines : Option TrapAt → List ℕ
+trap_lines None = []
+trap_lines (Some t) = trap_line t
+
+-- the word of an access kind
+abbrev pub kind_text : AccessKind → List ℕ
+kind_text accesses.Read = codes "read"
+kind_text accesses.Write = codes "write"
+
+-- the line of a race: the cell's name, and its two accesses, the earlier first
+abbrev pub race_line : (ℕ → List ℕ) → Report → List ℕ
+race_line cell_name r =
+    codes "race " ++ (cell_name r.cell.0 ++ (codes " " ++ (kind_text r.earlier_kind ++ (codes " " ++ (instance_text r.earlier r.earlier_number
+    ++ (codes " " ++ (kind_text r.later_kind ++ (codes " " ++ (instance_text r.later r.later_number ++ codes "\n")))))))))
+
+-- the words are no command
+abbrev pub refused_usage : List ℕ
+refused_usage = codes "refused usage\n"
+
+-- a file of this name is not held
+abbrev pub refused_missing : List ℕ → List ℕ
+refused_missing name = codes "refused missing " ++ (name ++ codes "\n")
+
+-- the source is not of the first form
+abbrev pub refused_source : List ℕ
+refused_source = codes "refused source NotYetBuilt\n"
+
+-- the input is not empty
+abbrev pub refused_input : List ℕ
+refused_input = codes "refused input NotYetBuilt\n"
+
+-- a file could not be read
+abbrev pub fault_read : List ℕ → List ℕ
+fault_read name = codes "fault read " ++ (name ++ codes "\n")
