@@ -1,0 +1,70 @@
+-- The bytes of a source divide into symbols in one way.
+use Rattle.std.proofs.Common.{◌≡◌, ◌≢◌, ◌∙◌, ap, sym, ℕ, true, List, [], ◌∷◌, ◌++◌, refl, arith, ◌⊎◌, inl, inr, Option, Some, None, append-nil}
+use Rattle.std.proofs.lemmas.Bool.Decides.{nat_tests}
+use Rattle.pipe_model.specs.declared.symbol.Symbol.{Symbol}
+use Rattle.pipe_model.specs.Lexis.{is_blank, symbol_of, IsLongest, Divides, AtEnd, Blank, Taken}
+
+-- of two fronts of one list, the longer goes on from the shorter
+pub record GoesOn (short long after_short after_long : List ℕ) : Type 0 where
+  pub more : List ℕ
+  pub front : long ≡ short ++ more
+  pub rest : after_short ≡ more ++ after_long
+
+-- of two fronts of one list, one goes on from the other
+one_goes_on : (x y u v : List ℕ) → x ++ u ≡ y ++ v → GoesOn x y u v ⊎ GoesOn y x v u
+one_goes_on [] y u v h = inl (record { more = y; front = refl; rest = h })
+one_goes_on (a ∷ x) [] u v h = inr (record { more = a ∷ x; front = refl; rest = sym h })
+one_goes_on (a ∷ x) (b ∷ y) u v h =
+    let tails : x ++ u ≡ y ++ v = cc (h) in let heads : a ≡ b = cc (h) in
+    elim (one_goes_on x y u v tails) [
+        inl r ↦ inl (record { more = r.more; front = (let f = r.front in cc (heads, f)); rest = r.rest })
+      | inr r ↦ inr (record { more = r.more; front = (let f = r.front in cc (heads, f)); rest = r.rest })
+    ]
+
+-- a front that goes on from the longest symbol and is a symbol is that symbol's text
+not_longer : (x y u v : List ℕ) (s : Symbol) → IsLongest x u → GoesOn x y u v → symbol_of y ≡ Some s → (x ≡ y) × (u ≡ v)
+not_longer x y u v s l r t = by_more r.more refl
+  where
+    by_more : (m : List ℕ) → r.more ≡ m → (x ≡ y) × (u ≡ v)
+    by_more [] e = (sym (r.front ∙ ap (λ m. x ++ m) e ∙ append-nil x), r.rest ∙ ap (λ m. m ++ v) e)
+    by_more (c ∷ m) e = absurd (l.longest r.more v s r.rest (λ n. let d : c ∷ m ≡ [] = sym e ∙ n in cc (d)) (ap symbol_of (sym r.front) ∙ t))
+
+-- the four blanks
+blank_is : (b : ℕ) → is_blank b ≡ true → (b ≡ 32) ⊎ ((b ≡ 9) ⊎ ((b ≡ 13) ⊎ (b ≡ 10)))
+blank_is b g = grind (arith, nat_tests)
+
+none_at : (k : ℕ) (bs : List ℕ) (s : Symbol) → symbol_of (k ∷ bs) ≡ None → symbol_of (k ∷ bs) ≡ Some s → ⊥
+none_at k bs s none h = let e : None ≡ Some s = sym none ∙ h in cc (e)
+
+-- no symbol's text begins with a blank
+pub blank_begins_no_symbol : (b : ℕ) (bs : List ℕ) (s : Symbol) → is_blank b ≡ true → symbol_of (b ∷ bs) ≡ Some s → ⊥
+blank_begins_no_symbol b bs s g h = by_cases (blank_is b g)
+  where
+    by_cases : (b ≡ 32) ⊎ ((b ≡ 9) ⊎ ((b ≡ 13) ⊎ (b ≡ 10))) → ⊥
+    by_cases (inl e) = none_at 32 bs s refl (ap (λ (x : ℕ). symbol_of (x ∷ bs)) (sym e) ∙ h)
+    by_cases (inr (inl e)) = none_at 9 bs s refl (ap (λ (x : ℕ). symbol_of (x ∷ bs)) (sym e) ∙ h)
+    by_cases (inr (inr (inl e))) = none_at 13 bs s refl (ap (λ (x : ℕ). symbol_of (x ∷ bs)) (sym e) ∙ h)
+    by_cases (inr (inr (inr e))) = none_at 10 bs s refl (ap (λ (x : ℕ). symbol_of (x ∷ bs)) (sym e) ∙ h)
+
+-- the longest symbols at one place are one, and leave the same
+pub one_longest : (x y u v : List ℕ) (s s' : Symbol) → IsLongest x u → IsLongest y v → symbol_of x ≡ Some s → symbol_of y ≡ Some s' → x ++ u ≡ y ++ v → (x ≡ y) × (u ≡ v)
+one_longest x y u v s s' l l' t t' h = elim (one_goes_on x y u v h) [
+    inl r ↦ not_longer x y u v s' l r t'
+  | inr r ↦ (let p = not_longer y x v u s l' r t in (sym p.0, sym p.1))
+]
+
+-- the same bytes divide into the same symbols
+pub one_division : {a b : List ℕ} {ts us : List Symbol} → Divides a ts → Divides b us → a ≡ b → ts ≡ us
+one_division AtEnd AtEnd h = refl
+one_division AtEnd (Blank b g d) h = cc (h)
+one_division AtEnd (Taken [] s t l d) h = cc (t)
+one_division AtEnd (Taken (c ∷ text) s t l d) h = cc (h)
+one_division (Blank b g d) AtEnd h = cc (h)
+one_division (Blank b g d) (Blank b' g' d') h = one_division d d' (cc (h))
+one_division (Blank b g d) (Taken [] s t l d') h = cc (t)
+one_division (Blank b g d) (Taken (c ∷ text) s t l d') h = absurd (let same : c ≡ b = cc (h) in blank_begins_no_symbol c text s (ap is_blank same ∙ g) t)
+one_division (Taken [] s t l d) e h = cc (t)
+one_division (Taken (c ∷ text) s t l d) AtEnd h = cc (h)
+one_division (Taken (c ∷ text) s t l d) (Blank b g d') h = absurd (let same : c ≡ b = cc (h) in blank_begins_no_symbol c text s (ap is_blank same ∙ g) t)
+one_division (Taken {rest} {found = ts} (c ∷ text) s t l d) (Taken {rest = rest'} {found = us} text' s' t' l' d') h =
+    let p = one_longest (c ∷ text) text' rest rest' s s' l l' t t' h in cc (ap symbol_of p.0, t, t', one_division d d' p.1)
