@@ -1,6 +1,6 @@
 -- Lexical structure: which text is which symbol, and how the bytes of a source divide into symbols, the longest at each place.
 use Rattle.std.specs.Prelude.{◌≡◌, ◌≢◌, ℕ, ◌+◌, ◌-◌, ◌*◌, ◌≤◌, ◌^◌, pos, ◌≤ℤ◌, Bool, true, List, [], ◌∷◌, ◌++◌, length, fold, nat_le, ◌==◌, ◌&&◌, ◌||◌, Option, Some, None, if◌then◌else◌, position, codes}
-use Rattle.std.specs.List.{list_all}
+use Rattle.std.specs.List.{list_all, list_any}
 use Rattle.std.specs.Str.{bytes_eq}
 use Rattle.pipe_model.specs.declared.symbol.Symbol.{Symbol}
 use Rattle.pipe_model.specs.declared.symbol.Symbol.TheVariants as symbols
@@ -40,30 +40,25 @@ word_or_name None text = symbols.Name text
 abbrev pub word_symbol : List ℕ → Symbol
 word_symbol text = word_or_name (position (λ word. bytes_eq word text) reserved_words) text
 
--- a sign or operator and its text
-pub record Punctuation : Type 0 where
-  pub text : List ℕ
-  pub symbol : Symbol
+-- the texts of the operators, in the order of their codes from 1
+abbrev pub operators : List (List ℕ)
+operators = codes "||" ∷ codes "&&" ∷ codes "==" ∷ codes "!=" ∷ codes "<" ∷ codes "<=" ∷ codes ">" ∷ codes ">=" ∷ codes "+" ∷ codes "-"
+    ∷ codes "*" ∷ codes "/" ∷ codes "%" ∷ []
 
--- an operator by its text and code
-abbrev pub operator : List ℕ → ℕ → Punctuation
-operator text code = record { text = text; symbol = symbols.Operator code }
+-- the byte of a sign
+abbrev pub is_sign : ℕ → Bool
+is_sign b = list_any (λ s. s == b) (codes "!=()[]{},;")
 
--- a sign of one byte, which is its own name
-abbrev pub sign : ℕ → Punctuation
-sign b = record { text = b ∷ []; symbol = symbols.Sign b }
+-- the operator at this place of their list, or else the sign that is this one byte
+abbrev pub operator_or_sign : Option ℕ → List ℕ → Option Symbol
+operator_or_sign (Some k) text = Some (symbols.Operator (k + 1))
+operator_or_sign None [] = None
+operator_or_sign None (b ∷ []) = if is_sign b then Some (symbols.Sign b) else None
+operator_or_sign None (b ∷ c ∷ bs) = None
 
--- the operators, and the signs `!` `=` `(` `)` `[` `]` `{` `}` `,` `;`
-abbrev pub punctuation : List Punctuation
-punctuation = operator (codes "||") 1 ∷ operator (codes "&&") 2 ∷ operator (codes "==") 3 ∷ operator (codes "!=") 4 ∷ operator (codes "<") 5
-    ∷ operator (codes "<=") 6 ∷ operator (codes ">") 7 ∷ operator (codes ">=") 8 ∷ operator (codes "+") 9 ∷ operator (codes "-") 10
-    ∷ operator (codes "*") 11 ∷ operator (codes "/") 12 ∷ operator (codes "%") 13
-    ∷ sign 33 ∷ sign 61 ∷ sign 40 ∷ sign 41 ∷ sign 91 ∷ sign 93 ∷ sign 123 ∷ sign 125 ∷ sign 44 ∷ sign 59 ∷ []
-
--- the symbol of this text in a table
-abbrev pub symbol_in : List Punctuation → List ℕ → Option Symbol
-symbol_in [] text = None
-symbol_in (p ∷ ps) text = if bytes_eq p.text text then Some p.symbol else symbol_in ps text
+-- a text that begins with neither a letter nor a digit, as a symbol
+abbrev pub punctuation_symbol : List ℕ → Option Symbol
+punctuation_symbol text = operator_or_sign (position (λ operator. bytes_eq operator text) operators) text
 
 -- the symbol that a text is, if it is one: a word or name, a number, or punctuation
 abbrev pub symbol_of : List ℕ → Option Symbol
@@ -71,7 +66,7 @@ symbol_of [] = None
 symbol_of (b ∷ bs) =
     if is_letter b then (if list_all is_name_byte bs then Some (word_symbol (b ∷ bs)) else None)
     else (if is_digit b then (if list_all is_digit bs then Some (symbols.Number (pos (number_of (b ∷ bs)))) else None)
-    else symbol_in punctuation (b ∷ bs))
+    else punctuation_symbol (b ∷ bs))
 
 -- no longer front of what stands here is the text of a symbol
 pub record IsLongest (text rest : List ℕ) : Type 0 where

@@ -1,0 +1,4 @@
+//! Programs from text.
+#![tactic(auto)]
+
+pub mod lexis;
