@@ -1,0 +1,129 @@
+-- Stage numbers rise along the tree of an iteration.
+use Rattle.std.proofs.Common.{◌≡◌, ◌≢◌, ℕ, zero, suc, ℤ, pos, negsuc, Bool, true, false, List, Option, Some, None, if◌then◌else◌, nat_lt, ◌<ℤ◌, ◌+ℤ◌, refl, ap, sym, rules, arith}
+use Rattle.std.specs.Prelude.{int_lt}
+use Rattle.std.proofs.lemmas.Int.{ints}
+use Rattle.pipe_model.specs.declared.node.Kind.{Kind}
+use Rattle.pipe_model.specs.declared.node.Kind.TheVariants.{Zero}
+use Rattle.pipe_model.specs.declared.column.ColumnEnd.{ColumnEnd}
+use Rattle.pipe_model.specs.declared.column.ColumnEnd.TheVariants as ends
+use Rattle.pipe_model.specs.Evaluation.{Local, CellRange, Setting, StagePosition, Environment, evaluate, execute, execute_all, assign, emit, go_to_stage, go_to_next_stage, fitting, is_i64, if_zero, leave_block, loop_turns, local_value, element_of}
+use Rattle.pipe_model.specs.Interaction.{Interaction, Return, Raise, Step, Get, Set, Stage, bind, with_budget}
+use Rattle.pipe_model.specs.Pipeline.{HasLegalStages}
+use Rattle.pipe_model.specs.SyntaxTree as syntax
+use Rattle.pipe_model.specs.SyntaxTree.{Expression, Statement, Let, Assign, AssignElement, Emit, If, While, NextStage, Statements, Empty, Then}
+use Rattle.language_laws.proofs.NamedKinds.{NamesKinds, AllNameKinds}
+use Rattle.language_laws.proofs.Straight.{IsStraight, Returns, Raises, Steps, Gets, Sets, Anything, straight-evaluate, straight-element_of, straight-fitting}
+use Rattle.language_laws.proofs.Straight.{either as straight_either}
+use Rattle.pipe_model.specs.declared.trap.Trap.{Trap}
+
+-- from stage n on numbers rise, and what is returned has the property at the stage that is then current
+pub data Rises {A : Type 0} (P : Bool → ℤ → A → Type 0) : Bool → ℤ → Interaction A → Type 0 where
+  RisesReturn : {first : Bool} {n : ℤ} {a : A} → P first n a → Rises P first n (Return a)
+  RisesRaise : {first : Bool} {n : ℤ} (t : Trap) → Rises P first n (Raise t)
+  RisesStep : {first : Bool} {n : ℤ} {d : Interaction A} → Rises P first n d → Rises P first n (Step d)
+  RisesGet : {first : Bool} {n : ℤ} {go : ℤ → Interaction A} (c : ℕ) → ((v : ℤ) → Rises P first n (go v)) → Rises P first n (Get c go)
+  RisesSet : {first : Bool} {n : ℤ} {d : Interaction A} (c : ℕ) (v : ℤ) → Rises P first n d → Rises P first n (Set c v d)
+  RisesStage : {first : Bool} {n m : ℤ} {k : Kind} {d : Interaction A} → k ≢ Zero → n <ℤ m → Rises P false m d → Rises P first n (Stage k m d)
+
+-- one tree after another
+pub rises-bind : {A B : Type 0} {P : Bool → ℤ → A → Type 0} {Q : Bool → ℤ → B → Type 0} {first : Bool} {n : ℤ} {d : Interaction A} {f : A → Interaction B}
+    → Rises P first n d → ((now : Bool) (m : ℤ) (a : A) → P now m a → Rises Q now m (f a)) → Rises Q first n (bind d f)
+rises-bind (RisesReturn {first} {n} {a} p) h = h first n a p
+rises-bind (RisesRaise t) h = RisesRaise t
+rises-bind (RisesStep r) h = RisesStep (rises-bind r h)
+rises-bind (RisesGet c r) h = RisesGet c (λ v. rises-bind (r v) h)
+rises-bind (RisesSet c v r) h = RisesSet c v (rises-bind r h)
+rises-bind (RisesStage k l r) h = RisesStage k l (rises-bind r h)
+
+-- a tree without stages, and another after it
+pub straight-then : {A B : Type 0} {P : A → Type 0} {Q : Bool → ℤ → B → Type 0} {first : Bool} {n : ℤ} {d : Interaction A} {f : A → Interaction B}
+    → IsStraight P d → ((a : A) → P a → Rises Q first n (f a)) → Rises Q first n (bind d f)
+straight-then (Returns {a} p) h = h a p
+straight-then (Raises t) h = RisesRaise t
+straight-then (Steps s) h = RisesStep (straight-then s h)
+straight-then (Gets c s) h = RisesGet c (λ v. straight-then (s v) h)
+straight-then (Sets c v s) h = RisesSet c v (straight-then s h)
+
+-- one of two trees, the first where the test is true
+either : {A : Type 0} {P : Bool → ℤ → A → Type 0} {first : Bool} {n : ℤ} (b : Bool) {x y : Interaction A} → (b ≡ true → Rises P first n x) → Rises P first n y → Rises P first n (if b then x else y)
+either true s t = s refl
+either false s t = t
+
+-- one of two trees, by a number
+pub either_by_zero : {A : Type 0} {P : Bool → ℤ → A → Type 0} {first : Bool} {n : ℤ} (v : ℤ) {x y : Interaction A} → Rises P first n x → Rises P first n y → Rises P first n (if_zero v x y)
+either_by_zero (pos zero) s t = s
+either_by_zero (pos (suc m)) s t = t
+either_by_zero (negsuc m) s t = t
+
+-- the environment knows the current stage's number
+abbrev pub KnowsStage : Bool → ℤ → Environment → Type 0
+KnowsStage first n env = env.stage.number ≡ n
+
+-- the position knows it
+abbrev pub IsPosition : Bool → ℤ → StagePosition → Type 0
+IsPosition first n here = here.number ≡ n
+
+rises-go_to_stage : (stages : ℕ) (kind : Kind) (here : StagePosition) (first : Bool) (n m : ℤ) → kind ≢ Zero → here.number ≡ n → Rises IsPosition first n (go_to_stage stages kind here m)
+rises-go_to_stage stages kind here first n m named at =
+    either (int_lt here.number m) (λ above. either (nat_lt here.count stages)
+    (λ room. RisesStage named (rw (← at) (let t = above in grind (arith, ints))) (RisesReturn refl)) (RisesRaise _)) (RisesRaise _)
+
+rises-go_to_next_stage : (stages : ℕ) (kind : Kind) (here : StagePosition) (first : Bool) (n : ℤ) → kind ≢ Zero → here.number ≡ n → Rises IsPosition first n (go_to_next_stage stages kind here)
+rises-go_to_next_stage stages kind here first n named at = straight-then (straight-fitting (here.number +ℤ pos 1)) (λ m h. rises-go_to_stage stages kind here first n m named at)
+
+rises-assign : (env : Environment) (o : Option ℤ) (range : Option CellRange) (x : List ℕ) (v : ℤ) (first : Bool) (n : ℤ) → env.stage.number ≡ n → Rises KnowsStage first n (assign env o range x v)
+rises-assign env (Some old) range x v first n at = RisesReturn at
+rises-assign env None (Some range) x v first n at = RisesSet _ _ (RisesReturn at)
+rises-assign env None None x v first n at = RisesRaise _
+
+straight-emit : (limit v : ℤ) → IsStraight Anything (emit limit v)
+straight-emit limit v = Gets 1 (λ count. straight_either Anything (int_lt count limit) _ _ (Sets 1 v (Returns tt)) (Raises _))
+
+-- the turns of a loop, by its body
+rises-turns : (turns : ℕ) (test : Environment → Interaction ℤ) (body : Environment → Interaction Environment) (env : Environment) (first : Bool) (n : ℤ)
+    → ((now : Environment) → IsStraight Anything (test now)) → ((now : Environment) (f : Bool) (m : ℤ) → now.stage.number ≡ m → Rises KnowsStage f m (body now))
+    → env.stage.number ≡ n → Rises KnowsStage first n (loop_turns turns test body env)
+rises-turns zero test body env first n straight rises at = RisesRaise _
+rises-turns (suc turns) test body env first n straight rises at =
+    straight-then (straight env) (λ v h. RisesStep (either_by_zero v (RisesReturn at) (rises-bind (rises env first n at)
+    (λ f m after known. rises-turns turns test body (leave_block env after) f m straight rises known))))
+
+mutual
+  -- statements that name kinds of stages go on at rising numbers
+  pub rises-execute : (w : Setting) (s : Statement) (env : Environment) (first : Bool) (n : ℤ) → NamesKinds s → env.stage.number ≡ n → Rises KnowsStage first n (execute w s env)
+  rises-execute w (Let x e) env first n k at = straight-then (straight-evaluate w env.locals e) (λ v h. RisesStep (RisesReturn at))
+  rises-execute w (Assign x e) env first n k at =
+      straight-then (straight-evaluate w env.locals e) (λ v h. RisesStep (rises-assign env (local_value env.locals x) (w.cells x) x v first n at))
+  rises-execute w (AssignElement x i e) env first n k at =
+      straight-then (straight-evaluate w env.locals i) (λ j h. straight-then (straight-evaluate w env.locals e) (λ v h'. RisesStep
+      (straight-then (straight-element_of (w.cells x) j) (λ c h''. RisesSet c v (RisesReturn at)))))
+  rises-execute w (Emit e) env first n k at =
+      straight-then (straight-evaluate w env.locals e) (λ v h. RisesStep (straight-then (straight-emit w.world.emits v) (λ u h'. RisesReturn at)))
+  rises-execute w (If e a b) env first n k at =
+      straight-then (straight-evaluate w env.locals e) (λ v h. RisesStep (rises-bind
+      (either_by_zero v (rises-execute_all w b env first n k.1 at) (rises-execute_all w a env first n k.0 at)) (λ f m after known. RisesReturn known)))
+  rises-execute w (While e a) env first n k at =
+      rises-turns w.turns (λ now. evaluate w now.locals e) (execute_all w a) env first n (λ now. straight-evaluate w now.locals e) (λ now f m known. rises-execute_all w a now f m k known) at
+  rises-execute w (syntax.Stage kind e) env first n k at =
+      straight-then (straight-evaluate w env.locals e) (λ v h. RisesStep (rises-bind (rises-go_to_stage w.world.stages kind env.stage first n v k at) (λ f m stage known. RisesReturn known)))
+  rises-execute w (NextStage kind) env first n k at =
+      RisesStep (rises-bind (rises-go_to_next_stage w.world.stages kind env.stage first n k at) (λ f m stage known. RisesReturn known))
+
+  pub rises-execute_all : (w : Setting) (ss : Statements) (env : Environment) (first : Bool) (n : ℤ) → AllNameKinds ss → env.stage.number ≡ n → Rises KnowsStage first n (execute_all w ss env)
+  rises-execute_all w Empty env first n k at = RisesReturn at
+  rises-execute_all w (Then s ss) env first n k at =
+      rises-bind (rises-execute w s env first n k.0 at) (λ f m after known. rises-execute_all w ss after f m k.1 known)
+
+-- an end that is allowed: only instance 0 closes the loop
+abbrev pub EndsRightly : Bool → ℤ → ColumnEnd → Type 0
+EndsRightly first n e = e ≡ ends.Closed → first ≡ true
+
+-- the budget changes no stage
+pub legal-with_budget : {first : Bool} {n : ℤ} {d : Interaction ColumnEnd} (budget left : ℕ) → Rises EndsRightly first n d → HasLegalStages first n (with_budget budget left d)
+legal-with_budget budget left (RisesReturn p) = p
+legal-with_budget budget left (RisesRaise t) = λ e. cc (e)
+legal-with_budget budget zero (RisesStep r) = λ e. cc (e)
+legal-with_budget budget (suc left) (RisesStep r) = legal-with_budget budget left r
+legal-with_budget budget left (RisesGet c r) = λ v. legal-with_budget budget left (r v)
+legal-with_budget budget left (RisesSet c v r) = legal-with_budget budget left r
+legal-with_budget budget left (RisesStage k l r) = (k, (l, legal-with_budget budget budget r))

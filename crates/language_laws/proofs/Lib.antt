@@ -1,0 +1,4 @@
+pub mod NamedKinds
+pub mod Straight
+pub mod LegalStages
+pub mod WellFormed
