@@ -1,10 +1,10 @@
 -- A reader of expressions finds what the grammar derives, and only that.
-use Rattle.std.proofs.Common.{◌≡◌, ◌≢◌, ℕ, zero, suc, ◌<◌, ◌+◌, ◌≤◌, ℤ, List, [], ◌∷◌, ◌++◌, length, refl, sym, ap, ◌∙◌, append_assoc, append-nil, length-append, arith, subst}
+use Rattle.std.proofs.Common.{◌≡◌, ◌≢◌, ℕ, zero, suc, ◌<◌, ◌+◌, List, [], ◌∷◌, ◌++◌, length, refl, sym, ap, ◌∙◌, append_assoc, append-nil, length-append, arith, subst}
 use Rattle.pipe_model.specs.declared.symbol.Symbol.{Symbol}
 use Rattle.pipe_model.specs.declared.symbol.Symbol.TheVariants as symbols
 use Rattle.pipe_model.specs.Grammar.{Derives, DerivesWhole, Numeral, Named, Tighter, Joined, rank_of}
 use Rattle.pipe_model.specs.Reading.{Reads, ReadsNumeral, ReadsName, ReadsChain, Extends, Ends, Joins, ReadsClosed, next_rank}
-use Rattle.pipe_model.specs.SyntaxTree.{Expression, Number, Name, joined_by}
+use Rattle.pipe_model.specs.SyntaxTree.{Expression, joined_by}
 
 -- what was read is derived
 pub record Took (rank : ℕ) (ts : List Symbol) (e : Expression) (rest : List Symbol) : Type 0 where
