@@ -166,7 +166,7 @@ pub record SameRead (A : Type 0) (a b : A) (rest rest' : List Symbol) : Type 0 w
   pub left : rest ≡ rest'
 
 -- no expression begins with a sign
-no_sign : {rank sign : ℕ} {ts rest : List Symbol} {e : Expression} → Reads rank (symbols.Sign sign ∷ ts) e rest → ⊥
+pub no_sign : {rank sign : ℕ} {ts rest : List Symbol} {e : Expression} → Reads rank (symbols.Sign sign ∷ ts) e rest → ⊥
 no_sign (ReadsChain r g) = no_sign r
 
 pub one_statement : {longest : ℕ} {ts rest rest' : List Symbol} {s s' : Statement} → ReadsStatement longest ts s rest → ReadsStatement longest ts s' rest'

@@ -1,2 +1,6 @@
 pub mod Cuts
 pub mod FixedTexts
+pub mod Fronts
+pub mod Nothing
+pub mod Programs
+pub mod Stages

@@ -1,4 +1,8 @@
-//! Programs from text.
+//! Programs from their text.
 #![tactic(auto)]
 
+pub mod expression;
+pub mod front;
 pub mod lexis;
+pub mod program;
+pub mod statement;
