@@ -8,3 +8,4 @@ pub mod Windows
 pub mod Statements
 pub mod Blocks
 pub mod Programs
+pub mod NameSets

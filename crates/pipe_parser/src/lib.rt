@@ -4,5 +4,6 @@
 pub mod expression;
 pub mod front;
 pub mod lexis;
+pub mod names;
 pub mod program;
 pub mod statement;
