@@ -9,3 +9,4 @@ pub mod Statements
 pub mod Blocks
 pub mod Programs
 pub mod NameSets
+pub mod Obeying

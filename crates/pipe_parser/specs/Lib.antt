@@ -3,4 +3,5 @@ pub mod FixedTexts
 pub mod Fronts
 pub mod Nothing
 pub mod Programs
+pub mod SameNames
 pub mod Stages

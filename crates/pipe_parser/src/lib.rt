@@ -6,4 +6,5 @@ pub mod front;
 pub mod lexis;
 pub mod names;
 pub mod program;
+pub mod rules;
 pub mod statement;
