@@ -10,3 +10,4 @@ pub mod Blocks
 pub mod Programs
 pub mod NameSets
 pub mod Obeying
+pub mod FirstForms

@@ -1,7 +1,7 @@
 -- The rules depend on which names are among others, not on their order.
 use Rattle.std.proofs.Common.{◌≡◌, ◌∙◌, inl, inr, ap, sym, refl, ℕ, suc, ◌+◌, ◌<◌, ◌≤◌, nat_le, pos, Result, Ok, Err, IfOk, Bool, true, false, not, ◌&&◌, ◌||◌, List, [], ◌∷◌, ◌++◌, length, take, drop, get_or, drop-cons}
 use Rattle.std.proofs.lemmas.List.{take_more, take-append-drop, map-append}
-use Rattle.std.proofs.lemmas.Bool.{le-leb, false≢true, or_parts, or_from, and_parts, and_from, or_cases, or_left, or_right, and_left, and_right, not_from_true, not_from_false}
+use Rattle.std.proofs.lemmas.Bool.{le-leb, false≢true, or_parts, or_from, and_parts, and_from, or_cases, or_left, or_right, and_left, and_right, not_from_true}
 use Rattle.std.specs.Str.{bytes_eq}
 use Rattle.std.proofs.Math.IntN.{◌*ℤ◌}
 use Rattle.pipe_model.specs.declared.tree.Declaration.{Declaration}
@@ -28,7 +28,7 @@ differ_more (y ∷ xs) x d h =
     let both = and_parts (not (is_among xs y)) (all_differ xs) d in
     let apart : is_among (x ∷ []) y ≡ false = or_from (bytes_eq x y) false (bytes_eq_sym x y ∙ parts.0) refl in
     let alone : not (is_among (xs ++ x ∷ []) y) ≡ true =
-        ap not (among_more xs (x ∷ []) y ∙ ap (λ b. is_among xs y || b) apart ∙ or_false (is_among xs y)) ∙ both.0 in
+    ap not (among_more xs (x ∷ []) y ∙ ap (λ b. is_among xs y || b) apart ∙ or_false (is_among xs y)) ∙ both.0 in
     and_from (not (is_among (xs ++ x ∷ []) y)) (all_differ (xs ++ x ∷ [])) alone (differ_more xs x both.1 parts.1)
   where
     or_false : (b : Bool) → (b || false) ≡ b
@@ -39,7 +39,7 @@ pub twice : (xs ys : List (List ℕ)) (x : List ℕ) → is_among xs x ≡ true 
 twice [] ys x h = absurd (false≢true h)
 twice (y ∷ xs) ys x h =
     elim (or_cases (bytes_eq y x) (is_among xs x) h) [
-        inl e ↦ and_left (not (is_among (xs ++ x ∷ ys) y)) (all_differ (xs ++ x ∷ ys)) (not_from_true (is_among (xs ++ x ∷ ys) y)
+      | inl e ↦ and_left (not (is_among (xs ++ x ∷ ys) y)) (all_differ (xs ++ x ∷ ys)) (not_from_true (is_among (xs ++ x ∷ ys) y)
           (among_more xs (x ∷ ys) y ∙ or_right (is_among xs y) (is_among (x ∷ ys) y) (or_left (bytes_eq x y) (is_among ys y) (bytes_eq_sym x y ∙ e))))
       | inr e ↦ and_right (not (is_among (xs ++ x ∷ ys) y)) (all_differ (xs ++ x ∷ ys)) (twice xs ys x e)
     ]

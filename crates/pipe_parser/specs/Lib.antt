@@ -1,4 +1,5 @@
 pub mod Cuts
+pub mod FirstForms
 pub mod FixedTexts
 pub mod Fronts
 pub mod Nothing

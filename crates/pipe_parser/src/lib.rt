@@ -2,6 +2,7 @@
 #![tactic(auto)]
 
 pub mod expression;
+pub mod first_form;
 pub mod front;
 pub mod lexis;
 pub mod names;
