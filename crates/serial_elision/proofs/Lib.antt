@@ -1,0 +1,5 @@
+pub mod Cells
+pub mod Scopes
+pub mod Ranges
+pub mod Performing
+pub mod Expressions

@@ -1,0 +1,5 @@
+pub mod Kept
+pub mod Runnable
+pub mod Answers
+pub mod Scope
+pub mod Caching

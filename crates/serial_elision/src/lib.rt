@@ -1,0 +1,8 @@
+//! The serial elision of a program: its iterations one after the other, by recursion over its tree.
+#![tactic(auto)]
+
+pub mod halt;
+pub mod locals;
+pub mod place;
+pub mod store;
+pub mod value;
