@@ -3,3 +3,4 @@ pub mod Scopes
 pub mod Ranges
 pub mod Performing
 pub mod Expressions
+pub mod Statements

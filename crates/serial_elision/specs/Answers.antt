@@ -1,5 +1,6 @@
 -- What calls answer, beside what the trees of the definitions do.
 use Rattle.std.specs.Prelude.{◌≡◌, ℕ, ℤ, pos, List, [], ◌∷◌, Result, Ok, Err, Option, Some, None}
+use Rattle.pipe_model.specs.declared.node.Node.{Node}
 use Rattle.pipe_model.specs.declared.trap.Trap.{Trap}
 use Rattle.pipe_model.specs.Evaluation.{CellRange, Environment, Local, Setting}
 use Rattle.pipe_model.specs.Interaction.{Interaction, Return, Raise}
@@ -45,6 +46,10 @@ abbrev pub plain_range : Option ℕ → Option CellRange
 plain_range None = None
 plain_range (Some c) = Some (record { first = c; size = 1 })
 
+-- the locals, in the stage of the last of these instances
+abbrev pub environment_at : List Local → List Node → Environment
+environment_at locals nodes = record { locals = locals; stage = position_of nodes }
+
 -- the locals, in the stage of the last instance
 abbrev pub environment_of : List Local → Kept → Environment
-environment_of locals k = record { locals = locals; stage = position_of k.nodes }
+environment_of locals k = environment_at locals k.nodes

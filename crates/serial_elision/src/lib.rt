@@ -4,5 +4,6 @@
 pub mod halt;
 pub mod locals;
 pub mod place;
+pub mod statement;
 pub mod store;
 pub mod value;
