@@ -1,7 +1,7 @@
 -- How accesses change the values of cells.
-use Rattle.std.proofs.Common.{◌≡◌, ◌≢◌, ◌∙◌, ap, sym, refl, ℕ, ℤ, pos, ◌<◌, ◌≤◌, ◌==◌, ◌+◌, List, [], ◌∷◌, ◌++◌, length, get_or, slice_index_or, set, append-nil, append_assoc, length-append, length-set, min, arith, true, false, cond, Bool}
+use Rattle.std.proofs.Common.{◌≡◌, ◌≢◌, ◌∙◌, ap, sym, refl, ℕ, ℤ, pos, ◌<◌, ◌≤◌, ◌==◌, ◌+◌, List, [], ◌∷◌, ◌++◌, length, get_or, slice_index_or, set, append-nil, append_assoc, length-append, length-set, min, arith, take, true, false, cond, Bool}
 use Rattle.std.proofs.lemmas.Bool.Decides.{nat_tests}
-use Rattle.std.proofs.lemmas.List.{map-append, get_or-set_same, get_or-set_other}
+use Rattle.std.proofs.lemmas.List.{map-append, take_more, get_or-set_same, get_or-set_other}
 use Rattle.pipe_model.specs.declared.access.Access.{Access}
 use Rattle.pipe_model.specs.declared.access.NodeAccess.{NodeAccess}
 use Rattle.pipe_model.specs.declared.node.NodeId.{NodeId}
@@ -73,3 +73,9 @@ emit_counts ns more made at v m e = rw (e, m, written_push 1 ns at (write_access
 -- the cell of the output has the number of its writes
 pub output_value : (declared : List ℤ) (limit emitted : ℕ) (accesses : List Access) → emitted ≡ length (written 1 accesses) → emitted ≤ limit → value_after (cells_of declared limit) accesses 1 ≡ pos emitted
 output_value declared limit emitted accesses e h = ap pos (omega arith)
+
+-- what is written by one access more of a list
+pub written_more : (ns : List NodeAccess) (i : ℕ) (d : NodeAccess) → i < length ns → written 1 (accesses_of (take (i + 1) ns)) ≡ written 1 (accesses_of (take i ns)) ++ wrote 1 (get_or ns i d).access
+written_more ns i d h =
+    let more : take (i + 1) ns ≡ take i ns ++ get_or ns i d ∷ [] = take_more ns i d h in
+    rw more (written_push 1 (take i ns) (get_or ns i d).node (get_or ns i d).access)

@@ -4,3 +4,7 @@ pub mod Ranges
 pub mod Performing
 pub mod Expressions
 pub mod Statements
+pub mod Traces
+pub mod Elided
+pub mod Iterations
+pub mod Limits

@@ -1,6 +1,6 @@
 -- The cells of names among plain cells.
-use Rattle.std.proofs.Common.{◌≡◌, ◌∙◌, ap, sym, refl, ℕ, ℤ, pos, ◌+◌, ◌<◌, List, [], ◌∷◌, ◌++◌, Option, Some, None, cond, length, All, get_or, drop, replicate, arith}
-use Rattle.std.proofs.lemmas.List.{at_drop_more}
+use Rattle.std.proofs.Common.{◌≡◌, ◌∙◌, ap, sym, refl, ℕ, ℤ, pos, ◌+◌, ◌<◌, List, [], ◌∷◌, ◌++◌, Option, Some, None, cond, length, All, get_or, drop, replicate, append_assoc, take, arith}
+use Rattle.std.proofs.lemmas.List.{at_drop_more, take_more}
 use Rattle.std.proofs.lemmas.List.Elements.{All-head, All-tail}
 use Rattle.std.specs.Str.{bytes_eq}
 use Rattle.pipe_model.specs.declared.tree.Declaration.{Declaration}
@@ -31,3 +31,16 @@ declared_length (d ∷ ds) h =
 -- the basis of a program has its plain cells
 pub has_cells : (p : Program) (b : Basis) → b ≡ basis_of (tree_of p) → All IsPlainCell p.cells → length b.initial_values ≡ length p.cells + 2
 has_cells p b e h = ap (λ (x : Basis). length x.initial_values) e ∙ omega (arith, declared_length p.cells h)
+
+-- the values of two lists of declarations, one after the other
+declared-append : (ds es : List Declaration) → declared_values (ds ++ es) ≡ declared_values ds ++ declared_values es
+declared-append [] es = refl
+declared-append (d ∷ ds) es =
+    ap (λ l. replicate (declared_size d.size) d.value ++ l) (declared-append ds es) ∙ sym (append_assoc (replicate (declared_size d.size) d.value) (declared_values ds) (declared_values es))
+
+-- the values of plain cells, with one cell more
+pub declared_more : (ds : List Declaration) (i : ℕ) (d : Declaration) → i < length ds → d.size ≡ None → d ≡ get_or ds i d
+    → declared_values (take (i + 1) ds) ≡ declared_values (take i ds) ++ d.value ∷ []
+declared_more ds i d h plain e =
+    ap declared_values (take_more ds i d h ∙ ap (λ x. take i ds ++ x ∷ []) (sym e)) ∙ declared-append (take i ds) (d ∷ [])
+    ∙ ap (λ s. declared_values (take i ds) ++ (replicate (declared_size s) d.value ++ [])) plain

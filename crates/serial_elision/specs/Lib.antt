@@ -3,3 +3,4 @@ pub mod Runnable
 pub mod Answers
 pub mod Scope
 pub mod Caching
+pub mod Elided

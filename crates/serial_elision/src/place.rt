@@ -4,6 +4,7 @@ use pipe_model::list::Numbers;
 use pipe_model::tree::Program;
 
 /// The program, its input, and the number of the iteration.
+#[derive(Drop)]
 pub struct Place<'a> {
     pub program: &'a Program,
     pub input: &'a Numbers,

@@ -1,18 +1,23 @@
 //! What the elision keeps while it goes over the tree.
 
-ghost use Rattle.std.specs.Prelude.{◌≡◌, ◌≢◌, ◌<◌, ◌≤◌, ◌+◌, ◌-◌, ◌∷◌, [], pos, length, IfOk, OnOk, OnErr};
+ghost use Rattle.std.specs.Prelude.{◌≡◌, ◌≢◌, ◌<◌, ◌≤◌, ◌+◌, ◌-◌, ◌++◌, ◌∷◌, [], pos, length, IfOk, OnOk, OnErr};
 ghost use Rattle.pipe_model.specs.Evaluation as evaluation;
 ghost use Rattle.pipe_model.specs.Behaviour.{read_access, write_access};
 ghost use Rattle.pipe_model.specs.Columns.{at};
 ghost use Rattle.pipe_model.specs.Interaction.{Step, Return};
 ghost use Rattle.serial_elision.specs.Answers.{Meets, Leaves};
-ghost use Rattle.serial_elision.specs.Kept.{Kept, cell_value, kept_with, perform, position_of, first_node};
+ghost use Rattle.pipe_model.specs.State.{accesses_of};
+ghost use Rattle.pipe_model.specs.Store.{output_of, wrote, written};
+ghost use Rattle.serial_elision.specs.Elided.{is_last, trap_in};
+ghost use Rattle.serial_elision.specs.Kept.{Kept, cells_of, cell_value, kept_with, perform, position_of, first_node};
 
 use crate::halt::Halt;
-use pipe_model::access::{Access, AccessKind, CellId, NodeAccess};
+use pipe_model::access::{Access, AccessKind, CellId, NodeAccess, NodeAccesses};
+use pipe_model::column::ColumnEnd;
+use pipe_model::list::{ListOf, Numbers};
 use pipe_model::memory::NoMemory;
-use pipe_model::node::{Kind, Node, NodeId};
-use pipe_model::trap::Trap;
+use pipe_model::node::{Kind, Node, NodeId, Nodes};
+use pipe_model::trap::{Trap, TrapAt, TrapPlace};
 use std::alloc::Global;
 use std::marker::Model;
 
@@ -52,6 +57,43 @@ impl Model for Store {
 }
 
 impl Store {
+    /// The state before the first iteration of a loop with these declared values and limits.
+    pub fn new(
+        alloc: Global,
+        initial_values: Vec<i64>,
+        output_limit: u32,
+        stages: u32,
+        budget: u32,
+    ) -> Result<Self, NoMemory>
+        requires { 0 < stages }
+        ensures { IfOk result (λ store. store ≡ record {
+          basis = record { initial_values = initial_values.items; output_limit = output_limit; stages = stages; budget = budget };
+          accesses = [];
+          iteration = 0;
+          nodes = first_node ∷ [];
+          left = budget;
+        }) }
+    {
+        let values = Vec::from_slice(alloc, initial_values.as_slice())?;
+        let mut nodes = Vec::new(alloc);
+        nodes.push(Node {
+            number: 0,
+            kind: Kind::Zero,
+        })?;
+        Ok(Store {
+            initial_values,
+            output_limit,
+            stages,
+            budget,
+            values,
+            emitted: 0,
+            accesses: Vec::new(alloc),
+            iteration: 0,
+            nodes,
+            left: budget,
+        })
+    }
+
     /// Takes one of the steps that are left to the instance, or traps.
     pub fn take_step(&mut self) -> Result<(), Halt>
         ensures meets { Meets result (perform (Step (Return tt)) self.old) self.new }
@@ -179,4 +221,83 @@ impl Store {
         self.nodes.truncate(1);
         self.left = self.budget;
     }
+
+    /// The instances of the iteration, in order.
+    pub fn nodes(&self, alloc: Global) -> Result<Nodes, NoMemory>
+        ensures { IfOk result (λ nodes. nodes ≡ self.now.nodes) }
+    {
+        Ok(ListOf::from_vec(Vec::from_slice(alloc, self.nodes.as_slice())?))
+    }
+
+    /// The trap of the iteration, where it ended by one: its place is the last instance.
+    pub fn trap(&self, end: ColumnEnd) -> Option<TrapAt>
+        ensures { result ≡ trap_in self.now.iteration self.now.nodes end }
+    {
+        let ColumnEnd::Trapped(trap) = end else {
+            return None;
+        };
+        let node = NodeId {
+            iteration: self.iteration,
+            index: self.nodes.len() as u32 - 1,
+        };
+        Some(TrapAt {
+            place: TrapPlace::At(node, self.stage_number()),
+            trap,
+        })
+    }
+
+    /// Whether the iteration, ended so, closes the loop.
+    pub fn closes_loop(&self, end: ColumnEnd) -> bool
+        ensures { result ≡ is_last self.now.nodes end }
+    {
+        match end {
+            ColumnEnd::End => false,
+            ColumnEnd::Closed | ColumnEnd::Trapped(_) => self.nodes.len() == 1,
+        }
+    }
+
+    /// What was emitted.
+    pub fn output(&self, alloc: Global) -> Result<Numbers, NoMemory>
+        ensures { IfOk result
+            (λ output. output ≡ output_of (cells_of self.now.basis.initial_values self.now.basis.output_limit)
+            (accesses_of self.now.accesses)) }
+    {
+        let _emitted = self.emitted;
+        emitted_by(alloc, self.accesses.as_slice())
+    }
+
+    /// The accesses, in the order in which they were made.
+    pub fn into_accesses(self) -> NodeAccesses
+        ensures { result ≡ self.accesses }
+    {
+        ListOf::from_vec(self.accesses)
+    }
+}
+
+// what the access writes to the cell of the output, behind what was written before
+fn push_emitted(access: Access, output: &mut Numbers) -> Result<(), NoMemory>
+    ensures { OnOk result (output.new ≡ output.old ++ wrote 1 access) }
+{
+    if access.cell.0 != 1 {
+        return Ok(());
+    }
+    match access.kind {
+        AccessKind::Read => Ok(()),
+        AccessKind::Write => {
+            output.push(access.value)?;
+            Ok(())
+        }
+    }
+}
+
+// the values written to the cell of the output
+#[tactic(auto, using(crate::proofs::Cells::written_more))]
+fn emitted_by(alloc: Global, accesses: &[NodeAccess]) -> Result<Numbers, NoMemory>
+    ensures { IfOk result (λ output. output ≡ written 1 (accesses_of accesses.now)) }
+{
+    let mut output = Numbers::new(alloc);
+    for made in accesses {
+        push_emitted(made.access, &mut output)?;
+    }
+    Ok(output)
 }
