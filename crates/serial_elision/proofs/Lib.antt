@@ -7,4 +7,4 @@ pub mod Statements
 pub mod Traces
 pub mod Elided
 pub mod Iterations
-pub mod Limits
+pub mod FirstForm
