@@ -1,0 +1,5 @@
+pub mod Faults
+pub mod Reads
+pub mod Writes
+pub mod Stored
+pub mod Wholes
