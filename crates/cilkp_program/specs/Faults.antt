@@ -19,6 +19,10 @@ CountsFault false before now = now ≡ before
 abbrev pub next_count : ℕ → ℕ
 next_count n = min (n + 1) (2 ^ 64 - 1)
 
+-- the count after a call that was a fault or none
+abbrev pub count_after : Bool → ℕ → ℕ
+count_after fault count = if fault then next_count count else count
+
 -- the calls that are to fail, by their numbers from 0, and how many calls and faults there were so far
 pub record Plan : Type 0 where
   pub fail_at : List ℕ
@@ -37,5 +41,5 @@ fails_next plan = list_any (λ number. number == plan.calls) plan.fail_at
 abbrev pub after_call : Plan → Plan
 after_call plan = record plan {
   calls = next_count plan.calls;
-  faults = if fails_next plan then next_count plan.faults else plan.faults;
+  faults = count_after (fails_next plan) plan.faults;
 }

@@ -10,7 +10,7 @@ use std::marker::Model;
 #[derive(Drop)]
 pub struct FaultPlan {
     fail_at: Vec<u32>,
-    // A number past the last of `fail_at` is in no list, so it does not matter where the count stays.
+    // Stays at 2^64 - 1, which is the number of no call that can be listed.
     calls: u64,
     faults: FaultCount,
 }

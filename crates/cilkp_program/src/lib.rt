@@ -9,4 +9,6 @@ pub mod mem_files;
 pub mod mem_sink;
 pub mod real;
 pub mod sink;
+#[cfg(test)]
+mod tests;
 pub mod whole;

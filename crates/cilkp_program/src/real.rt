@@ -1,7 +1,10 @@
 //! The real files and the real standard output: the edge that is trusted. They tell nothing of what is read and
 //! taken.
 
-ghost use Rattle.std.specs.Prelude.{◌≤◌, length, IfOk};
+ghost use Rattle.std.specs.Prelude.{◌≡◌, ◌≤◌, length, IfOk};
+ghost use Rattle.cilkp_program.specs.Faults.{CountsFault, count_after};
+ghost use Rattle.cilkp_program.specs.Reads.{is_read_fault, IsWithin};
+ghost use Rattle.cilkp_program.specs.Writes.{is_write_fault, TakesSome};
 
 use crate::fault_count::FaultCount;
 use crate::files::{Files, ReadPart};
@@ -14,12 +17,15 @@ use std::{io, rt};
 #[derive(Drop)]
 pub struct RealFiles<R> {
     rt: R,
-    faults: FaultCount,
+    /// How many reads failed.
+    pub faults: FaultCount,
 }
 
 impl<R> RealFiles<R> {
     /// The files of the system, before the first fault.
-    pub fn new(rt: R) -> Self {
+    pub fn new(rt: R) -> Self
+        ensures { result.faults ≡ 0 }
+    {
         RealFiles {
             rt,
             faults: FaultCount::new(),
@@ -43,7 +49,11 @@ impl<R: rt::Files> Files for RealFiles<R> {
 
     ghost faults = { λ f. f.faults };
 
-    fn read_part(&mut self, name: &str, place: u64, part: &mut [u8]) -> ReadPart {
+    fn read_part(&mut self, name: &str, place: u64, part: &mut [u8]) -> ReadPart
+        ensures cause { CountsFault (is_read_fault result) self.old.faults self.new.faults }
+        ensures count { self.new.faults ≡ count_after (is_read_fault result) self.old.faults }
+        ensures within { IsWithin result part.new }
+    {
         match read_at(&self.rt, name, place, part) {
             Ok(n) => ReadPart::Got(n.min(u32::MAX as usize) as u32),
             Err(e) if e.kind() == ErrorKind::NotFound => ReadPart::Missing,
@@ -59,12 +69,15 @@ impl<R: rt::Files> Files for RealFiles<R> {
 #[derive(Drop)]
 pub struct RealSink<R> {
     rt: R,
-    faults: FaultCount,
+    /// How many writes failed.
+    pub faults: FaultCount,
 }
 
 impl<R> RealSink<R> {
     /// The standard output, before the first fault.
-    pub fn new(rt: R) -> Self {
+    pub fn new(rt: R) -> Self
+        ensures { result.faults ≡ 0 }
+    {
         RealSink {
             rt,
             faults: FaultCount::new(),
@@ -79,7 +92,11 @@ impl<R: Print> Sink for RealSink<R> {
 
     ghost faults = { λ s. s.faults };
 
-    fn write_part(&mut self, part: &[u8]) -> WritePart {
+    fn write_part(&mut self, part: &[u8]) -> WritePart
+        ensures cause { CountsFault (is_write_fault result) self.old.faults self.new.faults }
+        ensures count { self.new.faults ≡ count_after (is_write_fault result) self.old.faults }
+        ensures some { TakesSome result part.now }
+    {
         let most = part.len().min(u32::MAX as usize);
         match self.rt.write_some(&part[..most]) {
             Ok(n) if n > 0 => WritePart::Took(n as u32),
