@@ -1,4 +1,5 @@
 pub mod Faults
+pub mod FaultPlan
 pub mod Reads
 pub mod Writes
 pub mod Stored

@@ -36,7 +36,7 @@ abbrev pub IsFrontOf : Option (List ℕ) → List ℕ → Type 0
 IsFrontOf None bytes = bytes ≡ []
 IsFrontOf (Some held) bytes = (bytes ≡ take (length bytes) held) × (length bytes ≤ length held)
 
--- the bytes are the whole file exactly where no more was read
+-- where a further read found nothing more, the bytes are the whole file
 abbrev pub EndsAt : Option (List ℕ) → List ℕ → ReadPart → Type 0
 EndsAt None bytes (reads.Got n) = ⊥
 EndsAt None bytes reads.Missing = Unit {0}

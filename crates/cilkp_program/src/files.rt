@@ -24,9 +24,8 @@ pub trait Files {
     /// How many faults of reading there were.
     ghost faults: { Self → ℕ };
 
-    /// Reads what stands at a place, counted in bytes from 0, of the file of a name. Fails only where the count
-    /// of faults rises. What stands in `part` behind the bytes read is not said, nor anything of it where there
-    /// are none.
+    /// Reads what stands at a place, counted in bytes from 0, of the file of a name. Fails only where the count of
+    /// faults rises. What stands in `part` behind the bytes read is left open.
     fn read_part(&mut self, name: &str, place: u64, part: &mut [u8]) -> ReadPart
         requires { 0 < length part.old }
         ensures keeps { holds self.new ≡ holds self.old }

@@ -1,7 +1,8 @@
 //! Files in memory, which serve only so many bytes a call, and may fail at chosen calls.
 
 ghost use Rattle.std.specs.Prelude.{◌≡◌, ◌<◌, length, IfSome, IfNone, Some, None, if◌then◌else◌};
-ghost use Rattle.cilkp_program.specs.Faults.{CountsFault, first_plan, fails_next, after_call};
+ghost use Rattle.cilkp_program.specs.Faults.{CountsFault};
+ghost use Rattle.cilkp_program.specs.FaultPlan.{first_plan, fails_next, after_call};
 ghost use Rattle.cilkp_program.specs.Reads.{is_read_fault, IsWithin, ReadsFrom, IsPartAt};
 ghost use Rattle.cilkp_program.specs.Stored.{named_bytes, content_of, served, served_len};
 

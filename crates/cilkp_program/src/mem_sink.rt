@@ -1,7 +1,8 @@
 //! Sinks in memory, which take only so many bytes a call, and may fail at chosen calls.
 
 ghost use Rattle.std.specs.Prelude.{◌≡◌, ◌≢◌, ◌<◌, ◌↔◌, [], length, min, true};
-ghost use Rattle.cilkp_program.specs.Faults.{CountsFault, first_plan, fails_next, after_call};
+ghost use Rattle.cilkp_program.specs.Faults.{CountsFault};
+ghost use Rattle.cilkp_program.specs.FaultPlan.{first_plan, fails_next, after_call};
 ghost use Rattle.cilkp_program.specs.Writes.{is_write_fault, TakesSome, taken_after};
 
 use crate::fault_plan::FaultPlan;
