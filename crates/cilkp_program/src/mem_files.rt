@@ -98,7 +98,9 @@ impl Files for CleanFiles {
 /// Files in memory that fail at the calls of a plan.
 #[derive(Drop)]
 pub struct MemFiles {
+    /// What is served where a call does not fail.
     pub files: CleanFiles,
+    /// Which calls fail, and how many did.
     pub plan: FaultPlan,
 }
 

@@ -84,7 +84,9 @@ impl Sink for CleanSink {
 /// A sink in memory that fails at the calls of a plan.
 #[derive(Drop)]
 pub struct MemSink {
+    /// What takes the bytes where a call does not fail.
     pub sink: CleanSink,
+    /// Which calls fail, and how many did.
     pub plan: FaultPlan,
 }
 

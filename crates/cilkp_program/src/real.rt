@@ -1,7 +1,7 @@
 //! The real files and the real standard output: the edge that is trusted. They tell nothing of what is read and
 //! taken.
 
-ghost use Rattle.std.specs.Prelude.{◌≡◌, ◌≤◌, length, IfOk};
+ghost use Rattle.std.specs.Prelude.{◌≡◌, ◌≢◌, ◌≤◌, length, IfOk};
 ghost use Rattle.cilkp_program.specs.Faults.{CountsFault, count_after};
 ghost use Rattle.cilkp_program.specs.Reads.{is_read_fault, IsWithin};
 ghost use Rattle.cilkp_program.specs.Writes.{is_write_fault, TakesSome};
@@ -96,6 +96,7 @@ impl<R: Print> Sink for RealSink<R> {
         ensures cause { CountsFault (is_write_fault result) self.old.faults self.new.faults }
         ensures count { self.new.faults ≡ count_after (is_write_fault result) self.old.faults }
         ensures some { TakesSome result part.now }
+        ensures needs_no_memory { result ≢ WritePart.NoMemory }
     {
         let most = part.len().min(u32::MAX as usize);
         match self.rt.write_some(&part[..most]) {
