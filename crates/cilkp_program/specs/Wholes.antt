@@ -14,6 +14,13 @@ is_file_fault TooLong = false
 is_file_fault Missing = false
 is_file_fault Failed = true
 
+-- where bytes are answered, they are no more than the limit
+abbrev pub IsUpTo : ℕ → Whole → Type 0
+IsUpTo limit (Bytes bytes) = length bytes ≤ limit
+IsUpTo limit TooLong = Unit {0}
+IsUpTo limit Missing = Unit {0}
+IsUpTo limit Failed = Unit {0}
+
 -- an answer that is no fault tells exactly whether there is a file, whether it is longer than the limit, and its bytes
 abbrev pub IsWholeOf : Option (List ℕ) → ℕ → Whole → Type 0
 IsWholeOf None limit (Bytes bytes) = ⊥

@@ -4,7 +4,7 @@ ghost use Rattle.std.specs.Prelude.{◌≡◌, ◌+◌, ◌++◌, ◌≤◌, ◌
 ghost use Rattle.std.specs.Option.{option_map};
 ghost use Rattle.cilkp_program.specs.Faults.{CountsFault};
 ghost use Rattle.cilkp_program.specs.Reads.{is_read_fault, bytes_read};
-ghost use Rattle.cilkp_program.specs.Wholes.{is_file_fault, IsWholeOf, is_text_fault, IsFrontOf, EndsAt};
+ghost use Rattle.cilkp_program.specs.Wholes.{is_file_fault, IsUpTo, IsWholeOf, is_text_fault, IsFrontOf, EndsAt};
 
 use crate::files::{Files, ReadPart};
 use crate::sink::{Sink, WritePart};
@@ -38,6 +38,7 @@ pub fn read_whole<F: Files>(
     ensures keeps { F.holds files.new ≡ F.holds files.old }
     ensures cause { IfOk result (λ whole. CountsFault (is_file_fault whole) (F.faults files.old) (F.faults files.new)) }
     ensures memory { OnErr result (F.faults files.new ≡ F.faults files.old) }
+    ensures limit { IfOk result (λ whole. IsUpTo limit whole) }
     ensures told { IfOk result (λ whole. IfSome (F.holds files.old) (λ content.
         IsWholeOf (content name.now) limit whole)) }
 {
@@ -115,6 +116,7 @@ pub fn write_text<S: Sink>(out: &mut S, text: &[u8]) -> Written
     ended(WriteEnd::Whole, done)
 }
 
+// The answer after so many bytes.
 fn ended(end: WriteEnd, done: usize) -> Written
     ensures { result ≡ record { end = end; count = done } }
 {
