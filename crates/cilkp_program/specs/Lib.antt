@@ -4,3 +4,6 @@ pub mod Reads
 pub mod Writes
 pub mod Stored
 pub mod Wholes
+pub mod Rows
+pub mod Answers
+pub mod Loads
