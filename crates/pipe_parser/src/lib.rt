@@ -9,3 +9,5 @@ pub mod names;
 pub mod program;
 pub mod rules;
 pub mod statement;
+#[cfg(test)]
+mod tests;
