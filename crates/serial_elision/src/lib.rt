@@ -7,4 +7,6 @@ pub mod locals;
 pub mod place;
 pub mod statement;
 pub mod store;
+#[cfg(test)]
+mod tests;
 pub mod value;
