@@ -2,11 +2,11 @@
 #![tactic(auto)]
 
 pub mod elision;
-pub mod halt;
-pub mod locals;
-pub mod place;
-pub mod statement;
-pub mod store;
+mod halt;
+mod locals;
+mod place;
+mod statement;
+mod store;
 #[cfg(test)]
 mod tests;
-pub mod value;
+mod value;
