@@ -30,8 +30,6 @@ use std::alloc::Global;
 fn run_body(alloc: Global, place: &Place, store: &mut Store) -> Result<ColumnEnd, Halt>
     requires runnable { AreRunnable (statements_of place.now.program.now.body.statements.items) }
     requires basis { store.old.basis ≡ basis_of (tree_of place.now.program.now) }
-    requires plain { All IsPlainCell place.now.program.now.cells }
-    requires few { length place.now.program.now.cells ≤ 65536 }
     requires begun { store.old.nodes ≡ first_node ∷ [] }
     ensures meets { Meets result
         (perform (bind (evaluation.execute_all (setting_at place.now) (statements_of place.now.program.now.body.statements.items)
@@ -53,8 +51,6 @@ fn run_after_test(
 ) -> Result<ColumnEnd, Halt>
     requires runnable { AreRunnable (statements_of place.now.program.now.body.statements.items) }
     requires basis { store.old.basis ≡ basis_of (tree_of place.now.program.now) }
-    requires plain { All IsPlainCell place.now.program.now.cells }
-    requires few { length place.now.program.now.cells ≤ 65536 }
     requires begun { store.old.nodes ≡ first_node ∷ [] }
     ensures meets { Meets result
         (perform (Step (evaluation.after_test (setting_at place.now).world v
@@ -167,8 +163,8 @@ fn number_of(limit: i64) -> u32
     limit as u32
 }
 
-// the state before the first iteration
-fn begin(alloc: Global, program: &Program) -> Result<Store, NoMemory>
+// the store before the first iteration
+fn store_for(alloc: Global, program: &Program) -> Result<Store, NoMemory>
     requires { IsRunnable (tree_of program.now) }
     ensures basis { IfOk result (λ store. store.basis ≡ basis_of (tree_of program.now)) }
     ensures nothing { IfOk result (λ store. store.accesses ≡ []) }
@@ -206,7 +202,7 @@ pub fn run_tree(alloc: Global, program: &Program, input: &Numbers) -> Result<Ser
     ensures columns { IfOk result (λ run. run.columns ≡ serial_ended_columns (pipeline_of (tree_of program.now) input.now)) }
     ensures accesses { IfOk result (λ run. run.accesses ≡ serial_accesses (pipeline_of (tree_of program.now) input.now)) }
 {
-    let mut store = begin(alloc, program)?;
+    let mut store = store_for(alloc, program)?;
     let last = number_of(program.limits.iterations);
     let (columns, trap) = run_loop(alloc, program, input, last, &mut store)?;
     Ok(SerialRun {

@@ -2,9 +2,11 @@
 #![tactic(auto)]
 
 pub mod elision;
-pub mod halt;
-pub mod locals;
-pub mod place;
-pub mod statement;
-pub mod store;
-pub mod value;
+mod halt;
+mod locals;
+mod place;
+mod statement;
+mod store;
+#[cfg(test)]
+mod tests;
+mod value;

@@ -47,8 +47,6 @@ fn assign_in_step(
     store: &mut Store,
 ) -> Result<(), Halt>
     requires basis { store.old.basis ≡ basis_of (tree_of place.now.program.now) }
-    requires plain { All IsPlainCell place.now.program.now.cells }
-    requires few { length place.now.program.now.cells ≤ 65536 }
     ensures meets { Leaves result
         (perform (Step (evaluation.assign (environment_of locals.old store.old) (evaluation.local_value locals.old name.now)
         (range_of 2 place.now.program.now.cells name.now) name.now value)) store.old)
@@ -116,8 +114,6 @@ fn execute_stage(
 ) -> Result<(), Halt>
     requires runnable { IsRunnableStatement (stage_statement kind number.now) }
     requires basis { store.old.basis ≡ basis_of (tree_of place.now.program.now) }
-    requires plain { All IsPlainCell place.now.program.now.cells }
-    requires few { length place.now.program.now.cells ≤ 65536 }
     ensures meets { Leaves result
         (perform (evaluation.execute (setting_at place.now) (stage_statement kind number.now)
         (environment_of locals.now store.old)) store.old)
@@ -143,8 +139,6 @@ pub fn execute(
 ) -> Result<(), Halt>
     requires runnable { IsRunnableStatement (statement_of s.now) }
     requires basis { store.old.basis ≡ basis_of (tree_of place.now.program.now) }
-    requires plain { All IsPlainCell place.now.program.now.cells }
-    requires few { length place.now.program.now.cells ≤ 65536 }
     ensures meets { Leaves result
         (perform (evaluation.execute (setting_at place.now) (statement_of s.now) (environment_of locals.old store.old)) store.old)
         (environment_of locals.new store.new) store.new }
@@ -179,8 +173,6 @@ pub fn execute_all(
 ) -> Result<(), Halt>
     requires runnable { AreRunnable (statements_of statements.now) }
     requires basis { store.old.basis ≡ basis_of (tree_of place.now.program.now) }
-    requires plain { All IsPlainCell place.now.program.now.cells }
-    requires few { length place.now.program.now.cells ≤ 65536 }
     ensures meets { Leaves result
         (perform (evaluation.execute_all (setting_at place.now) (statements_of statements.now)
         (environment_of locals.old store.old)) store.old)

@@ -107,6 +107,16 @@ impl Store {
         Ok(())
     }
 
+    // the current instance
+    fn here(&self) -> NodeId
+        ensures { result ≡ at self.now.iteration (length self.now.nodes - 1) }
+    {
+        NodeId {
+            iteration: self.iteration,
+            index: self.nodes.len() as u32 - 1,
+        }
+    }
+
     // an access of the current instance
     fn made_here(&self, cell: u32, kind: AccessKind, value: i64) -> NodeAccess
         ensures { result ≡ record {
@@ -115,10 +125,7 @@ impl Store {
         } }
     {
         NodeAccess {
-            node: NodeId {
-                iteration: self.iteration,
-                index: self.nodes.len() as u32 - 1,
-            },
+            node: self.here(),
             access: Access {
                 cell: CellId(cell),
                 kind,
@@ -236,12 +243,8 @@ impl Store {
         let ColumnEnd::Trapped(trap) = end else {
             return None;
         };
-        let node = NodeId {
-            iteration: self.iteration,
-            index: self.nodes.len() as u32 - 1,
-        };
         Some(TrapAt {
-            place: TrapPlace::At(node, self.stage_number()),
+            place: TrapPlace::At(self.here(), self.stage_number()),
             trap,
         })
     }
@@ -262,7 +265,6 @@ impl Store {
             (λ output. output ≡ output_of (cells_of self.now.basis.initial_values self.now.basis.output_limit)
             (accesses_of self.now.accesses)) }
     {
-        let _emitted = self.emitted;
         emitted_by(alloc, self.accesses.as_slice())
     }
 

@@ -63,8 +63,6 @@ fn operate_in_step(code: u8, a: i64, b: i64, store: &mut Store) -> Result<i64, H
 // the step of a name, and its effect
 fn name_in_step(place: &Place, name: &Name, locals: &Locals, store: &mut Store) -> Result<i64, Halt>
     requires basis { store.old.basis ≡ basis_of (tree_of place.now.program.now) }
-    requires plain { All IsPlainCell place.now.program.now.cells }
-    requires few { length place.now.program.now.cells ≤ 65536 }
     ensures meets { Meets result
         (perform (Step (evaluation.named_value (evaluation.local_value locals.now name.now)
         (range_of 2 place.now.program.now.cells name.now))) store.old) store.new }
@@ -85,8 +83,6 @@ fn name_in_step(place: &Place, name: &Name, locals: &Locals, store: &mut Store) 
 pub fn value(e: &Expr, place: &Place, locals: &Locals, store: &mut Store) -> Result<i64, Halt>
     requires runnable { IsRunnableExpression (expression_of e.now) }
     requires basis { store.old.basis ≡ basis_of (tree_of place.now.program.now) }
-    requires plain { All IsPlainCell place.now.program.now.cells }
-    requires few { length place.now.program.now.cells ≤ 65536 }
     ensures meets { Meets result
         (perform (evaluation.evaluate (setting_at place.now) locals.now (expression_of e.now)) store.old) store.new }
     ensures basis { store.new.basis ≡ store.old.basis }
