@@ -1,1 +1,3 @@
 pub mod Divisions
+pub mod Reading
+pub mod ProgramReading

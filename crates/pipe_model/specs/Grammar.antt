@@ -1,6 +1,6 @@
 -- The grammar: which symbols derive which expression, statements and program, one constructor a line of the grammar.
 -- These are the lines of the first form; the whole language adds lines.
-use Rattle.std.specs.Prelude.{◌≡◌, ◌≤◌, ℕ, suc, ℤ, List, [], ◌∷◌, ◌++◌, length, ◌==◌, if◌then◌else◌, None}
+use Rattle.std.specs.Prelude.{◌≡◌, ◌≤◌, ℕ, suc, ℤ, pos, List, [], ◌∷◌, ◌++◌, length, ◌==◌, if◌then◌else◌, None}
 use Rattle.std.proofs.Math.IntN.{neg_ℤ}
 use Rattle.pipe_model.specs.declared.node.Kind.TheVariants as kinds
 use Rattle.pipe_model.specs.declared.symbol.Symbol.{Symbol}
@@ -57,8 +57,8 @@ pub data DerivesCells : List Symbol → List Declaration → Type 0 where
   NoCell : DerivesCells [] []
   CellIs : {ts : List Symbol} {ds : List Declaration} (name : List ℕ) (value : ℤ) → DerivesCells ts ds
       → DerivesCells (word_cell ∷ symbols.Name name ∷ equals ∷ symbols.Number value ∷ semicolon ∷ ts) (plain_cell name value ∷ ds)
-  NegativeCellIs : {ts : List Symbol} {ds : List Declaration} (name : List ℕ) (value : ℤ) → DerivesCells ts ds
-      → DerivesCells (word_cell ∷ symbols.Name name ∷ equals ∷ minus ∷ symbols.Number value ∷ semicolon ∷ ts) (plain_cell name (neg_ℤ value) ∷ ds)
+  NegativeCellIs : {ts : List Symbol} {ds : List Declaration} (name : List ℕ) (size : ℕ) → DerivesCells ts ds
+      → DerivesCells (word_cell ∷ symbols.Name name ∷ equals ∷ minus ∷ symbols.Number (pos size) ∷ semicolon ∷ ts) (plain_cell name (neg_ℤ (pos size)) ∷ ds)
 
 -- the line of limits
 abbrev pub limits_symbols : (iterations stages steps emits : ℤ) → List Symbol

@@ -1,4 +1,5 @@
--- Interaction trees of statements, their budget of steps, and their meaning for an interpreter.
+-- Interaction trees (Xia et al. 2020) of statements, which also take steps of a budget: the behaviour that a tree has,
+-- and what an interpreter does with it.
 use Rattle.std.specs.Prelude.{ℕ, ℤ, zero, suc, List, [], ◌∷◌, ◌++◌}
 use Rattle.pipe_model.specs.declared.access.Access.{Access}
 use Rattle.pipe_model.specs.declared.access.AccessKind.{AccessKind}
@@ -12,7 +13,7 @@ use Rattle.pipe_model.specs.Behaviour.{Behaviour, Reading, Writing, Staging, End
 use Rattle.pipe_model.specs.Pipeline.{Pipeline}
 use Rattle.pipe_model.specs.Store.{value_after}
 
--- an interaction tree: it returns, raises a trap, takes a step of the budget, reads a cell, writes a cell, or goes to a next stage
+-- a tree returns, raises a trap, takes a step of the budget, reads a cell, writes a cell, or goes to a next stage
 pub data Interaction (A : Type 0) : Type 0 where
   Return : A → Interaction A
   Raise : Trap → Interaction A
@@ -21,7 +22,7 @@ pub data Interaction (A : Type 0) : Type 0 where
   Set : ℕ → ℤ → Interaction A → Interaction A
   Stage : Kind → ℤ → Interaction A → Interaction A
 
--- one tree after another
+-- one tree, and then another that may use what the first returns
 abbrev pub bind : {A B : Type 0} → Interaction A → (A → Interaction B) → Interaction B
 bind (Return a) f = f a
 bind (Raise t) f = Raise t
@@ -30,7 +31,7 @@ bind (Get c go) f = Get c (λ v. bind (go v) f)
 bind (Set c v d) f = Set c v (bind d f)
 bind (Stage k n d) f = Stage k n (bind d f)
 
--- the behaviour of an iteration: each instance has a budget of steps, of which so many are left
+-- the behaviour of a tree: each instance has a budget of steps, of which `left` are left in this one
 abbrev pub with_budget : ℕ → ℕ → Interaction ColumnEnd → Behaviour
 with_budget budget left (Return e) = Ending e
 with_budget budget left (Raise t) = Ending (ends.Trapped t)
@@ -45,17 +46,17 @@ pub record Progress : Type 0 where
   pub actions : List Action
   pub left : ℕ
 
--- how a tree ends, with what was kept
+-- how a tree ends for an interpreter, with what was kept
 pub data Outcome (A : Type 0) : Type 0 where
   Returned : A → Progress → Outcome A
   Raised : Trap → Progress → Outcome A
 
--- what comes after an outcome
+-- what comes after an outcome; nothing after a trap
 abbrev pub outcome_bind : {A B : Type 0} → Outcome A → (A → Progress → Outcome B) → Outcome B
 outcome_bind (Returned a k) f = f a k
 outcome_bind (Raised t k) f = Raised t k
 
--- one step less, or the stop where none is left
+-- goes on with one step less, or stops where none is left
 abbrev pub spend_step : {B : Type 0} → ℕ → B → (ℕ → B) → B
 spend_step zero stop go = stop
 spend_step (suc n) stop go = go n
@@ -64,7 +65,7 @@ spend_step (suc n) stop go = go n
 abbrev pub progress_with : Progress → Action → Progress
 progress_with k i = record k { actions = k.actions ++ i ∷ [] }
 
--- the value of cell c after the accesses of earlier iterations and of this one
+-- the value of cell c after the accesses before the iteration and those of the iteration so far
 abbrev pub value_seen : Pipeline → List Access → Progress → ℕ → ℤ
 value_seen p base k c = value_after p (base ++ accesses_in k.actions) c
 
@@ -77,7 +78,7 @@ interpret p base budget (Get c go) k = interpret p base budget (go (value_seen p
 interpret p base budget (Set c v d) k = interpret p base budget d (progress_with k (Accessed (write_access c v)))
 interpret p base budget (Stage kind n d) k = interpret p base budget d (record { actions = k.actions ++ Staged kind n ∷ []; left = budget })
 
--- the trace of an iteration that was interpreted
+-- the trace of an iteration that was interpreted to its end
 abbrev pub outcome_actions : Outcome ColumnEnd → List Action
 outcome_actions (Returned e k) = k.actions ++ Ended e ∷ []
 outcome_actions (Raised t k) = k.actions ++ Ended (ends.Trapped t) ∷ []
@@ -87,7 +88,7 @@ abbrev pub reply_of : AccessKind → ℤ → List ℤ → List ℤ
 reply_of Read v rs = v ∷ rs
 reply_of Write v rs = rs
 
--- the replies in a trace
+-- the replies that stand in a trace
 abbrev pub replies_in : List Action → List ℤ
 replies_in [] = []
 replies_in (Accessed a ∷ is) = reply_of a.kind a.value (replies_in is)

@@ -1,11 +1,13 @@
--- The pipeline program that runs are runs of, and what is asked of it.
+-- A pipeline program (Lee et al. 2013): a loop whose iterations go through stages, told by what each iteration does;
+-- and what is asked of it.
 use Rattle.std.specs.Prelude.{◌≡◌, ℕ, ℤ, suc, List, Bool, true, false, pos, ◌≢◌, ◌<ℤ◌}
 use Rattle.pipe_model.specs.declared.access.Access.{Access}
 use Rattle.pipe_model.specs.declared.node.Kind.TheVariants.{Zero}
 use Rattle.pipe_model.specs.declared.column.ColumnEnd.TheVariants as ends
 use Rattle.pipe_model.specs.Behaviour.{Behaviour, Reading, Writing, Staging, Ending, is_closing}
 
--- a pipeline: the declared values of cells, the limit on emits, the accesses before the loop, what each iteration does, and the iteration that always closes the loop
+-- a pipeline: the initial values of cells, the limit on outputs, the accesses before the loop, what each iteration does,
+-- and the iteration that always closes the loop
 pub record Pipeline : Type 0 where
   pub initial_values : List ℤ
   pub output_limit : ℕ
@@ -13,21 +15,22 @@ pub record Pipeline : Type 0 where
   pub behaviour : ℕ → Behaviour
   pub last_iteration : ℕ
 
--- where the iteration ends it always closes the loop, in its instance 0
+-- whatever is read, the iteration ends in its instance 0, and closes the loop
 abbrev pub AlwaysClosesLoop : Behaviour → Type 0
 AlwaysClosesLoop (Reading c go) = (v : ℤ) → AlwaysClosesLoop (go v)
 AlwaysClosesLoop (Writing c v d) = AlwaysClosesLoop d
 AlwaysClosesLoop (Staging k n d) = ⊥
 AlwaysClosesLoop (Ending e) = is_closing e ≡ true
 
--- numbers of stages rise, and only instance 0 ends with Closed
+-- from an instance with number n on, stage numbers rise and no stage is of kind Zero;
+-- `first` says that it is instance 0, which alone may end with Closed
 abbrev pub HasLegalStages : Bool → ℤ → Behaviour → Type 0
 HasLegalStages first n (Reading c go) = (v : ℤ) → HasLegalStages first n (go v)
 HasLegalStages first n (Writing c v d) = HasLegalStages first n d
 HasLegalStages first n (Staging k m d) = (k ≢ Zero) × ((n <ℤ m) × HasLegalStages false m d)
 HasLegalStages first n (Ending e) = e ≡ ends.Closed → first ≡ true
 
--- what is asked of what the iterations do
+-- each iteration has legal stages, and the last one always closes the loop
 pub record IsWellFormed (p : Pipeline) : Type 0 where
   pub legal : (i : ℕ) → HasLegalStages true (pos 0) (p.behaviour i)
   pub closes : AlwaysClosesLoop (p.behaviour p.last_iteration)

@@ -1,4 +1,5 @@
--- The serial elision: the iterations one after the other, each to its end.
+-- The serial elision of a pipeline (Lee et al. 2013): the program without its parallel control, one iteration after
+-- the other, each to its end. Its traces come first; columns, accesses, ends and events are told by them.
 use Rattle.std.specs.Prelude.{ℕ, zero, suc, List, [], ◌∷◌, ◌++◌, Bool, true, false, ◌+◌, map, Option, Some, None}
 use Rattle.pipe_model.specs.declared.access.Access.{Access}
 use Rattle.pipe_model.specs.declared.access.NodeAccess.{NodeAccess}
@@ -11,7 +12,7 @@ use Rattle.pipe_model.specs.Behaviour.{Behaviour, Reading, Writing, Staging, End
 use Rattle.pipe_model.specs.Pipeline.{Pipeline}
 use Rattle.pipe_model.specs.Store.{value_after}
 
--- an iteration to its end, each read answered by the cells
+-- the trace of an iteration to its end, each read answered from the accesses before it
 abbrev pub serial_trace : Pipeline → Behaviour → List Access → List Action
 serial_trace p (Reading c go) before =
     Accessed (read_access c (value_after p before c)) ∷ serial_trace p (go (value_after p before c)) (before ++ read_access c (value_after p before c) ∷ [])
@@ -24,7 +25,7 @@ abbrev pub unless : {A : Type 0} → Bool → List A → List A
 unless true xs = []
 unless false xs = xs
 
--- iteration i and those after it, at most so many, up to the one that closes the loop
+-- the traces of iteration i and those after it, at most so many, up to the one that closes the loop
 abbrev pub serial_traces_from : Pipeline → ℕ → ℕ → List Access → List (List Action)
 serial_traces_from p zero i before = []
 serial_traces_from p (suc n) i before =
@@ -34,20 +35,20 @@ serial_traces_from p (suc n) i before =
 abbrev pub serial_traces : Pipeline → List (List Action)
 serial_traces p = serial_traces_from p (p.last_iteration + 1) 0 p.preamble
 
--- the trace of iteration i
+-- the trace of iteration i, if there is one
 abbrev pub trace_at : List (List Action) → ℕ → Option (List Action)
 trace_at [] i = None
 trace_at (t ∷ ts) zero = Some t
 trace_at (t ∷ ts) (suc i) = trace_at ts i
 
--- the accesses of an iteration with their instances, from index k on
+-- the accesses of a trace with the instances that make them, from place k of column i on
 abbrev pub located : ℕ → ℕ → List Action → List NodeAccess
 located i k [] = []
 located i k (Accessed a ∷ is) = record { node = at i k; access = a } ∷ located i k is
 located i k (Staged kind n ∷ is) = located i (k + 1) is
 located i k (Ended e ∷ is) = located i k is
 
--- the accesses of all iterations from i on
+-- the accesses of the traces from iteration i on, with their instances
 abbrev pub located_from : ℕ → List (List Action) → List NodeAccess
 located_from i [] = []
 located_from i (is ∷ more) = located i 0 is ++ located_from (i + 1) more
@@ -56,22 +57,22 @@ located_from i (is ∷ more) = located i 0 is ++ located_from (i + 1) more
 abbrev pub serial_columns : Pipeline → List (List Node)
 serial_columns p = map column_of (serial_traces p)
 
--- the accesses of the serial elision
+-- the accesses of the serial elision, with their instances
 abbrev pub serial_accesses : Pipeline → List NodeAccess
 serial_accesses p = located_from 0 (serial_traces p)
 
--- the ends of its iterations
+-- the ends of the iterations of the serial elision
 abbrev pub serial_ends : Pipeline → List (Option ColumnEnd)
 serial_ends p = map trace_end (serial_traces p)
 
--- the events of a trace of iteration i
+-- the events of a trace of iteration i; a stage is entered as soon as it is named
 abbrev pub trace_events : ℕ → List Action → List Event
 trace_events i [] = []
 trace_events i (Accessed a ∷ is) = events.Access i a ∷ trace_events i is
 trace_events i (Staged k n ∷ is) = events.Advance i k n ∷ (events.Enter i ∷ trace_events i is)
 trace_events i (Ended e ∷ is) = events.Finish i e ∷ trace_events i is
 
--- the events of traces from iteration i on, one iteration after the other
+-- the events of the traces from iteration i on, one iteration after the other
 abbrev pub trace_events_from : ℕ → List (List Action) → List Event
 trace_events_from i [] = []
 trace_events_from i (is ∷ more) = events.Begin i ∷ (trace_events i is ++ trace_events_from (i + 1) more)

@@ -3,3 +3,11 @@ pub mod Numerals
 pub mod Longest
 pub mod CutLaws
 pub mod Cutting
+pub mod Expressions
+pub mod Windows
+pub mod Statements
+pub mod Blocks
+pub mod Programs
+pub mod NameSets
+pub mod Obeying
+pub mod FirstForms

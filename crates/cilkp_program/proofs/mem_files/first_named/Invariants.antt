@@ -1,0 +1,6 @@
+use Rattle.std.proofs.Common.{◌≡◌, drop}
+use Rattle.cilkp_program.specs.Stored.{content_of, named_bytes}
+use Rattle.cilkp_program.proofs.mem_files.first_named.Given as goal
+
+abbrev pub invariant-loop-other : goal.invariant-loop-other
+invariant-loop-other l = content_of (named_bytes (drop l.other-index l.files)) l.name ≡ content_of (named_bytes l.files) l.name

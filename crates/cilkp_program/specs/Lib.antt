@@ -1,0 +1,9 @@
+pub mod Faults
+pub mod FaultPlan
+pub mod Reads
+pub mod Writes
+pub mod Stored
+pub mod Wholes
+pub mod Rows
+pub mod Answers
+pub mod Loads

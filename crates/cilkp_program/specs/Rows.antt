@@ -1,0 +1,61 @@
+-- The table of answers: what a call prints, with its status, where nothing goes wrong outside.
+use Rattle.std.specs.Prelude.{◌≡◌, ◌≢◌, ℕ, ◌++◌, List, [], ◌∷◌, map, Option, Some, None, codes, String, string_bytes}
+use Rattle.std.specs.declared.alloc.Global.{Global}
+use Rattle.pipe_model.specs.declared.trap.TrapAt.{TrapAt}
+use Rattle.pipe_model.specs.Outcome.{serial_output, serial_trap}
+use Rattle.pipe_model.specs.Programs.{pipeline_of}
+use Rattle.pipe_model.specs.Spelling.{IsFirstForm, AreStageless}
+use Rattle.pipe_model.specs.SyntaxTree.{SyntaxTree}
+use Rattle.pipe_model.specs.Texts.{output_lines, trap_line, refused_usage, refused_missing, refused_source, refused_input}
+use Rattle.cilkp_program.specs.Reads.{Content}
+
+-- the words of a call, as bytes
+abbrev pub words_of : List (String Global) → List (List ℕ)
+words_of words = map string_bytes words
+
+-- the command that runs a source on an input: `run SOURCE INPUT`
+abbrev pub run_words : (source input : List ℕ) → List (List ℕ)
+run_words source input = codes "run" ∷ source ∷ input ∷ []
+
+-- the program of a source that can be run today: of the first form, and without stage statements
+pub record IsBuilt (source : List ℕ) (tree : SyntaxTree) : Type 0 where
+  pub form : IsFirstForm source tree
+  pub stageless : AreStageless tree.body
+
+-- the file of this name holds the source of the program
+pub record IsSourceOf (content : Content) (name : List ℕ) (tree : SyntaxTree) : Type 0 where
+  pub bytes : List ℕ
+  pub held : content name ≡ Some bytes
+  pub built : IsBuilt bytes tree
+
+-- the line that refuses a source: it is not held, or it is the source of no program
+pub data SourceRefusal (content : Content) (name : List ℕ) : List ℕ → Type 0 where
+  SourceMissing : content name ≡ None → SourceRefusal content name (refused_missing name)
+  SourceNotBuilt : (bytes : List ℕ) → content name ≡ Some bytes → ((tree : SyntaxTree) → IsBuilt bytes tree → ⊥) → SourceRefusal content name refused_source
+
+-- the line that refuses an input: it is not held, or it is not empty
+pub data InputRefusal (content : Content) (name : List ℕ) : List ℕ → Type 0 where
+  InputMissing : content name ≡ None → InputRefusal content name (refused_missing name)
+  InputNotEmpty : (bytes : List ℕ) → content name ≡ Some bytes → bytes ≢ [] → InputRefusal content name refused_input
+
+-- the output of the program's serial elision, with an empty input
+abbrev pub output_text : SyntaxTree → List ℕ
+output_text tree = output_lines (serial_output (pipeline_of tree []))
+
+-- the trap of the program's serial elision, with an empty input
+abbrev pub trap_of : SyntaxTree → Option TrapAt
+trap_of tree = serial_trap (pipeline_of tree [])
+
+-- what a run of the program comes to: its output with status 0, or its output and its trap with status 3
+pub data Outcome (tree : SyntaxTree) : ℕ → List ℕ → Type 0 where
+  Finishes : trap_of tree ≡ None → Outcome tree 0 (output_text tree)
+  Traps : (t : TrapAt) → trap_of tree ≡ Some t → Outcome tree 3 (output_text tree ++ trap_line t)
+
+-- the row of a call by its words and the files: its status and text. The first refusal in this order counts: the words, the source, the input
+pub data Row (words : List (List ℕ)) (content : Content) : ℕ → List ℕ → Type 0 where
+  NoCommand : ((source input : List ℕ) → words ≢ run_words source input) → Row words content 1 refused_usage
+  SourceRefused : (source input : List ℕ) {text : List ℕ} → words ≡ run_words source input → SourceRefusal content source text → Row words content 1 text
+  InputRefused : (source input : List ℕ) {text : List ℕ} (tree : SyntaxTree) → words ≡ run_words source input → IsSourceOf content source tree
+      → InputRefusal content input text → Row words content 1 text
+  Runs : (source input : List ℕ) {status : ℕ} {text : List ℕ} (tree : SyntaxTree) → words ≡ run_words source input → IsSourceOf content source tree
+      → content input ≡ Some [] → Outcome tree status text → Row words content status text

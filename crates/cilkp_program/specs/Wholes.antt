@@ -1,0 +1,53 @@
+-- What the reading of a whole file and the writing of a whole text answer and leave.
+use Rattle.std.specs.Prelude.{◌≡◌, ℕ, ◌≤◌, ◌<◌, List, [], length, take, Option, Some, None, Bool, true, false}
+use Rattle.cilkp_program.specs.declared.files.ReadPart.{ReadPart}
+use Rattle.cilkp_program.specs.declared.files.ReadPart.TheVariants as reads
+use Rattle.cilkp_program.specs.declared.whole.WriteEnd.{WriteEnd}
+use Rattle.cilkp_program.specs.declared.whole.WriteEnd.TheVariants as ends
+use Rattle.cilkp_program.specs.declared.whole.Whole.{Whole}
+use Rattle.cilkp_program.specs.declared.whole.Whole.TheVariants.{Bytes, TooLong, Missing, Failed}
+
+-- whether the reading ended with a fault
+abbrev pub is_file_fault : Whole → Bool
+is_file_fault (Bytes bytes) = false
+is_file_fault TooLong = false
+is_file_fault Missing = false
+is_file_fault Failed = true
+
+-- where bytes are answered, they are no more than the limit
+abbrev pub IsUpTo : ℕ → Whole → Type 0
+IsUpTo limit (Bytes bytes) = length bytes ≤ limit
+IsUpTo limit TooLong = Unit {0}
+IsUpTo limit Missing = Unit {0}
+IsUpTo limit Failed = Unit {0}
+
+-- an answer that is no fault tells exactly whether there is a file, whether it is longer than the limit, and its bytes
+abbrev pub IsWholeOf : Option (List ℕ) → ℕ → Whole → Type 0
+IsWholeOf None limit (Bytes bytes) = ⊥
+IsWholeOf None limit TooLong = ⊥
+IsWholeOf None limit Missing = Unit {0}
+IsWholeOf None limit Failed = Unit {0}
+IsWholeOf (Some held) limit (Bytes bytes) = (bytes ≡ held) × (length held ≤ limit)
+IsWholeOf (Some held) limit TooLong = limit < length held
+IsWholeOf (Some held) limit Missing = ⊥
+IsWholeOf (Some held) limit Failed = Unit {0}
+
+-- whether the writing ended with a fault
+abbrev pub is_text_fault : WriteEnd → Bool
+is_text_fault ends.Whole = false
+is_text_fault ends.Failed = true
+is_text_fault ends.NoMemory = false
+
+-- these bytes stand at the front of the file, and where there is no file they are none
+abbrev pub IsFrontOf : Option (List ℕ) → List ℕ → Type 0
+IsFrontOf None bytes = bytes ≡ []
+IsFrontOf (Some held) bytes = (bytes ≡ take (length bytes) held) × (length bytes ≤ length held)
+
+-- where a further read found nothing more, the bytes are the whole file
+abbrev pub EndsAt : Option (List ℕ) → List ℕ → ReadPart → Type 0
+EndsAt None bytes (reads.Got n) = ⊥
+EndsAt None bytes reads.Missing = Unit {0}
+EndsAt None bytes reads.Failed = Unit {0}
+EndsAt (Some held) bytes (reads.Got n) = n ≡ 0 → bytes ≡ held
+EndsAt (Some held) bytes reads.Missing = ⊥
+EndsAt (Some held) bytes reads.Failed = Unit {0}

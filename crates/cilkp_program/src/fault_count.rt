@@ -1,0 +1,47 @@
+//! A count of faults.
+
+ghost use Rattle.std.specs.Prelude.{◌≡◌};
+ghost use Rattle.cilkp_program.specs.Faults.{CountsFault, next_count};
+ghost use Rattle.std.specs.Prelude.{true};
+
+use std::marker::Model;
+
+/// How many faults there were, up to 2^64 - 1.
+#[derive(Clone, Copy, PartialEq, Eq, Debug)]
+pub struct FaultCount {
+    count: u64,
+}
+
+impl Model for FaultCount {
+    ghost use Rattle.std.specs.Prelude.{ℕ};
+
+    ghost Value = { ℕ };
+
+    ghost view = { λ c. c.count };
+
+    ghost inverse = { λ n. record { count = n } };
+}
+
+impl FaultCount {
+    /// No fault so far.
+    pub const fn new() -> Self
+        ensures { result ≡ 0 }
+    {
+        FaultCount { count: 0 }
+    }
+
+    /// The number of faults.
+    pub fn get(self) -> u64
+        ensures { result ≡ self }
+    {
+        self.count
+    }
+
+    /// Counts a fault; the count stays at its last value.
+    pub fn rise(&mut self)
+        ensures next { self.new ≡ next_count self.old }
+        ensures cause { CountsFault true self.old self.new }
+    {
+        self.count = self.count.saturating_add(1);
+    }
+}

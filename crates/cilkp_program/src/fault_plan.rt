@@ -1,0 +1,62 @@
+//! Which calls are to fail.
+
+ghost use Rattle.std.specs.Prelude.{◌≡◌};
+ghost use Rattle.cilkp_program.specs.Faults.{CountsFault};
+ghost use Rattle.cilkp_program.specs.FaultPlan.{first_plan, fails_next, after_call};
+
+use crate::fault_count::FaultCount;
+use std::marker::Model;
+
+/// Which calls are to fail, by their numbers counted from 0, and how many calls and faults there were so far.
+#[derive(Drop)]
+pub struct FaultPlan {
+    fail_at: Vec<u32>,
+    // Stays at 2^64 - 1, which is the number of no call that can be listed.
+    calls: u64,
+    faults: FaultCount,
+}
+
+impl Model for FaultPlan {
+    ghost use Rattle.cilkp_program.specs.FaultPlan.{Plan};
+
+    ghost Value = { Plan };
+
+    ghost view = { λ p. record { fail_at = p.fail_at.items; calls = p.calls; faults = p.faults } };
+}
+
+impl FaultPlan {
+    /// A plan before the first call.
+    pub fn new(fail_at: Vec<u32>) -> Self
+        ensures { result ≡ first_plan fail_at.items }
+    {
+        FaultPlan {
+            fail_at,
+            calls: 0,
+            faults: FaultCount::new(),
+        }
+    }
+
+    /// Counts a call, and answers whether it is to fail.
+    pub fn next_fails(&mut self) -> bool
+        ensures answer { result ≡ fails_next self.old }
+        ensures after { self.new ≡ after_call self.old }
+        ensures cause { CountsFault result self.old.faults self.new.faults }
+    {
+        let fails = self.is_listed();
+        self.calls = self.calls.saturating_add(1);
+        if fails {
+            self.faults.rise();
+        }
+        fails
+    }
+
+    // Whether the number of the next call is listed.
+    fn is_listed(&self) -> bool
+        ensures { result ≡ fails_next self.now }
+    {
+        let number = self.calls;
+        self.fail_at
+            .iter()
+            .any(|listed| u64::from(*listed) == number)
+    }
+}

@@ -1,0 +1,66 @@
+//! The program `cilkp`: it hands its words, the files of the system and the standard output to the top call, and ends
+//! with the status that the call answers.
+#![tactic(auto)]
+
+pub mod call;
+pub mod fault_count;
+pub mod fault_plan;
+pub mod files;
+pub mod gate;
+pub mod load;
+pub mod mem_files;
+pub mod mem_sink;
+pub mod real;
+pub mod sink;
+pub mod text;
+#[cfg(test)]
+mod tests;
+pub mod whole;
+
+use crate::call::{Ended, cilkp};
+use crate::gate::OpenGate;
+use crate::real::{RealFiles, RealSink};
+use pipe_model::memory::NoMemory;
+use std::env;
+use std::io::ErrorKind;
+use std::process::ExitCode;
+
+/// The status for want of memory, which only the program answers.
+const NO_MEMORY: u8 = 6;
+
+// The words of the command line without the program's name. A word that is no text makes no command, and so do no words.
+fn words(rt: &HostRuntime) -> Result<Vec<String>, NoMemory> {
+    let mut words = Vec::new(rt.alloc());
+    match env::args(rt) {
+        Ok(args) => {
+            for word in args.skip(1) {
+                words.push(word)?;
+            }
+        }
+        Err(error) if error.kind() == ErrorKind::OutOfMemory => return Err(NoMemory),
+        Err(_) => {}
+    }
+    Ok(words)
+}
+
+// The call with the real files and the real sink.
+fn run(rt: &HostRuntime) -> Result<Ended, NoMemory> {
+    let words = words(rt)?;
+    let mut files = RealFiles::new(rt);
+    let mut out = RealSink::new(rt);
+    cilkp(
+        rt,
+        rt.alloc(),
+        words.as_slice(),
+        &mut files,
+        &mut out,
+        &OpenGate,
+    )
+}
+
+fn main(rt: HostRuntime) -> ExitCode {
+    match run(&rt) {
+        Ok(ended) => ExitCode::from(ended.status),
+        Err(NoMemory) => ExitCode::from(NO_MEMORY),
+    }
+}

@@ -1,0 +1,125 @@
+//! Whole files and whole texts, part after part.
+
+ghost use Rattle.std.specs.Prelude.{◌≡◌, ◌+◌, ◌++◌, ◌≤◌, ◌<◌, ◌↔◌, length, take, IsOk, IfOk, OnErr, IfSome};
+ghost use Rattle.std.specs.Option.{option_map};
+ghost use Rattle.cilkp_program.specs.Faults.{CountsFault};
+ghost use Rattle.cilkp_program.specs.Reads.{is_read_fault, bytes_read};
+ghost use Rattle.cilkp_program.specs.Wholes.{is_file_fault, IsUpTo, IsWholeOf, is_text_fault, IsFrontOf, EndsAt};
+
+use crate::files::{Files, ReadPart};
+use crate::sink::{Sink, WritePart};
+use pipe_model::list::Bytes;
+use pipe_model::memory::NoMemory;
+use std::alloc::Global;
+
+/// How the reading of a file ended.
+#[derive(Drop)]
+pub enum Whole {
+    /// All bytes of the file, which are no more than the limit.
+    Bytes(Bytes),
+    /// The file is longer than the limit.
+    TooLong,
+    /// There is no file of that name.
+    Missing,
+    /// A read failed.
+    Failed,
+}
+
+// How many bytes are asked for at once.
+const PART: usize = 4096;
+
+/// Reads a file of at most `limit` bytes, part after part, and no further than one byte past the limit.
+pub fn read_whole<F: Files>(
+    alloc: Global,
+    files: &mut F,
+    name: &str,
+    limit: usize,
+) -> Result<Whole, NoMemory>
+    ensures keeps { F.holds files.new ≡ F.holds files.old }
+    ensures cause { IfOk result (λ whole. CountsFault (is_file_fault whole) (F.faults files.old) (F.faults files.new)) }
+    ensures memory { OnErr result (F.faults files.new ≡ F.faults files.old) }
+    ensures limit { IfOk result (λ whole. IsUpTo limit whole) }
+    ensures told { IfOk result (λ whole. IfSome (F.holds files.old) (λ content.
+        IsWholeOf (content name.now) limit whole)) }
+{
+    let mut bytes = Vec::new(alloc);
+    let mut part = [0; PART];
+    while bytes.len() <= limit {
+        let room = (limit - bytes.len()).min(PART - 1) + 1;
+        match read_more(files, name, &mut bytes, &mut part[..room])? {
+            ReadPart::Missing => return Ok(Whole::Missing),
+            ReadPart::Failed => return Ok(Whole::Failed),
+            ReadPart::Got(0) => return Ok(Whole::Bytes(Bytes::from_vec(bytes))),
+            ReadPart::Got(_) => {}
+        }
+    }
+    Ok(Whole::TooLong)
+}
+
+// Reads a part of the file behind the bytes at its front that were read before.
+fn read_more<F: Files>(
+    files: &mut F,
+    name: &str,
+    bytes: &mut Vec<u8>,
+    part: &mut [u8],
+) -> Result<ReadPart, NoMemory>
+    requires room { 0 < length part.old }
+    requires front { IfSome (F.holds files.old) (λ content. IsFrontOf (content name.now) bytes.old.items) }
+    ensures keeps { F.holds files.new ≡ F.holds files.old }
+    ensures cause { IfOk result (λ read. CountsFault (is_read_fault read) (F.faults files.old) (F.faults files.new)) }
+    ensures memory { OnErr result (F.faults files.new ≡ F.faults files.old) }
+    ensures grew { IfOk result (λ read. length bytes.new.items ≡ length bytes.old.items + bytes_read read) }
+    ensures front { IsOk result → IfSome (F.holds files.old) (λ content. IsFrontOf (content name.now) bytes.new.items) }
+    ensures ends { IfOk result (λ read. IfSome (F.holds files.old) (λ content.
+        EndsAt (content name.now) bytes.new.items read)) }
+{
+    let read = files.read_part(name, bytes.len() as u64, part);
+    if let ReadPart::Got(n) = read {
+        bytes.extend_from_slice(&part[..n as usize])?;
+    }
+    Ok(read)
+}
+
+/// How the writing of a text ended.
+#[derive(Clone, Copy, PartialEq, Eq, Debug)]
+pub enum WriteEnd {
+    /// All of it was taken.
+    Whole,
+    /// A write failed.
+    Failed,
+    /// The sink had no memory to keep more.
+    NoMemory,
+}
+
+/// How the writing of a text ended, and how many bytes at its front were taken.
+#[derive(Clone, Copy, PartialEq, Eq, Debug)]
+pub struct Written {
+    pub end: WriteEnd,
+    pub count: u64,
+}
+
+/// Writes a text, part after part, until it is written whole or the sink refuses a part.
+pub fn write_text<S: Sink>(out: &mut S, text: &[u8]) -> Written
+    ensures cause { CountsFault (is_text_fault result.end) (S.faults out.old) (S.faults out.new) }
+    ensures count { result.count ≤ length text.now }
+    ensures whole { (result.end ≡ WriteEnd.Whole) ↔ (result.count ≡ length text.now) }
+    ensures taken { S.taken out.new ≡ option_map (λ bytes. bytes ++ take result.count text.now) (S.taken out.old) }
+{
+    let mut done: usize = 0;
+    while done < text.len() {
+        match out.write_part(&text[done..]) {
+            WritePart::Took(n) => done += n as usize,
+            WritePart::Failed => return ended(WriteEnd::Failed, done),
+            WritePart::NoMemory => return ended(WriteEnd::NoMemory, done),
+        }
+    }
+    ended(WriteEnd::Whole, done)
+}
+
+// The answer after so many bytes.
+fn ended(end: WriteEnd, done: usize) -> Written
+    ensures { result ≡ record { end = end; count = done } }
+{
+    let count = done as u64;
+    Written { end, count }
+}

@@ -1,0 +1,22 @@
+-- The two lists of starts: the dag by columns, the places in each list, and how they grow.
+pub mod BothOrders
+pub mod DownChildren
+pub mod DownFirst
+pub mod GrownStarts
+pub mod InsertionLists
+pub mod JoinedPlaces
+pub mod LeftParentEdges
+pub mod LeftParents
+pub mod ListPlaces
+pub mod ListsOfStarts
+pub mod LogGrowth
+pub mod LongerLogs
+pub mod OneMoreStart
+pub mod PrecedingPlaces
+pub mod RightChildren
+pub mod RightFirst
+pub mod RunOrders
+pub mod StableLeftParents
+pub mod StartNumbers
+pub mod StartPlaces
+pub mod StartsOfRuns

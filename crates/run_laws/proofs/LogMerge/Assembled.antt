@@ -1,0 +1,28 @@
+-- What is asked of a list of events so that it is a run, part by part.
+use Rattle.std.specs.Prelude.{ℕ, List, false, ◌≡◌, ◌∷◌, ◌++◌}
+use Rattle.pipe_model.specs.Allowed.{IsRunning}
+use Rattle.pipe_model.specs.Behaviour.{Performs}
+use Rattle.pipe_model.specs.ControlRun.{ControlRun, control_events, actions_at, accesses_among}
+use Rattle.pipe_model.specs.Pipeline.{Pipeline}
+use Rattle.pipe_model.specs.State.{State}
+use Rattle.pipe_model.specs.Store.{HasReply}
+use Rattle.pipe_model.specs.declared.access.Access.{Access as Cell_access}
+use Rattle.pipe_model.specs.declared.event.Event.{Event}
+use Rattle.pipe_model.specs.declared.event.Event.TheVariants.{Access}
+use Rattle.run_laws.specs.LogLaws.{MakesRun}
+
+-- the control events are a control run, each access is made while its iteration runs, the actions of each iteration
+-- are performed, and each read has its reply
+pub record IsAssembled (p : Pipeline) (limit : ℕ) (events : List Event) (c : State) : Type 0 where
+  pub control : ControlRun limit (control_events events) c
+  pub running : (front rest : List Event) (i : ℕ) (a : Cell_access) → events ≡ front ++ Access i a ∷ rest
+      → (d : State) → ControlRun limit (control_events front) d → (d.stopped ≡ false) × IsRunning d i
+  pub program : (i : ℕ) → Performs (p.behaviour i) (actions_at i events)
+  pub replies : (front rest : List Event) (i : ℕ) (a : Cell_access) → events ≡ front ++ Access i a ∷ rest
+      → HasReply p (p.preamble ++ accesses_among front) a
+
+-- events that are assembled so are a run
+abbrev pub AssembledIsRun : Type 0
+AssembledIsRun =
+    (p : Pipeline) (limit : ℕ) (events : List Event) (c : State) → IsAssembled p limit events c
+    → MakesRun p limit events c

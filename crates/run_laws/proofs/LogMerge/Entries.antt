@@ -1,0 +1,18 @@
+-- Entries and actions with their tickets, as the proofs of the merge write them.
+use Rattle.std.proofs.Common.{ℕ}
+use Rattle.pipe_model.specs.declared.access.Access.{Access as Cell_access}
+use Rattle.pipe_model.specs.declared.event.Event.{Event}
+use Rattle.pipe_model.specs.Behaviour.{Action}
+use Rattle.pipe_model.specs.TicketLogs.{BookEntry, ShardEntry, TimedAction}
+
+-- an action with this ticket
+abbrev pub timed : ℕ → Action → TimedAction
+timed t x = record { ticket = t; action = x }
+
+-- an entry of the book with this ticket
+abbrev pub book_entry : ℕ → Event → BookEntry
+book_entry t e = record { ticket = t; event = e }
+
+-- an entry of a shard with this ticket, of instance k of iteration i
+abbrev pub shard_entry : ℕ → ℕ → ℕ → Cell_access → ShardEntry
+shard_entry t i k a = record { ticket = t; node = record { iteration = i; index = k }; access = a }

@@ -1,0 +1,8 @@
+-- Access histories, the races that they find and the reports of these.
+pub mod AccessOrder
+pub mod CellAccesses
+pub mod CellRaces
+pub mod CellReports
+pub mod FirstRaces
+pub mod KeptInstances
+pub mod RunHistories

@@ -1,0 +1,140 @@
+-- The reports of the first races of all cells are right.
+use Rattle.std.proofs.Common.{ℕ, List, ◌++◌, ◌≡◌, ◌<◌, zero, refl, suc, arith, ap, ◌∙◌, sym}
+use Rattle.std.proofs.Common.{subst, inl, inr}
+use Rattle.std.proofs.lemmas.Bool.{cases_eq}
+use Rattle.std.specs.declared.option.Option.{Option}
+use Rattle.std.specs.declared.option.Option.TheVariants.{None, Some}
+use Rattle.pipe_model.specs.AccessHistory.{NotedAccess, access_at, accesses_to, FirstRace}
+use Rattle.pipe_model.specs.Dag.{AreParallel}
+use Rattle.pipe_model.specs.HistoryRaces.{IsFirstRaceOf, KindsConflict, IsRightVerdict, first_race_of}
+use Rattle.pipe_model.specs.HistoryReports.{report_of, report_found, reports_below}
+use Rattle.pipe_model.specs.Races.{Among, Here, Later}
+use Rattle.pipe_model.specs.Reports.{NamesRace, number_at}
+use Rattle.pipe_model.specs.Starts.{starts_of}
+use Rattle.pipe_model.specs.State.{State, own_columns}
+use Rattle.pipe_model.specs.declared.node.NodeId.{NodeId}
+use Rattle.pipe_model.specs.declared.report.Report.{Report}
+use Rattle.run_laws.proofs.RaceHistories.CellRaces.{HasRacesAt, race_at}
+use Rattle.run_laws.proofs.RaceHistories.RunHistories.{histories_find_the_first_race}
+use Rattle.run_laws.proofs.RunStates.Members.{among_either, among_right, among_left}
+use Rattle.run_laws.specs.HistoryLaws.{ReportsAreRight}
+use Rattle.run_laws.proofs.RaceHistories.CellAccesses.{noted_of, cell_id, two_places}
+
+-- a report of what a history has found names a race
+names_race : (s : State) (c : ℕ) (race : FirstRace) → IsFirstRaceOf (own_columns s) (accesses_to c s.accesses) race
+    → NamesRace s (report_of (own_columns s) c race.earlier (access_at (accesses_to c s.accesses) race.number))
+names_race s c race h =
+    let q = h.racy in
+    let r = q.1 in
+    let two = two_places c s.accesses race.number q.0 r.earlier r.within in
+    let before : race.earlier ≡ noted_of two.earlier = sym q.2 ∙ two.earlier_is in
+    record {
+      front = two.front;
+      earlier = two.earlier;
+      between = two.between;
+      later = two.later;
+      rest = two.rest;
+      stands = two.stands;
+      conflict = record {
+        same = ap cell_id (two.earlier_cell ∙ sym two.later_cell);
+        one = subst (λ (x : NotedAccess). KindsConflict x.kind two.later.access.kind) two.earlier_is
+            (subst (λ (y : NotedAccess). KindsConflict (access_at (accesses_to c s.accesses) q.0).kind y.kind)
+            two.later_is r.conflict);
+      };
+      parallel = subst (λ (x : NotedAccess). AreParallel (own_columns s) x.who two.later.node) two.earlier_is
+          (subst (λ (y : NotedAccess). AreParallel (own_columns s) (access_at (accesses_to c s.accesses) q.0).who
+          y.who) two.later_is r.parallel);
+      cell = ap cell_id (sym two.earlier_cell);
+      nodes = (ap (λ (x : NotedAccess). x.who) before, ap (λ (x : NotedAccess). x.who) two.later_is);
+      kinds = (ap (λ (x : NotedAccess). x.kind) before, ap (λ (x : NotedAccess). x.kind) two.later_is);
+      numbers = (
+        ap (λ (x : NotedAccess). number_at (own_columns s) x.who)
+            before,
+        ap (λ (x : NotedAccess). number_at (own_columns s) x.who) two.later_is,
+      );
+    }
+
+-- each report of a cell names a race
+report_names_race : (s : State) (c : ℕ) (v : Option FirstRace)
+    → IsRightVerdict (own_columns s) (accesses_to c s.accesses) v → (r : Report)
+    → Among r (report_found (own_columns s) c (accesses_to c s.accesses) v) → NamesRace s r
+report_names_race s c None h r m = elim m [ ]
+report_names_race s c (Some race) h r Here = names_race s c race h
+report_names_race s c (Some race) h r (Later _ m) = elim m [ ]
+
+-- each report of all cells names a race
+reports_name_races : (s : State) (starts : List NodeId)
+    → ((c : ℕ) → IsRightVerdict (own_columns s) (accesses_to c s.accesses)
+    (first_race_of (own_columns s) starts s.accesses c))
+    → (cells : ℕ) (r : Report)
+    → Among r (reports_below (own_columns s) starts s.accesses cells) → NamesRace s r
+reports_name_races s starts right zero r m = elim m [ ]
+reports_name_races s starts right (suc c) r m =
+    elim (among_either r (reports_below (own_columns s) starts s.accesses c)
+    (report_found (own_columns s) c (accesses_to c s.accesses)
+    (first_race_of (own_columns s) starts s.accesses c)) m) [
+      | inl old ↦ reports_name_races s starts right c r old
+      | inr new ↦ report_names_race s c (first_race_of (own_columns s) starts s.accesses c) (right c) r new
+    ]
+
+-- a cell with a race has a report
+record HasReport (c : ℕ) (reports : List Report) : Type 0 where
+  report : Report
+  among : Among report reports
+  of_cell : report.cell ≡ cell_id c
+
+-- what a history finds is reported
+race_is_reported : (s : State) (c : ℕ) (v : Option FirstRace)
+    → IsRightVerdict (own_columns s) (accesses_to c s.accesses) v
+    → HasRacesAt (own_columns s) (accesses_to c s.accesses)
+    → HasReport c (report_found (own_columns s) c (accesses_to c s.accesses) v)
+race_is_reported s c None h r = absurd (h r.later r.earlier r.racy)
+race_is_reported s c (Some race) h r = record {
+  report = report_of (own_columns s) c race.earlier (access_at (accesses_to c s.accesses) race.number);
+  among = Here;
+  of_cell = refl;
+}
+
+-- a race is reported among the reports of all cells
+race_is_reported_below : (s : State) (starts : List NodeId) (c cells : ℕ) → c < cells
+    → HasReport c (report_found (own_columns s) c (accesses_to c s.accesses)
+    (first_race_of (own_columns s) starts s.accesses c))
+    → HasReport c (reports_below (own_columns s) starts s.accesses cells)
+race_is_reported_below s starts c zero l h = absurd (omega (arith, l))
+race_is_reported_below s starts c (suc cells) l h = elim (cases_eq c cells) [
+  | inl e ↦ subst (λ d. HasReport c (reports_below (own_columns s) starts s.accesses d
+      ++ report_found (own_columns s) d (accesses_to d s.accesses)
+      (first_race_of (own_columns s) starts s.accesses d))) e
+      (record {
+        report = h.report;
+        among = among_right h.report (reports_below (own_columns s) starts s.accesses c)
+            (report_found (own_columns s) c (accesses_to c s.accesses)
+            (first_race_of (own_columns s) starts s.accesses c)) h.among;
+        of_cell = h.of_cell;
+      })
+  | inr o ↦ (
+      let g = race_is_reported_below s starts c cells (omega (arith, l, o)) h in
+      record {
+        report = g.report;
+        among = among_left g.report (reports_below (own_columns s) starts s.accesses cells)
+            (report_found (own_columns s) cells (accesses_to cells s.accesses)
+            (first_race_of (own_columns s) starts s.accesses cells)) g.among;
+        of_cell = g.of_cell;
+      })
+]
+
+-- the law of reports
+pub reports_are_right : ReportsAreRight
+reports_are_right p limit events s cells r within =
+    let right : (c : ℕ) → IsRightVerdict (own_columns s) (accesses_to c s.accesses)
+    (first_race_of (own_columns s) (starts_of events) s.accesses c) =
+    λ c. histories_find_the_first_race p limit events s r c in
+    record {
+      name = λ x m. reports_name_races s (starts_of events) right cells x m;
+      all = λ a b race. (
+          let c : ℕ = a.access.cell.0 in
+          let h = race_is_reported_below s (starts_of events) c cells (within a race.first)
+          (race_is_reported s c (first_race_of (own_columns s) (starts_of events) s.accesses c) (right c)
+          (race_at (own_columns s) s.accesses a b c refl race)) in
+          (h.report, h.among, h.of_cell));
+    }

@@ -1,0 +1,37 @@
+-- Laws of behaviours: the actions that an iteration can make, told by an interpreter, by replies and action by action.
+-- Interaction trees are those of Xia et al. 2020.
+use Rattle.std.specs.Prelude.{List, ℕ, ◌≡◌, ◌++◌, ℤ}
+use Rattle.pipe_model.specs.Behaviour.{accesses_in, Behaviour, Performs, actions_with, Action, HasNoEnd}
+use Rattle.pipe_model.specs.Interaction.{bind, outcome_bind, Interaction, Progress, outcome_actions, interpret, with_budget, replies_in}
+use Rattle.pipe_model.specs.Pipeline.{Pipeline}
+use Rattle.pipe_model.specs.SerialElision.{serial_trace}
+use Rattle.pipe_model.specs.declared.access.Access.{Access}
+use Rattle.pipe_model.specs.declared.column.ColumnEnd.{ColumnEnd}
+
+-- an interpreter adds to the actions so far the serial trace of the tree's behaviour, after the accesses so far
+abbrev pub InterpretersAreSerial : Type 0
+InterpretersAreSerial =
+    (p : Pipeline) (base : List Access) (budget : ℕ) (tree : Interaction ColumnEnd) (k : Progress)
+    → outcome_actions (interpret p base budget tree k)
+    ≡ k.actions ++ serial_trace p (with_budget budget k.left tree) (base ++ accesses_in k.actions)
+
+-- what a behaviour performs is what it does with the replies that stand in it:
+-- the actions with any replies are performed; a performed trace begins the actions with its own replies; and more
+-- replies only add actions at the end
+pub record PerformsByReplies (behaviour : Behaviour) : Type 0 where
+  pub performs : (replies : List ℤ) → Performs behaviour (actions_with behaviour replies)
+  pub begins : (actions : List Action) → Performs behaviour actions → HasNoEnd actions
+      → (rest : List Action) × (actions_with behaviour (replies_in actions) ≡ actions ++ rest)
+  pub grows : (replies more : List ℤ)
+      → (rest : List Action) × (actions_with behaviour (replies ++ more) ≡ actions_with behaviour replies ++ rest)
+
+-- every behaviour does so
+abbrev pub BehavioursPerform : Type 0
+BehavioursPerform = (behaviour : Behaviour) → PerformsByReplies behaviour
+
+-- an interpreter of one tree and then another is the interpreter of the one, and then of the other from what it kept
+abbrev pub BindsAreInterpretedInTurn : Type 0 → Type 0 → Type 0
+BindsAreInterpretedInTurn A B =
+    (p : Pipeline) (base : List Access) (budget : ℕ) (tree : Interaction A) (next : A → Interaction B) (k : Progress)
+    → interpret p base budget (bind tree next) k
+    ≡ outcome_bind (interpret p base budget tree k) (λ a j. interpret p base budget (next a) j)

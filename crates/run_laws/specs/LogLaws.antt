@@ -1,0 +1,23 @@
+-- The law of the logs of a closed run: merged by their tickets they are a run.
+use Rattle.std.specs.Prelude.{ℕ, List, ◌≡◌, map}
+use Rattle.pipe_model.specs.Pipeline.{Pipeline}
+use Rattle.pipe_model.specs.Run.{Run, IsFinished}
+use Rattle.pipe_model.specs.State.{State, own_columns}
+use Rattle.pipe_model.specs.TicketLogs.{BookEntry, ShardEntry, TimedAction, LogEntry, ClosedLogs, IsMerge, event_of}
+use Rattle.pipe_model.specs.declared.event.Event.{Event}
+
+-- the events are a run, with the columns of this state of the control part, and finished where that is
+pub record MakesRun (p : Pipeline) (limit : ℕ) (events : List Event) (c : State) : Type 0 where
+  pub state : State
+  pub run : Run p limit events state
+  pub columns : own_columns state ≡ own_columns c
+  pub finished : IsFinished c → IsFinished state
+
+-- the merge of the logs of a closed run is a run
+abbrev pub MergedLogsAreARun : Type 0
+MergedLogsAreARun =
+    (p : Pipeline) (limit width : ℕ) (book : List BookEntry) (shards : ℕ → List ShardEntry)
+    (made : ℕ → ℕ → List TimedAction) (c : State) (merged : List LogEntry)
+    → ClosedLogs p limit width book shards made c
+    → IsMerge book shards merged
+    → MakesRun p limit (map event_of merged) c

@@ -1,0 +1,121 @@
+-- Laws of the two orders of a list of starts, and of a run (Xu, Lee, Agrawal 2018): together they are the order of
+-- the dag. The lists are order-maintenance lists (Bender et al. 2002), told by their insertion logs.
+use Rattle.std.specs.Prelude.{None, if◌then◌else◌, nat_lt, List, ◌↔◌, ℕ, ◌≡◌, length, suc, ◌+◌, ◌<◌, Some, [], ◌∷◌, ◌++◌, true}
+use Rattle.pipe_model.specs.Allowed.{Allowed}
+use Rattle.pipe_model.specs.Columns.{node_at, AreColumns, IsNodeOf, nodes_at, at}
+use Rattle.pipe_model.specs.Dag.{Precedes, CrossEdge}
+use Rattle.pipe_model.specs.LeftParent.{left_parent, last_up_to, joined_at}
+use Rattle.pipe_model.specs.OrderList.{insert_after, IsLog, has, list_of_log, StandsBefore}
+use Rattle.pipe_model.specs.Pipeline.{Pipeline}
+use Rattle.pipe_model.specs.Run.{Run}
+use Rattle.pipe_model.specs.Starts.{AreStarts, starts_of, IsStarted, start_number, started_by}
+use Rattle.pipe_model.specs.State.{State, own_columns, next_state}
+use Rattle.pipe_model.specs.TwoOrders.{IsBeforeInBoth, down_element, right_element, down_first_log, log_entries, down_first_taken}
+use Rattle.pipe_model.specs.TwoOrders.{right_first_log, right_first_taken}
+use Rattle.pipe_model.specs.declared.event.Event.{Event}
+use Rattle.pipe_model.specs.declared.node.Kind.TheVariants.{Wait, Continue}
+use Rattle.pipe_model.specs.declared.node.Node.{Node}
+use Rattle.pipe_model.specs.declared.node.NodeId.{NodeId}
+
+-- what the starts of a run are: the instances of its own columns, each once, each after all that have an edge to it
+pub record HasStarts (events : List Event) (s : State) : Type 0 where
+  pub columns : AreColumns (own_columns s)
+  pub ordered : AreStarts (own_columns s) (starts_of events)
+  pub nodes : (x : NodeId) → IsStarted (starts_of events) x ↔ IsNodeOf (own_columns s) x
+
+-- the events of a run start the instances of its own columns
+abbrev pub StartedNodesAreOwnNodes : Type 0
+StartedNodesAreOwnNodes =
+    (p : Pipeline) (limit : ℕ) (events : List Event) (s : State) → Run p limit events s
+    → HasStarts events s
+
+-- before in both orders is exactly precedes, for any list of starts that respects the edges
+abbrev pub BothOrdersOfStarts : Type 0
+BothOrdersOfStarts =
+    (columns : List (List Node)) (starts : List NodeId) → AreColumns columns → AreStarts columns starts
+    → (x y : NodeId) → IsStarted starts x → IsStarted starts y
+    → IsBeforeInBoth columns starts x y ↔ Precedes columns x y
+
+-- before in both orders is exactly precedes, in every run
+abbrev pub BothOrdersArePrecedes : Type 0
+BothOrdersArePrecedes =
+    (p : Pipeline) (limit : ℕ) (events : List Event) (s : State) → Run p limit events s
+    → (x y : NodeId) → IsNodeOf (own_columns s) x → IsNodeOf (own_columns s) y
+    → IsBeforeInBoth (own_columns s) (starts_of events) x y ↔ Precedes (own_columns s) x y
+
+-- no two instances take one element of a list
+pub record TakesEachOnce (columns : List (List Node)) (starts : List NodeId) : Type 0 where
+  pub down : (x y : NodeId) → IsStarted starts x → IsStarted starts y
+      → down_element starts x ≡ down_element starts y → x ≡ y
+  pub right : (x y : NodeId) → IsStarted starts x → IsStarted starts y
+      → right_element columns starts x ≡ right_element columns starts y → x ≡ y
+
+-- each placeholder is taken at most once, in every run
+abbrev pub PlaceholdersAreTakenOnce : Type 0
+PlaceholdersAreTakenOnce =
+    (p : Pipeline) (limit : ℕ) (events : List Event) (s : State) → Run p limit events s
+    → TakesEachOnce (own_columns s) (starts_of events)
+
+-- the left parent is the source of the left edge, where that does not precede the instance above
+abbrev pub LeftParentsAreSources : Type 0
+LeftParentsAreSources =
+    (p : Pipeline) (limit : ℕ) (events : List Event) (s : State) → Run p limit events s
+    → (i j k : ℕ) → i + 1 < length (own_columns s) → suc k < length (nodes_at (own_columns s) (i + 1))
+    → (left_parent (own_columns s) (suc i) (suc k) ≡ Some j)
+    ↔ (CrossEdge (nodes_at (own_columns s) i) (nodes_at (own_columns s) (i + 1)) j (suc k)
+    × (Precedes (own_columns s) (at i j) (at (suc i) k) → ⊥))
+
+-- the left parent of an instance below a head, told by a search of the left column: if it waits it is the place that is
+-- found, where that is after the one that precedes the instance above already, and if it continues there is none
+pub record LeftParentFound (columns : List (List Node)) (i k : ℕ) : Type 0 where
+  pub wait : (j : ℕ) → (node_at (nodes_at columns (i + 1)) (suc k)).kind ≡ Wait
+      → last_up_to (nodes_at columns i) (node_at (nodes_at columns (i + 1)) (suc k)).number ≡ Some j
+      → left_parent columns (suc i) (suc k) ≡ (if nat_lt (joined_at columns i k) j then Some j else None)
+  pub nothing : (node_at (nodes_at columns (i + 1)) (suc k)).kind ≡ Wait
+      → last_up_to (nodes_at columns i) (node_at (nodes_at columns (i + 1)) (suc k)).number ≡ None
+      → left_parent columns (suc i) (suc k) ≡ None
+  pub continue : (node_at (nodes_at columns (i + 1)) (suc k)).kind ≡ Continue
+      → left_parent columns (suc i) (suc k) ≡ None
+
+-- a search of the left column finds the left parent, for any columns
+abbrev pub LeftParentsAreFound : Type 0
+LeftParentsAreFound = (columns : List (List Node)) (i k : ℕ) → LeftParentFound columns i k
+
+-- what an event adds to both logs: two entries for each start, at the end
+pub record AddsEntries (events : List Event) (s : State) (e : Event) : Type 0 where
+  pub down : down_first_log (starts_of (events ++ e ∷ []))
+      ≡ down_first_log (starts_of events)
+      ++ log_entries (down_first_taken (start_number (starts_of events))) (length (starts_of events)) (started_by s e)
+  pub right : right_first_log (own_columns (next_state s e)) (starts_of (events ++ e ∷ []))
+      ≡ right_first_log (own_columns s) (starts_of events)
+      ++ log_entries (right_first_taken (own_columns (next_state s e)) (start_number (starts_of events)))
+      (length (starts_of events)) (started_by s e)
+
+-- the logs of a run grow at their end
+abbrev pub LogsGrowAtTheirEnd : Type 0
+LogsGrowAtTheirEnd =
+    (p : Pipeline) (limit : ℕ) (events : List Event) (s : State) (e : Event) → Run p limit events s
+    → Allowed p limit s e
+    → AddsEntries events s e
+
+-- each entry of both logs of a run names an element that stands already
+abbrev pub LogsNameWhatStands : Type 0
+LogsNameWhatStands =
+    (p : Pipeline) (limit : ℕ) (events : List Event) (s : State) → Run p limit events s
+    → IsLog 1 (down_first_log (starts_of events)) × IsLog 1 (right_first_log (own_columns s) (starts_of events))
+
+-- a longer log changes the order of no two elements that were there
+abbrev pub LongerLogsKeepTheOrder : Type 0
+LongerLogsKeepTheOrder =
+    (log more : List ℕ) (x y : ℕ) → IsLog 1 (log ++ more)
+    → has x (list_of_log log) ≡ true → has y (list_of_log log) ≡ true
+    → StandsBefore (list_of_log (log ++ more)) x y ↔ StandsBefore (list_of_log log) x y
+
+-- one entry more puts the next element right after the element that it names
+pub record InsertsNext (log : List ℕ) (x : ℕ) : Type 0 where
+  pub list : list_of_log (log ++ x ∷ []) ≡ insert_after x (1 + length log) (list_of_log log)
+  pub names : IsLog 1 log → x < 1 + length log → IsLog 1 (log ++ x ∷ [])
+
+-- each entry at the end of a log does so
+abbrev pub EntriesInsertElements : Type 0
+EntriesInsertElements = (log : List ℕ) (x : ℕ) → InsertsNext log x

@@ -1,0 +1,76 @@
+-- Laws of runs: what every run keeps, that it goes on, and that it comes to an end.
+use Rattle.std.specs.Prelude.{List, ℕ, [], suc, ◌∷◌, length, ◌≡◌, ◌+◌, ◌≤◌, ◌<◌, false, ◌≢◌, ◌⊎◌, zero, ◌*◌, ◌↔◌}
+use Rattle.pipe_model.specs.Allowed.{Allowed}
+use Rattle.pipe_model.specs.Columns.{IsRising, nodes_at}
+use Rattle.pipe_model.specs.Pipeline.{Pipeline, IsWellFormed, AlwaysClosesLoop, HasBoundedWork}
+use Rattle.pipe_model.specs.Races.{Among}
+use Rattle.pipe_model.specs.Run.{Run, IsFinished, AllowedFrom, state_from}
+use Rattle.pipe_model.specs.State.{State, own_columns, alive, initial_state}
+use Rattle.pipe_model.specs.declared.access.NodeAccess.{NodeAccess}
+use Rattle.pipe_model.specs.declared.event.Event.{Event}
+use Rattle.pipe_model.specs.declared.event.Event.TheVariants.{Begin, Access, Advance, Enter, Finish, Stop}
+
+-- how many iterations have begun
+abbrev pub begun : List Event → ℕ
+begun [] = 0
+begun (Begin i ∷ es) = suc (begun es)
+begun (Access i a ∷ es) = begun es
+begun (Advance i k n ∷ es) = begun es
+begun (Enter i ∷ es) = begun es
+begun (Finish i e ∷ es) = begun es
+begun (Stop ∷ es) = begun es
+
+-- how many iterations have ended
+abbrev pub finished : List Event → ℕ
+finished [] = 0
+finished (Begin i ∷ es) = finished es
+finished (Access i a ∷ es) = finished es
+finished (Advance i k n ∷ es) = finished es
+finished (Enter i ∷ es) = finished es
+finished (Finish i e ∷ es) = suc (finished es)
+finished (Stop ∷ es) = finished es
+
+-- what every run keeps: iterations have begun, are alive or have ended; at most `limit` are alive; the stage numbers of
+-- an iteration rise; and each access is made by an instance of the run
+pub record KeepsRules (limit : ℕ) (events : List Event) (s : State) : Type 0 where
+  pub columns : begun events ≡ length (own_columns s)
+  pub counted : begun events ≡ finished events + alive s
+  pub throttled : begun events ≤ finished events + limit
+  pub rising : (i : ℕ) → IsRising (nodes_at (own_columns s) i)
+  pub inside : (x : NodeAccess) → Among x s.accesses
+      → x.node.index < length (nodes_at (own_columns s) x.node.iteration)
+
+-- every run keeps the rules
+abbrev pub RunsKeepRules : Type 0
+RunsKeepRules =
+    (p : Pipeline) (limit : ℕ) (events : List Event) (s : State) → Run p limit events s
+    → KeepsRules limit events s
+
+-- a run is told from the front as well, and its state is what the events make
+abbrev pub RunsFromTheFront : Type 0
+RunsFromTheFront =
+    (p : Pipeline) (limit : ℕ) (events : List Event) (s : State)
+    → Run p limit events s ↔ (AllowedFrom p limit initial_state events × (s ≡ state_from initial_state events))
+
+-- a run that is neither finished nor stopped goes on, with an event other than a stop
+abbrev pub RunsNeverStick : Type 0
+RunsNeverStick =
+    (p : Pipeline) (limit : ℕ) (events : List Event) (s : State) → Run p limit events s
+    → IsWellFormed p → 0 < limit → s.stopped ≡ false
+    → IsFinished s ⊎ ((e : Event) × (e ≢ Stop) × Allowed p limit s e)
+
+-- the sum of a function below a number
+abbrev pub sum_below : (ℕ → ℕ) → ℕ → ℕ
+sum_below f zero = 0
+sum_below f (suc n) = sum_below f n + f n
+
+-- where iteration i makes at most `more i` further instances of at most `each` accesses each, a run that was not stopped
+-- has at most this many events, and no iteration after the one that always closes the loop
+abbrev pub RunsAreBounded : Type 0
+RunsAreBounded =
+    (p : Pipeline) (limit each : ℕ) (more : ℕ → ℕ) (events : List Event) (s : State) → Run p limit events s
+    → AlwaysClosesLoop (p.behaviour p.last_iteration)
+    → ((i : ℕ) → HasBoundedWork each each (more i) (p.behaviour i))
+    → s.stopped ≡ false
+    → (length events ≤ sum_below (λ i. (more i + 1) * (each + 2)) (length s.frames))
+    × (length s.frames ≤ p.last_iteration + 1)

@@ -1,0 +1,21 @@
+//! Laws of behaviours: what an iteration does, and the interaction tree of its statements.
+
+ghost use Rattle.run_laws.specs.BehaviourLaws.{BindsAreInterpretedInTurn, InterpretersAreSerial, BehavioursPerform};
+
+/// An interpreter that runs an interaction tree step by step, and answers each read from the accesses so far,
+/// makes the serial trace of the tree's behaviour. So code that is proved against the tree makes the serial elision.
+pub fn interpreters_are_serial()
+    ensures { InterpretersAreSerial }
+{}
+
+/// What a behaviour performs action by action is what it does with the replies that stand in the actions, and
+/// more replies only add actions at the end.
+pub fn behaviours_perform()
+    ensures { BehavioursPerform }
+{}
+
+/// Interpreting one tree and then another, which may use what the first returns, is interpreting the first, and then the
+/// other with what was kept. So an interpreter may be proved statement by statement.
+pub fn binds_are_interpreted_in_turn<A, B>()
+    ensures { BindsAreInterpretedInTurn A B }
+{}

@@ -1,0 +1,48 @@
+//! Worked examples of the definitions, by computation.
+
+ghost use Rattle.run_laws.specs.Examples.{WaitsForTheStageBefore, SkippingStagesAreParallel};
+ghost use Rattle.run_laws.specs.Examples.{RedundantEdgeHasNoParent, WaitsUntilPassed, ListsOfWaitingColumns};
+ghost use Rattle.run_laws.specs.Examples.{ParallelReadIsFound, OrderedReadIsNoRace, SerialEventsOfTwoIterations};
+
+/// An instance that waits in a stage which the left column skips takes its edge from the last stage before it, and from
+/// no other.
+pub fn waits_for_the_stage_before()
+    ensures { WaitsForTheStageBefore }
+{}
+
+/// The stages of the left column after the one that an instance waits for are parallel to it.
+pub fn skipping_stages_are_parallel()
+    ensures { SkippingStagesAreParallel }
+{}
+
+/// An edge whose source precedes the instance above already gives no left parent.
+pub fn redundant_edge_has_no_parent()
+    ensures { RedundantEdgeHasNoParent }
+{}
+
+/// A stage that waits does not enter while its left neighbour runs the stage of that number; once the neighbour has named
+/// a greater one it does.
+pub fn waits_until_passed()
+    ensures { WaitsUntilPassed }
+{}
+
+/// The down-first and the right-first list of two columns with the stages 0 and 1, both of which wait, started head by
+/// head.
+pub fn lists_of_waiting_columns()
+    ensures { ListsOfWaitingColumns }
+{}
+
+/// The history of a cell finds a read that is parallel to an earlier write.
+pub fn parallel_read_is_found()
+    ensures { ParallelReadIsFound }
+{}
+
+/// It finds nothing where the write precedes the read.
+pub fn ordered_read_is_no_race()
+    ensures { OrderedReadIsNoRace }
+{}
+
+/// The serial elision of a pipeline of two iterations, as a list of events.
+pub fn serial_events_of_two_iterations()
+    ensures { SerialEventsOfTwoIterations }
+{}

@@ -1,0 +1,60 @@
+//! Laws of the two orders in which the detector keeps the instances of a run.
+
+ghost use Rattle.run_laws.specs.OrderLaws.{LeftParentsAreFound, EntriesInsertElements, StartedNodesAreOwnNodes};
+ghost use Rattle.run_laws.specs.OrderLaws.{BothOrdersOfStarts, BothOrdersArePrecedes, PlaceholdersAreTakenOnce};
+ghost use Rattle.run_laws.specs.OrderLaws.{LeftParentsAreSources, LogsGrowAtTheirEnd, LogsNameWhatStands};
+ghost use Rattle.run_laws.specs.OrderLaws.{LongerLogsKeepTheOrder};
+
+/// The events of a run start the instances of its own columns, each once, and each after all that have an edge to it.
+pub fn started_nodes_are_own_nodes()
+    ensures { StartedNodesAreOwnNodes }
+{}
+
+/// For any columns, and any list of starts that respects their edges: one started instance comes before another in
+/// both lists exactly where it precedes it in the dag.
+pub fn both_orders_of_starts()
+    ensures { BothOrdersOfStarts }
+{}
+
+/// In every run, one instance comes before another in both lists exactly where it precedes it in the run's own dag.
+pub fn both_orders_are_precedes()
+    ensures { BothOrdersArePrecedes }
+{}
+
+/// In every run, no two instances take one element of a list.
+pub fn placeholders_are_taken_once()
+    ensures { PlaceholdersAreTakenOnce }
+{}
+
+/// In every run, the left parent of an instance is the source of the edge from the column to its left, and there is
+/// none where that source precedes the instance above already.
+pub fn left_parents_are_sources()
+    ensures { LeftParentsAreSources }
+{}
+
+/// The left parent of an instance that waits is the place that a search of the left column finds, where that is after the
+/// place which precedes the instance above already. An instance that continues without waiting has none.
+pub fn left_parents_are_found()
+    ensures { LeftParentsAreFound }
+{}
+
+/// Each event of a run adds two entries at the end of both insertion logs for the instance that it starts, and
+/// nothing where it starts none.
+pub fn logs_grow_at_their_end()
+    ensures { LogsGrowAtTheirEnd }
+{}
+
+/// In every run, each entry of both insertion logs names an element that stands already.
+pub fn logs_name_what_stands()
+    ensures { LogsNameWhatStands }
+{}
+
+/// A longer insertion log changes the order of no two elements that were there.
+pub fn longer_logs_keep_the_order()
+    ensures { LongerLogsKeepTheOrder }
+{}
+
+/// One entry more at the end of an insertion log puts the next element right after the one that it names.
+pub fn entries_insert_elements()
+    ensures { EntriesInsertElements }
+{}

@@ -1,0 +1,28 @@
+//! Laws of runs: lists of events, each allowed after those before it.
+
+ghost use Rattle.run_laws.specs.RunLaws.{RunsKeepRules, RunsFromTheFront, RunsNeverStick, RunsAreBounded};
+
+/// In every run the iterations that have begun are those that have ended and those that are alive, at most `limit`
+/// are alive, the stage numbers of an iteration rise, and each access is made by an instance that was started.
+pub fn runs_keep_rules()
+    ensures { RunsKeepRules }
+{}
+
+/// A run is told from the front as well: each event is allowed in the state that the events before it make, and the
+/// run leads to the state that its events make.
+pub fn runs_from_the_front()
+    ensures { RunsFromTheFront }
+{}
+
+/// A run of a well-formed pipeline, with a limit of at least 1, that is neither finished nor stopped goes on: an event
+/// other than a stop is allowed.
+pub fn runs_never_stick()
+    ensures { RunsNeverStick }
+{}
+
+/// A run that was not stopped comes to an end. Where iteration i makes at most `more i` further instances with at
+/// most `each` accesses each, it has at most (`more i` + 1) * (`each` + 2) events, and no iteration follows the one
+/// that always closes the loop.
+pub fn runs_are_bounded()
+    ensures { RunsAreBounded }
+{}

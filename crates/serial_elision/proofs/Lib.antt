@@ -1,0 +1,10 @@
+pub mod Cells
+pub mod Scopes
+pub mod Ranges
+pub mod Performing
+pub mod Expressions
+pub mod Statements
+pub mod Traces
+pub mod Elided
+pub mod Iterations
+pub mod FirstForm

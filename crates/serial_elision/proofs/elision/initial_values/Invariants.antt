@@ -1,0 +1,6 @@
+use Rattle.std.proofs.Common.{◌≡◌, ◌∷◌, pos, take}
+use Rattle.pipe_model.specs.Programs.{declared_values}
+use Rattle.serial_elision.proofs.elision.initial_values.Given as goal
+
+abbrev pub invariant-loop-declaration : goal.invariant-loop-declaration
+invariant-loop-declaration l = l.values.items ≡ pos 0 ∷ (pos 0 ∷ declared_values (take l.declaration-index l.cells))

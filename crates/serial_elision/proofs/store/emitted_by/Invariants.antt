@@ -1,0 +1,7 @@
+use Rattle.std.proofs.Common.{◌≡◌, take}
+use Rattle.pipe_model.specs.State.{accesses_of}
+use Rattle.pipe_model.specs.Store.{written}
+use Rattle.serial_elision.proofs.store.emitted_by.Given as goal
+
+abbrev pub invariant-loop-made : goal.invariant-loop-made
+invariant-loop-made l = l.output ≡ written 1 (accesses_of (take l.made-index l.accesses))

@@ -1,0 +1,37 @@
+-- What iterations come to, told by what is kept at their end, and how the elision's columns, trap and accesses grow with them.
+use Rattle.std.specs.Prelude.{◌≡◌, ℕ, ◌-◌, ◌&&◌, ◌==◌, ◌++◌, List, Bool, Option, Some, None, length, map}
+use Rattle.pipe_model.specs.declared.access.NodeAccess.{NodeAccess}
+use Rattle.pipe_model.specs.declared.column.Column.{Column}
+use Rattle.pipe_model.specs.declared.column.ColumnEnd.{ColumnEnd}
+use Rattle.pipe_model.specs.declared.column.ColumnEnd.TheVariants as ends
+use Rattle.pipe_model.specs.declared.node.Node.{Node}
+use Rattle.pipe_model.specs.declared.trap.TrapAt.{TrapAt}
+use Rattle.pipe_model.specs.declared.trap.TrapPlace.TheVariants.{At}
+use Rattle.pipe_model.specs.Behaviour.{is_closing}
+use Rattle.pipe_model.specs.Columns.{at}
+use Rattle.pipe_model.specs.Outcome.{ended_column, first_of_both, first_trap, serial_ended_columns, serial_trap}
+use Rattle.pipe_model.specs.Pipeline.{Pipeline}
+use Rattle.pipe_model.specs.SerialElision.{located_from, serial_accesses, serial_traces_from}
+use Rattle.pipe_model.specs.State.{accesses_of}
+use Rattle.serial_elision.specs.Kept.{Kept, Ran, end_of, kept_of, position_of}
+
+-- the iteration ends so, and this is kept
+pub record IsEnd (e : ColumnEnd) (k : Kept) (ran : Ran ColumnEnd) : Type 0 where
+  pub ended : end_of ran ≡ e
+  pub kept : kept_of ran ≡ k
+
+-- the trap of iteration i, which had these instances and ended so
+abbrev pub trap_in : ℕ → List Node → ColumnEnd → Option TrapAt
+trap_in i nodes ends.End = None
+trap_in i nodes ends.Closed = None
+trap_in i nodes (ends.Trapped t) = Some (record { place = At (at i (length nodes - 1)) (position_of nodes).number; trap = t })
+
+-- an iteration that had these instances and ended so closes the loop
+abbrev pub is_last : List Node → ColumnEnd → Bool
+is_last nodes e = is_closing e && (length nodes == 1)
+
+-- with the iterations from i on, at most so many, these are the columns, the trap and the accesses of the serial elision
+pub record AreElided (p : Pipeline) (most i : ℕ) (columns : List Column) (trap : Option TrapAt) (accesses : List NodeAccess) : Type 0 where
+  pub all_columns : columns ++ map ended_column (serial_traces_from p most i (accesses_of accesses)) ≡ serial_ended_columns p
+  pub least_trap : first_of_both trap (first_trap i (serial_traces_from p most i (accesses_of accesses))) ≡ serial_trap p
+  pub all_accesses : accesses ++ located_from i (serial_traces_from p most i (accesses_of accesses)) ≡ serial_accesses p

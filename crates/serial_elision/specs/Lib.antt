@@ -1,0 +1,6 @@
+pub mod Kept
+pub mod Runnable
+pub mod Answers
+pub mod Scope
+pub mod Caching
+pub mod Elided

@@ -1,0 +1,12 @@
+//! The serial elision of a program: its iterations one after the other, by recursion over its tree.
+#![tactic(auto)]
+
+pub mod elision;
+mod halt;
+mod locals;
+mod place;
+mod statement;
+mod store;
+#[cfg(test)]
+mod tests;
+mod value;
