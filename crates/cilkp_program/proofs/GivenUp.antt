@@ -1,5 +1,5 @@
 -- What stands in a sink that took no more.
-use Rattle.std.proofs.Common.{◌≡◌, ◌≢◌, ◌≤◌, ◌<◌, ◌↔◌, ℕ, List, length, Option, inr, arith}
+use Rattle.std.proofs.Common.{◌≡◌, ◌≢◌, ◌≤◌, ◌↔◌, ℕ, List, length, Option, inr, arith}
 use Rattle.cilkp_program.specs.Answers.{IsAnswer, IsCutShort, IsGivenUp, HasTaken}
 use Rattle.cilkp_program.specs.Reads.{Content}
 use Rattle.cilkp_program.specs.declared.whole.WriteEnd.{WriteEnd}

@@ -3,3 +3,4 @@ pub mod Loading
 pub mod TextLines
 pub mod RowOfCall
 pub mod GivenUp
+pub mod OneRow

@@ -1,9 +1,8 @@
 -- What the reading of a whole file tells of a source and of an input.
-use Rattle.std.proofs.Common.{◌≡◌, ◌≢◌, ◌∙◌, ◌<◌, ℕ, List, [], ◌∷◌, length, Option, Some, None, IfSome, refl, ap, sym, arith}
+use Rattle.std.proofs.Common.{◌≡◌, ◌<◌, ℕ, List, [], length, Option, Some, None, IfSome, refl, ap, sym, arith}
 use Rattle.std.proofs.lemmas.List.{nil_from_length}
-use Rattle.pipe_model.specs.SyntaxTree.{SyntaxTree, tree_of}
+use Rattle.pipe_model.specs.SyntaxTree.{SyntaxTree}
 use Rattle.pipe_model.specs.Texts.{refused_missing, refused_source, refused_input}
-use Rattle.pipe_model.specs.declared.tree.Program.{Program}
 use Rattle.cilkp_program.specs.declared.whole.Whole.TheVariants as whole
 use Rattle.cilkp_program.specs.Reads.{Content}
 use Rattle.cilkp_program.specs.Rows.{InputRefusal, InputMissing, InputNotEmpty, IsBuilt, IsSourceOf, SourceRefusal, SourceMissing, SourceNotBuilt}

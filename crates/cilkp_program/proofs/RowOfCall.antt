@@ -1,14 +1,14 @@
 -- Which row a call has.
-use Rattle.std.proofs.Common.{◌≡◌, ◌≢◌, ◌≤◌, ◌<◌, ◌∙◌, ℕ, ℤ, true, false, List, [], ◌∷◌, ◌++◌, length, get_or, Option, Some, None, Result, Ok, Err, IfOk, IfSome, refl, ap, sym, arith, append-nil}
-use Rattle.std.specs.Prelude.{String, string_bytes, codes}
+use Rattle.std.proofs.Common.{◌≡◌, ◌≢◌, ◌≤◌, ◌∙◌, ℕ, ℤ, true, false, List, [], ◌∷◌, ◌++◌, length, get_or, Option, Some, None, Result, Ok, Err, IfOk, IfSome, refl, ap, sym, arith, append-nil}
+use Rattle.std.specs.Prelude.{String, string_bytes}
 use Rattle.std.specs.declared.alloc.Global.{Global}
 use Rattle.pipe_model.specs.declared.trap.TrapAt.{TrapAt}
 use Rattle.pipe_model.specs.Outcome.{serial_output}
 use Rattle.pipe_model.specs.Programs.{pipeline_of}
 use Rattle.pipe_model.specs.SyntaxTree.{SyntaxTree}
-use Rattle.pipe_model.specs.Texts.{fault_read, output_lines, refused_usage, trap_line, trap_lines}
+use Rattle.pipe_model.specs.Texts.{fault_read, output_lines, refused_usage, trap_lines}
 use Rattle.cilkp_program.specs.Answers.{IsAnswer, OfRow, SourceFault, InputFault}
-use Rattle.cilkp_program.specs.Faults.{CountsFault, Rose}
+use Rattle.cilkp_program.specs.Faults.{CountsFault}
 use Rattle.cilkp_program.specs.Reads.{Content}
 use Rattle.cilkp_program.specs.declared.call.Answer.{Answer}
 use Rattle.pipe_model.specs.declared.memory.NoMemory.{NoMemory}
@@ -92,6 +92,7 @@ answer_of_run words holds later before mid now source input text status tree w k
     small : {status : ℕ} {text : List ℕ} → Outcome tree status text → status ≤ 3
     small (Finishes e) = omega arith
     small (Traps t e) = omega arith
+
     row : (holds : Option Content) → IfSome holds (λ content. IsSourceOf content source tree) → IfSome holds (λ content. content input ≡ Some [])
         → IfSome holds (λ content. Row words content status text)
     row None o h = h

@@ -7,3 +7,4 @@ pub mod Wholes
 pub mod Rows
 pub mod Answers
 pub mod Loads
+pub mod RowLaws

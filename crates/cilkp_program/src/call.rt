@@ -102,11 +102,7 @@ fn read_fault(alloc: Global, name: &str) -> Result<Answer, NoMemory>
 }
 
 // What a call with these words is to print.
-fn answer_for<F: Files>(
-    alloc: Global,
-    words: &[String],
-    files: &mut F,
-) -> Result<Answer, NoMemory>
+fn answer_for<F: Files>(alloc: Global, words: &[String], files: &mut F) -> Result<Answer, NoMemory>
     ensures keeps { F.holds files.new ≡ F.holds files.old }
     ensures grows { OnErr result (F.faults files.old ≤ F.faults files.new) }
     ensures answer { IfOk result (λ a. IsAnswer (words_of words.now) (F.holds files.old)

@@ -7,14 +7,15 @@ pub mod fault_count;
 pub mod fault_plan;
 pub mod files;
 pub mod gate;
+pub mod law;
 pub mod load;
 pub mod mem_files;
 pub mod mem_sink;
 pub mod real;
 pub mod sink;
-pub mod text;
 #[cfg(test)]
 mod tests;
+pub mod text;
 pub mod whole;
 
 use crate::call::{Ended, cilkp};

@@ -1,10 +1,7 @@
-//! Laws of the language's definitions, each the contract of a function with an empty body.
+//! Laws of the language's definitions, and worked examples: each function has an empty body, and its contract is the
+//! law or the example.
 #![tactic(auto)]
 
-ghost use Rattle.language_laws.specs.ProgramLaws.{ProgramsAreWellFormed};
-
-/// Stage numbers of a program's iterations rise, only an instance 0 closes the loop, and the iteration after the last
-/// that is allowed always closes it.
-pub fn programs_are_well_formed()
-    ensures { ProgramsAreWellFormed }
-{}
+pub mod examples;
+pub mod programs;
+pub mod spelling;

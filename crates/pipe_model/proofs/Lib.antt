@@ -1,3 +1,4 @@
 pub mod Divisions
 pub mod Reading
 pub mod ProgramReading
+pub mod OneSpelling

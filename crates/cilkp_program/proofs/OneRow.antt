@@ -1,0 +1,84 @@
+-- A call has one row of the table.
+use Rattle.std.proofs.Common.{◌≡◌, ◌∙◌, ℕ, List, [], ◌++◌, Option, Some, None, refl, ap, sym}
+use Rattle.pipe_model.specs.SyntaxTree.{SyntaxTree}
+use Rattle.pipe_model.specs.Texts.{trap_line}
+use Rattle.pipe_model.proofs.OneSpelling.{one_spelling}
+use Rattle.cilkp_program.specs.Reads.{Content}
+use Rattle.cilkp_program.specs.Rows.{run_words, IsSourceOf, SourceRefusal, SourceMissing, SourceNotBuilt, InputRefusal, InputMissing, InputNotEmpty, Outcome, Finishes, Traps, output_text, Row, NoCommand, SourceRefused, InputRefused, Runs}
+
+-- a status and a text are the same as others
+abbrev pub AreSame : (status other : ℕ) (text other_text : List ℕ) → Type 0
+AreSame status other text other_text = (status ≡ other) × (text ≡ other_text)
+
+-- a file is not both missing and there
+missing_not_held : (file : Option (List ℕ)) (bytes : List ℕ) → file ≡ None → file ≡ Some bytes → ⊥
+missing_not_held file bytes m h = let e : None ≡ Some bytes = sym m ∙ h in cc (e)
+
+-- what is held is one
+one_held : (file : Option (List ℕ)) (bytes others : List ℕ) → file ≡ Some bytes → file ≡ Some others → bytes ≡ others
+one_held file bytes others h g = let e : Some bytes ≡ Some others = sym h ∙ g in cc (e)
+
+-- a source has one line of refusal
+one_source_refusal : {content : Content} {name text other : List ℕ} → SourceRefusal content name text → SourceRefusal content name other → text ≡ other
+one_source_refusal (SourceMissing m) (SourceMissing m') = refl
+one_source_refusal (SourceMissing m) (SourceNotBuilt bytes h n) = absurd (missing_not_held _ bytes m h)
+one_source_refusal (SourceNotBuilt bytes h n) (SourceMissing m) = absurd (missing_not_held _ bytes m h)
+one_source_refusal (SourceNotBuilt bytes h n) (SourceNotBuilt bytes' h' n') = refl
+
+-- a source that is refused is no source of a program
+refused_not_built : {content : Content} {name text : List ℕ} (tree : SyntaxTree) → SourceRefusal content name text → IsSourceOf content name tree → ⊥
+refused_not_built tree (SourceMissing m) s = missing_not_held _ s.bytes m s.held
+refused_not_built tree (SourceNotBuilt bytes h n) s = n tree (rw (one_held _ bytes s.bytes h s.held) s.built)
+
+-- an input has one line of refusal
+one_input_refusal : {content : Content} {name text other : List ℕ} → InputRefusal content name text → InputRefusal content name other → text ≡ other
+one_input_refusal (InputMissing m) (InputMissing m') = refl
+one_input_refusal (InputMissing m) (InputNotEmpty bytes h n) = absurd (missing_not_held _ bytes m h)
+one_input_refusal (InputNotEmpty bytes h n) (InputMissing m) = absurd (missing_not_held _ bytes m h)
+one_input_refusal (InputNotEmpty bytes h n) (InputNotEmpty bytes' h' n') = refl
+
+-- an input that is refused is not the empty file
+refused_not_empty : {content : Content} {name text : List ℕ} → InputRefusal content name text → content name ≡ Some [] → ⊥
+refused_not_empty (InputMissing m) e = missing_not_held _ [] m e
+refused_not_empty (InputNotEmpty bytes h n) e = n (one_held _ bytes [] h e)
+
+-- a file is the source of one program
+one_source : {content : Content} {name : List ℕ} (tree other : SyntaxTree) → IsSourceOf content name tree → IsSourceOf content name other → tree ≡ other
+one_source tree other s o =
+    let same : o.bytes ≡ s.bytes = one_held _ o.bytes s.bytes o.held s.held in
+    one_spelling s.bytes tree other s.built.form.spelled (rw same at o.built.form.spelled)
+
+-- a program comes to one outcome
+one_outcome : {tree : SyntaxTree} {status other : ℕ} {text other_text : List ℕ} → Outcome tree status text → Outcome tree other other_text → AreSame status other text other_text
+one_outcome (Finishes e) (Finishes e') = (refl, refl)
+one_outcome (Finishes e) (Traps t e') = absurd (let d : None ≡ Some t = sym e ∙ e' in cc (d))
+one_outcome (Traps t e) (Finishes e') = absurd (let d : None ≡ Some t = sym e' ∙ e in cc (d))
+one_outcome {tree} (Traps t e) (Traps t' e') = (refl, let d : Some t ≡ Some t' = sym e ∙ e' in let same : t ≡ t' = cc (d) in ap (λ x. output_text tree ++ trap_line x) same)
+
+-- the words name one source, and one input
+sources_same : (words : List (List ℕ)) (source source' input input' : List ℕ) → words ≡ run_words source input → words ≡ run_words source' input' → source ≡ source'
+sources_same words source source' input input' w w' = let e : run_words source input ≡ run_words source' input' = sym w ∙ w' in cc (e)
+
+inputs_same : (words : List (List ℕ)) (source source' input input' : List ℕ) → words ≡ run_words source input → words ≡ run_words source' input' → input ≡ input'
+inputs_same words source source' input input' w w' = let e : run_words source input ≡ run_words source' input' = sym w ∙ w' in cc (e)
+
+-- two rows of a call are one
+pub one_row : {words : List (List ℕ)} {content : Content} {status other : ℕ} {text other_text : List ℕ} → Row words content status text → Row words content other other_text
+    → AreSame status other text other_text
+one_row (NoCommand n) (NoCommand n') = (refl, refl)
+one_row (NoCommand n) (SourceRefused s i w r) = absurd (n s i w)
+one_row (NoCommand n) (InputRefused s i tree w o r) = absurd (n s i w)
+one_row (NoCommand n) (Runs s i tree w o e r) = absurd (n s i w)
+one_row (SourceRefused s i w r) (NoCommand n) = absurd (n s i w)
+one_row (SourceRefused s i w r) (SourceRefused s' i' w' r') = (refl, one_source_refusal r (rw (sources_same _ s s' i i' w w') r'))
+one_row (SourceRefused s i w r) (InputRefused s' i' tree w' o r') = absurd (refused_not_built tree r (rw (sources_same _ s s' i i' w w') o))
+one_row (SourceRefused s i w r) (Runs s' i' tree w' o e r') = absurd (refused_not_built tree r (rw (sources_same _ s s' i i' w w') o))
+one_row (InputRefused s i tree w o r) (NoCommand n) = absurd (n s i w)
+one_row (InputRefused s i tree w o r) (SourceRefused s' i' w' r') = absurd (refused_not_built tree r' (rw (sources_same _ s' s i' i w' w) o))
+one_row (InputRefused s i tree w o r) (InputRefused s' i' tree' w' o' r') = (refl, one_input_refusal r (rw (inputs_same _ s s' i i' w w') r'))
+one_row (InputRefused s i tree w o r) (Runs s' i' tree' w' o' e r') = absurd (refused_not_empty r (rw (inputs_same _ s s' i i' w w') e))
+one_row (Runs s i tree w o e r) (NoCommand n) = absurd (n s i w)
+one_row (Runs s i tree w o e r) (SourceRefused s' i' w' r') = absurd (refused_not_built tree r' (rw (sources_same _ s' s i' i w' w) o))
+one_row (Runs s i tree w o e r) (InputRefused s' i' tree' w' o' r') = absurd (refused_not_empty r' (rw (inputs_same _ s' s i' i w' w) e))
+one_row (Runs s i tree w o e r) (Runs s' i' tree' w' o' e' r') =
+    one_outcome r (rw (one_source tree tree' o (rw (sources_same _ s s' i i' w w') o')) r')
