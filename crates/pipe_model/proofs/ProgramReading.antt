@@ -87,7 +87,8 @@ pub record TookCells (ts : List Symbol) (ds : List Declaration) (rest : List Sym
   pub split : ts ≡ taken ++ rest
   pub derived : DerivesCells taken ds
 
-took_one_more : {ts mid rest : List Symbol} {d : Declaration} {ds : List Declaration} → ReadsCell ts d mid → TookCells mid ds rest → TookCells (word_cell ∷ ts) (d ∷ ds) rest
+took_one_more : {ts mid rest : List Symbol} {d : Declaration} {ds : List Declaration} → ReadsCell ts d mid → TookCells mid ds rest
+    → TookCells (word_cell ∷ ts) (d ∷ ds) rest
 took_one_more (ReadsPlain name value mid) t = record {
   taken = word_cell ∷ symbols.Name name ∷ equals ∷ symbols.Number value ∷ semicolon ∷ t.taken;
   split = ap (λ x. word_cell ∷ symbols.Name name ∷ equals ∷ symbols.Number value ∷ semicolon ∷ x) t.split;
@@ -115,7 +116,8 @@ sound_program {longest} {p = p} (ReadsAll {cs} {ts} {us} iterations stages steps
     let t = sound_cells c in
     let u = sound_closed e in
     let v = sound_block b in
-    subst (λ x. DerivesProgram longest x p) (sym (program_symbols (limits_symbols iterations stages steps emits) t.taken u.taken v.taken cs ts us t.split u.split v.split))
+    subst (λ x. DerivesProgram longest x p) (sym (program_symbols (limits_symbols iterations stages steps emits)
+      t.taken u.taken v.taken cs ts us t.split u.split v.split))
     (ProgramIs iterations stages steps emits t.derived u.whole v.derived)
 
 -- ---- what is derived is read
@@ -126,7 +128,8 @@ found_here : {longest : ℕ} (sign : ℕ) (ts close rest : List Symbol) {e : Exp
 found_here {longest} sign ts close rest {e} d =
     subst (λ x. ReadsClosed longest sign x e (close ++ rest)) (sym (append_assoc ts (symbols.Sign sign ∷ close) rest)) (found_closed sign (close ++ rest) d)
 
-pub found_statement : {longest : ℕ} {ts : List Symbol} {s : Statement} (rest : List Symbol) → DerivesStatement longest ts s → ReadsStatement longest (ts ++ rest) s rest
+pub found_statement : {longest : ℕ} {ts : List Symbol} {s : Statement} (rest : List Symbol) → DerivesStatement longest ts s
+    → ReadsStatement longest (ts ++ rest) s rest
 found_statement rest (LetIs {ts} name d) = ReadsLet name (found_here 59 ts [] rest d)
 found_statement rest (AssignIs {ts} name d) = ReadsAssign name (found_here 59 ts [] rest d)
 found_statement rest (EmitIs {ts} d) = ReadsEmit (found_here 59 ts [] rest d)
@@ -142,7 +145,8 @@ found_block {longest} rest (OneMore {ts} {us} {s} {ss} d ds) =
     subst (λ x. ReadsBlock longest x (Then s ss) rest) (sym (append_assoc ts us (close_brace ∷ rest)))
     (ReadsOneMore (found_statement (us ++ close_brace ∷ rest) d) (found_block rest ds))
 
-pub found_cells : {ts : List Symbol} {ds : List Declaration} (rest : List Symbol) → ((behind : List Symbol) → rest ≢ word_cell ∷ behind) → DerivesCells ts ds
+pub found_cells : {ts : List Symbol} {ds : List Declaration} (rest : List Symbol) → ((behind : List Symbol) → rest ≢ word_cell ∷ behind)
+    → DerivesCells ts ds
     → ReadsCells (ts ++ rest) ds rest
 found_cells rest h NoCell = ReadsNoCell rest h
 found_cells rest h (CellIs {ts} name value ds) = ReadsCellThen (ReadsPlain name value (ts ++ rest)) (found_cells rest h ds)
@@ -156,7 +160,8 @@ pub found_program : {longest : ℕ} {ts : List Symbol} {p : SyntaxTree} → Deri
 found_program (ProgramIs {cs} {ts} {us} iterations stages steps emits c d b) =
     let inside = us ++ close_brace ∷ [] in
     let test = ts ++ close_round ∷ open_brace ∷ inside in
-    ReadsAll iterations stages steps emits (found_cells (word_pipe_while ∷ open_round ∷ test) (no_cell_here (open_round ∷ test)) c) (found_closed 41 (open_brace ∷ inside) d) (found_block [] b)
+    ReadsAll iterations stages steps emits (found_cells (word_pipe_while ∷ open_round ∷ test) (no_cell_here (open_round ∷ test)) c)
+    (found_closed 41 (open_brace ∷ inside) d) (found_block [] b)
 
 -- ---- two readings of the same symbols are one
 
@@ -178,7 +183,8 @@ one_statement (ReadsWait r) (ReadsWait r') = let s = one_closed r r' in record {
 one_statement (ReadsWait r) (ReadsWaitNext rest') = absurd (no_sign r.read)
 one_statement (ReadsWaitNext rest) (ReadsWait r') = absurd (no_sign r'.read)
 one_statement (ReadsWaitNext rest) (ReadsWaitNext rest') = record { tree = refl; left = refl }
-one_statement (ReadsContinue r) (ReadsContinue r') = let s = one_closed r r' in record { tree = ap (Stage kinds.Continue) s.tree; left = (let l = s.left in cc (l)) }
+one_statement (ReadsContinue r) (ReadsContinue r') =
+    let s = one_closed r r' in record { tree = ap (Stage kinds.Continue) s.tree; left = (let l = s.left in cc (l)) }
 one_statement (ReadsContinue r) (ReadsContinueNext rest') = absurd (no_sign r.read)
 one_statement (ReadsContinueNext rest) (ReadsContinue r') = absurd (no_sign r'.read)
 one_statement (ReadsContinueNext rest) (ReadsContinueNext rest') = record { tree = refl; left = refl }
@@ -200,7 +206,8 @@ pub one_cell : {ts rest rest' : List Symbol} {d d' : Declaration} → ReadsCell 
 one_cell (ReadsPlain name value rest) (ReadsPlain name' value' rest') = record { tree = refl; left = refl }
 one_cell (ReadsNegative name size rest) (ReadsNegative name' size' rest') = record { tree = refl; left = refl }
 
-pub one_cells : {ts rest rest' : List Symbol} {ds ds' : List Declaration} → ReadsCells ts ds rest → ReadsCells ts ds' rest' → SameRead (List Declaration) ds ds' rest rest'
+pub one_cells : {ts rest rest' : List Symbol} {ds ds' : List Declaration} → ReadsCells ts ds rest → ReadsCells ts ds' rest'
+    → SameRead (List Declaration) ds ds' rest rest'
 one_cells (ReadsNoCell ts h) (ReadsNoCell ts' h') = record { tree = refl; left = refl }
 one_cells (ReadsNoCell ts h) (ReadsCellThen {ts = us} r rs) = absurd (h us refl)
 one_cells (ReadsCellThen {ts = us} r rs) (ReadsNoCell ts h) = absurd (h us refl)

@@ -18,7 +18,8 @@ record Extended (rank : ℕ) (left ts : List Symbol) (e : Expression) (rest : Li
   split : ts ≡ taken ++ rest
   derived : Derives (suc rank) (left ++ taken) e
 
-chained : {rank : ℕ} {a e : Expression} (ts mid rest : List Symbol) → (t : Took rank ts a mid) → Extended rank t.taken mid e rest → Took (suc rank) ts e rest
+chained : {rank : ℕ} {a e : Expression} (ts mid rest : List Symbol) → (t : Took rank ts a mid) → Extended rank t.taken mid e rest
+    → Took (suc rank) ts e rest
 chained ts mid rest t w = record {
   taken = t.taken ++ w.taken;
   split = t.split ∙ ap (λ x. t.taken ++ x) w.split ∙ sym (append_assoc t.taken w.taken rest);
@@ -54,7 +55,8 @@ Loose rank rest = (k : ℕ) → k < rank → next_rank rest ≢ suc k
 -- what is derived is read, whatever follows that is no operator of a tighter rank, and is extended by what follows
 abbrev Found : ℕ → List Symbol → Expression → Type 0
 Found zero ts e = (rest : List Symbol) → Reads 0 (ts ++ rest) e rest
-Found (suc rank) ts e = (rest : List Symbol) (whole : Expression) (end : List Symbol) → Loose rank rest → Extends rank e rest whole end → Reads (suc rank) (ts ++ rest) whole end
+Found (suc rank) ts e =
+    (rest : List Symbol) (whole : Expression) (end : List Symbol) → Loose rank rest → Extends rank e rest whole end → Reads (suc rank) (ts ++ rest) whole end
 
 found_alone : (rank : ℕ) (ts : List Symbol) (e : Expression) → Found rank ts e → (rest : List Symbol) → Loose rank rest → Reads rank (ts ++ rest) e rest
 found_alone zero ts e f rest h = f rest
@@ -87,12 +89,14 @@ pub moved : (rank : ℕ) {a a' e : Expression} {ts ts' rest : List Symbol} → a
 moved rank {a = a} {e = e} {ts' = ts'} {rest = rest} h i g = subst (λ x. Extends rank a x e rest) (sym i) (subst (λ x. Extends rank x ts' e rest) (sym h) g)
 
 mutual
-  pub one_reading : {rank : ℕ} {ts rest rest' : List Symbol} {e e' : Expression} → Reads rank ts e rest → Reads rank ts e' rest' → SameReading e e' rest rest'
+  pub one_reading : {rank : ℕ} {ts rest rest' : List Symbol} {e e' : Expression} → Reads rank ts e rest → Reads rank ts e' rest'
+      → SameReading e e' rest rest'
   one_reading (ReadsNumeral n rest) (ReadsNumeral m rest') = record { tree = refl; left = refl }
   one_reading (ReadsName name rest) (ReadsName other rest') = record { tree = refl; left = refl }
   one_reading (ReadsChain {rank} r g) (ReadsChain r' g') = let s = one_reading r r' in one_extension g (moved rank s.tree s.left g')
 
-  one_extension : {rank : ℕ} {ts rest rest' : List Symbol} {a e e' : Expression} → Extends rank a ts e rest → Extends rank a ts e' rest' → SameReading e e' rest rest'
+  one_extension : {rank : ℕ} {ts rest rest' : List Symbol} {a e e' : Expression} → Extends rank a ts e rest → Extends rank a ts e' rest'
+      → SameReading e e' rest rest'
   one_extension (Ends ts h) (Ends ts' h') = record { tree = refl; left = refl }
   one_extension (Ends ts h) (Joins code h' r g) = absurd (h h')
   one_extension (Joins code h r g) (Ends ts h') = absurd (h' h)
@@ -118,6 +122,7 @@ found_closed {longest} {ts} {e} sign rest d =
     let many : length (ts ++ symbols.Sign sign ∷ rest) ≡ length ts + length (symbols.Sign sign ∷ rest) = length-append ts (symbols.Sign sign ∷ rest) in
     record { read = found_before_sign sign rest d.derived; short = omega (arith, many, d.short) }
 
-pub one_closed : {longest sign : ℕ} {ts rest rest' : List Symbol} {e e' : Expression} → ReadsClosed longest sign ts e rest → ReadsClosed longest sign ts e' rest'
+pub one_closed : {longest sign : ℕ} {ts rest rest' : List Symbol} {e e' : Expression} → ReadsClosed longest sign ts e rest
+    → ReadsClosed longest sign ts e' rest'
     → SameReading e e' rest rest'
 one_closed r r' = let s = one_reading r.read r'.read in record { tree = s.tree; left = cc (s.left) }

@@ -1,5 +1,5 @@
 -- Reading: what a reader takes from the front of the symbols and what it leaves. The grammar says which symbols derive a
--- tree; this says where each part ends, by the symbol that stands behind it. Both agree (proofs/ReadingLaws, proofs/ProgramReading).
+-- tree; this says where each part ends, by the symbol that stands behind it. Both agree (proofs/Reading, proofs/ProgramReading).
 use Rattle.std.specs.Prelude.{◌≡◌, ◌≢◌, ◌≤◌, ◌+◌, ℕ, suc, ℤ, pos, List, [], ◌∷◌, ◌++◌, length}
 use Rattle.std.proofs.Math.IntN.{neg_ℤ}
 use Rattle.pipe_model.specs.declared.node.Kind.TheVariants as kinds
@@ -37,7 +37,7 @@ pub record ReadsClosed (longest sign : ℕ) (ts : List Symbol) (e : Expression) 
   pub read : Reads 6 ts e (symbols.Sign sign ∷ rest)
   pub short : length ts ≤ length (symbols.Sign sign ∷ rest) + longest
 
--- a statement
+-- a statement; the sign 59 is `;`, and 41 is `)`
 pub data ReadsStatement (longest : ℕ) : List Symbol → Statement → List Symbol → Type 0 where
   ReadsLet : {ts rest : List Symbol} {e : Expression} (name : List ℕ) → ReadsClosed longest 59 ts e rest
       → ReadsStatement longest (word_let ∷ symbols.Name name ∷ equals ∷ ts) (Let name e) rest
@@ -49,7 +49,8 @@ pub data ReadsStatement (longest : ℕ) : List Symbol → Statement → List Sym
   ReadsWaitNext : (rest : List Symbol) → ReadsStatement longest (word_pipe_wait ∷ open_round ∷ close_round ∷ semicolon ∷ rest) (NextStage kinds.Wait) rest
   ReadsContinue : {ts rest : List Symbol} {e : Expression} → ReadsClosed longest 41 ts e (semicolon ∷ rest)
       → ReadsStatement longest (word_pipe_continue ∷ open_round ∷ ts) (Stage kinds.Continue e) rest
-  ReadsContinueNext : (rest : List Symbol) → ReadsStatement longest (word_pipe_continue ∷ open_round ∷ close_round ∷ semicolon ∷ rest) (NextStage kinds.Continue) rest
+  ReadsContinueNext : (rest : List Symbol)
+      → ReadsStatement longest (word_pipe_continue ∷ open_round ∷ close_round ∷ semicolon ∷ rest) (NextStage kinds.Continue) rest
 
 -- statements and the brace that closes them
 pub data ReadsBlock (longest : ℕ) : List Symbol → Statements → List Symbol → Type 0 where

@@ -45,9 +45,11 @@ one_more rest behind all found s c r = record {
   only = λ ss end b. behind_one (c.only ss end b).1 r;
 }
 
-pub ends : (rest behind all : List Symbol) (found : List Stmt) → Completes rest found all → rest ≡ close_brace ∷ behind → ReadsBlock 256 all (statements_of found) behind
+pub ends : (rest behind all : List Symbol) (found : List Stmt) → Completes rest found all → rest ≡ close_brace ∷ behind
+    → ReadsBlock 256 all (statements_of found) behind
 ends rest behind all found c h =
-    subst (λ x. ReadsBlock 256 all x behind) (in_front_of_none found) (c.reads Empty behind (subst (λ x. ReadsBlock 256 x Empty behind) (sym h) (ReadsClose behind)))
+    subst (λ x. ReadsBlock 256 all x behind) (in_front_of_none found)
+    (c.reads Empty behind (subst (λ x. ReadsBlock 256 x Empty behind) (sym h) (ReadsClose behind)))
 
 no_way_on : {ts end : List Symbol} {ss : Statements} → ReadsBlock 256 ts ss end → HasNoSign 125 ts → ReadsNoStatement ts → ⊥
 no_way_on (ReadsClose rest) h n = h refl

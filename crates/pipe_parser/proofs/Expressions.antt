@@ -32,7 +32,8 @@ chain_begins (ReadsChain {mid = mid} {a = a} r g) n = n.none a mid r
 pub nothing_tighter : (rank : ℕ) (ts : List Symbol) → ReadsNothing rank ts → ReadsNothing (suc rank) ts
 nothing_tighter rank ts n = record { none = λ e rest r. chain_begins r n }
 
-chain_goes_on : {rank : ℕ} {ts mid rest : List Symbol} {a e : Expression} → Reads (suc rank) ts e rest → Reads rank ts a mid → ExtendsNowhere rank a mid → ⊥
+chain_goes_on : {rank : ℕ} {ts mid rest : List Symbol} {a e : Expression} → Reads (suc rank) ts e rest → Reads rank ts a mid → ExtendsNowhere rank a mid
+    → ⊥
 chain_goes_on (ReadsChain {rank} {rest = rest} {e = e} r g) r' n = let s = one_reading r' r in n.none e rest (moved rank s.tree s.left g)
 
 pub nothing_extended : (rank : ℕ) (ts mid : List Symbol) (a : Expression) → Reads rank ts a mid → ExtendsNowhere rank a mid → ReadsNothing (suc rank) ts
@@ -46,11 +47,13 @@ chain_read rank a e ts mid rest r g = ReadsChain r g
 pub extension_ends : (rank : ℕ) (a : Expression) (ts : List Symbol) → HasNoneOfRank (suc rank) ts → Extends rank a ts a ts
 extension_ends rank a ts h = Ends ts h
 
-pub extension_joins : (rank code : ℕ) (a b e : Expression) (ts behind mid rest : List Symbol) → ts ≡ symbols.Operator code ∷ behind → rank_of code ≡ suc rank
+pub extension_joins : (rank code : ℕ) (a b e : Expression) (ts behind mid rest : List Symbol) → ts ≡ symbols.Operator code ∷ behind
+    → rank_of code ≡ suc rank
     → Reads rank behind b mid → Extends rank (joined_by code a b) mid e rest → Extends rank a ts e rest
 extension_joins rank code a b e ts behind mid rest h i r g = rw h (Joins code i r g)
 
-operand_follows : {rank code : ℕ} {a e : Expression} {behind rest : List Symbol} → Extends rank a (symbols.Operator code ∷ behind) e rest → rank_of code ≡ suc rank
+operand_follows : {rank code : ℕ} {a e : Expression} {behind rest : List Symbol} → Extends rank a (symbols.Operator code ∷ behind) e rest
+    → rank_of code ≡ suc rank
     → ReadsNothing rank behind → ⊥
 operand_follows (Ends ts h) i n = h i
 operand_follows (Joins {b = b} {mid = mid} code h r g) i n = n.none b mid r

@@ -25,20 +25,23 @@ derived_here source found tree d s = subst (λ x. DerivesProgram 256 x tree) (on
 pub no_program : (source : List ℕ) (found : List Symbol) → DividesInto source found → DerivesNoProgram found → IsNotYetBuilt source
 no_program source found d n = record { none = λ tree f s. n.none tree (derived_here source found tree d f.spelled) }
 
-pub spelled : (source : List ℕ) (found : List Symbol) (tree : SyntaxTree) → length source ≤ 1048576 → DividesInto source found → DerivesProgram 256 found tree
+pub spelled : (source : List ℕ) (found : List Symbol) (tree : SyntaxTree) → length source ≤ 1048576 → DividesInto source found
+    → DerivesProgram 256 found tree
     → true ≡ program_obeys tree → IsFirstForm source tree
 spelled source found tree w d p h = record {
   spelled = record { symbols = found; short = w; divides = d.divides; bounded = d.bounded; derived = p };
   obeys = sym h;
 }
 
-pub disobeys : (source : List ℕ) (found : List Symbol) (tree : SyntaxTree) → DividesInto source found → DerivesProgram 256 found tree → false ≡ program_obeys tree
+pub disobeys : (source : List ℕ) (found : List Symbol) (tree : SyntaxTree) → DividesInto source found → DerivesProgram 256 found tree
+    → false ≡ program_obeys tree
     → IsNotYetBuilt source
 disobeys source found tree d p h = record {
   none = λ other f s. false≢true (h ∙ ap program_obeys (one_program p (derived_here source found other d f.spelled)) ∙ f.obeys);
 }
 
-pub has_stage : (source : List ℕ) (found : List Symbol) (tree : SyntaxTree) → DividesInto source found → DerivesProgram 256 found tree → (AreStageless tree.body → ⊥)
+pub has_stage : (source : List ℕ) (found : List Symbol) (tree : SyntaxTree) → DividesInto source found → DerivesProgram 256 found tree
+    → (AreStageless tree.body → ⊥)
     → IsNotYetBuilt source
 has_stage source found tree d p h = record {
   none = λ other f s. h (subst (λ x. AreStageless x.body) (one_program (derived_here source found other d f.spelled) p) s);

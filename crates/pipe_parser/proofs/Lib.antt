@@ -3,6 +3,7 @@ pub mod Numerals
 pub mod Longest
 pub mod CutLaws
 pub mod Cutting
+pub mod Results
 pub mod Expressions
 pub mod Windows
 pub mod Statements

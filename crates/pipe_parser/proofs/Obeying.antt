@@ -1,5 +1,5 @@
 -- The rules depend on which names are among others, not on their order.
-use Rattle.std.proofs.Common.{◌≡◌, ◌∙◌, inl, inr, ap, sym, refl, ℕ, suc, ◌+◌, ◌<◌, ◌≤◌, nat_le, pos, Result, Ok, Err, IfOk, Bool, true, false, not, ◌&&◌, ◌||◌, List, [], ◌∷◌, ◌++◌, length, take, drop, get_or, drop-cons}
+use Rattle.std.proofs.Common.{◌≡◌, ◌∙◌, inl, inr, ap, sym, refl, ℕ, suc, ◌+◌, ◌<◌, ◌≤◌, nat_le, pos, Bool, true, false, not, ◌&&◌, ◌||◌, List, [], ◌∷◌, ◌++◌, length, take, drop, get_or, drop-cons}
 use Rattle.std.proofs.lemmas.List.{take_more, take-append-drop, map-append}
 use Rattle.std.proofs.lemmas.Bool.{le-leb, false≢true, or_parts, or_from, and_parts, and_from, or_cases, or_left, or_right, and_left, and_right, not_from_true}
 use Rattle.std.specs.Str.{bytes_eq}
@@ -46,7 +46,8 @@ twice (y ∷ xs) ys x h =
 
 -- ---- the same names
 
-same_known : {these those : List (List ℕ)} (locals : List (List ℕ)) (x : List ℕ) → HasSameNames these those → is_known these locals x ≡ is_known those locals x
+same_known : {these those : List (List ℕ)} (locals : List (List ℕ)) (x : List ℕ) → HasSameNames these those
+    → is_known these locals x ≡ is_known those locals x
 same_known locals x h = ap (λ b. is_among locals x || b) (h.same x)
 
 pub same_uses : {these those : List (List ℕ)} (locals : List (List ℕ)) (e : Expression) → HasSameNames these those
@@ -89,10 +90,12 @@ names_before cells i d w h =
     ap cell_names (take_more cells i d w ∙ ap (λ x. take i cells ++ x ∷ []) (sym h)) ∙ map-append (λ x. x.name) (take i cells) (d ∷ [])
 
 -- the cells before, this one, and those behind it
-pub stands_twice : (cells : List Declaration) (i : ℕ) (d : Declaration) → i < length cells → d ≡ get_or cells i d → is_among (cell_names (take i cells)) d.name ≡ true
+pub stands_twice : (cells : List Declaration) (i : ℕ) (d : Declaration) → i < length cells → d ≡ get_or cells i d
+    → is_among (cell_names (take i cells)) d.name ≡ true
     → all_differ (cell_names cells) ≡ false
 stands_twice cells i d w h t =
-    let parts : cells ≡ take i cells ++ d ∷ drop (suc i) cells = sym (take-append-drop i cells) ∙ ap (λ x. take i cells ++ x) (drop-cons cells i d w ∙ ap (λ x. x ∷ drop (suc i) cells) (sym h)) in
+    let parts : cells ≡ take i cells ++ d ∷ drop (suc i) cells =
+        sym (take-append-drop i cells) ∙ ap (λ x. take i cells ++ x) (drop-cons cells i d w ∙ ap (λ x. x ∷ drop (suc i) cells) (sym h)) in
     ap (λ x. all_differ (cell_names x)) parts ∙ ap all_differ (map-append (λ x. x.name) (take i cells) (d ∷ drop (suc i) cells))
     ∙ twice (cell_names (take i cells)) (cell_names (drop (suc i) cells)) d.name t
 
@@ -101,7 +104,8 @@ pub record AreAdded (names : List (List ℕ)) (cells : List Declaration) (i : �
   pub same : HasSameNames names (cell_names (take i cells))
   pub differ : all_differ (cell_names (take i cells)) ≡ true
 
-pub one_more_name : (names names' : List (List ℕ)) (cells : List Declaration) (i : ℕ) (d : Declaration) → AreAdded names cells i → i < length cells → d ≡ get_or cells i d
+pub one_more_name : (names names' : List (List ℕ)) (cells : List Declaration) (i : ℕ) (d : Declaration) → AreAdded names cells i → i < length cells
+    → d ≡ get_or cells i d
     → is_among names d.name ≡ false → ((x : List ℕ) → is_among names' x ≡ is_among (d.name ∷ names) x) → AreAdded names' cells (i + 1)
 one_more_name names names' cells i d added w h n more =
     let old = cell_names (take i cells) in
@@ -132,7 +136,8 @@ obeys_by tree names l n h d =
     cc (l, few, d, test, body)
 
 pub refused_by_test : (tree : SyntaxTree) (names : List (List ℕ)) → limits_are_in_range tree.limits ≡ true → length tree.cells ≤ 65536
-    → HasSameNames names (cell_names tree.cells) → all_differ (cell_names tree.cells) ≡ true → false ≡ uses_known_names names [] tree.test → false ≡ program_obeys tree
+    → HasSameNames names (cell_names tree.cells) → all_differ (cell_names tree.cells) ≡ true → false ≡ uses_known_names names [] tree.test
+    → false ≡ program_obeys tree
 refused_by_test tree names l n h d u =
     u ∙ sym (obeys_by tree names l n h d ∙ and_left (uses_known_names names [] tree.test) (statements_obey names [] tree.body) (sym u) ∙ u)
 
@@ -142,13 +147,10 @@ pub decided_by_body : (tree : SyntaxTree) (names : List (List ℕ)) (b : Bool) �
 decided_by_body tree names b l n h d u s =
     s ∙ sym (obeys_by tree names l n h d ∙ ap (λ x. x && statements_obey names [] tree.body) (sym u))
 
-pub if_ok : {A E : Type 0} (P Q : A → Type 0) (r : Result A E) → ((x : A) → P x → Q x) → IfOk r P → IfOk r Q
-if_ok P Q (Ok x) f h = f x h
-if_ok P Q (Err e) f h = h
-
 -- ---- limits, one after the other
 
-pub limits_by : (limits : Limits) (instances steps emits : Bool) → true ≡ is_between (pos 1) (pos 65536) limits.iterations → true ≡ is_between (pos 1) (pos 4096) limits.stages
+pub limits_by : (limits : Limits) (instances steps emits : Bool) → true ≡ is_between (pos 1) (pos 65536) limits.iterations
+    → true ≡ is_between (pos 1) (pos 4096) limits.stages
     → instances ≡ is_between (pos 1) (pos 262144) (limits.iterations *ℤ limits.stages) → steps ≡ is_between (pos 1) (pos 1000000) limits.steps
     → emits ≡ is_between (pos 0) (pos 1048576) limits.emits → (instances && (steps && emits)) ≡ limits_are_in_range limits
 limits_by limits instances steps emits h i j k l = cc (h, i, j, k, l)

@@ -19,7 +19,8 @@ use Rattle.pipe_parser.specs.Programs.{IsLimit, IsNoLimit, HasLimits, HasNoLimit
 
 -- ---- limits and declared values
 
-pub no_last_limit : (ts us vs xs ys : List Symbol) (i s n : ℤ) → ts ≡ symbols.Word 1 ∷ us → IsLimit 2 44 us i vs → IsLimit 3 44 vs s xs → IsLimit 4 44 xs n ys
+pub no_last_limit : (ts us vs xs ys : List Symbol) (i s n : ℤ) → ts ≡ symbols.Word 1 ∷ us → IsLimit 2 44 us i vs → IsLimit 3 44 vs s xs
+    → IsLimit 4 44 xs n ys
     → IsNoLimit 5 59 ys → HasNoLimits ts
 no_last_limit ts us vs xs ys i s n h j k l m = record {
   none = λ limits rest e. m.none limits.emits rest (cc (e, h, j, k, l));
@@ -28,11 +29,13 @@ no_last_limit ts us vs xs ys i s n h j k l m = record {
 pub number_read : (ts rest : List Symbol) (n : ℤ) → ts ≡ symbols.Number n ∷ rest → ReadsValue ts n rest
 number_read ts rest n h = rw h (ReadsNumber n rest)
 
-pub value_at_number : {A : Type 0} (view : A → List Symbol) (ts : List Symbol) (o : Option (ℤ × A)) → IfSome o (λ r. ts ≡ symbols.Number r.0 ∷ view r.1) → IfSome o (λ r. ReadsValue ts r.0 (view r.1))
+pub value_at_number : {A : Type 0} (view : A → List Symbol) (ts : List Symbol) (o : Option (ℤ × A)) → IfSome o (λ r. ts ≡ symbols.Number r.0 ∷ view r.1)
+    → IfSome o (λ r. ReadsValue ts r.0 (view r.1))
 value_at_number view ts None h = h
 value_at_number view ts (Some r) h = number_read ts (view r.1) r.0 h
 
-pub minus_read : (ts us rest : List Symbol) (n : ℤ) → ts ≡ symbols.Operator 10 ∷ us → us ≡ symbols.Number n ∷ rest → int_lt n (pos 0) ≡ false → ReadsValue ts (pos 0 -ℤ n) rest
+pub minus_read : (ts us rest : List Symbol) (n : ℤ) → ts ≡ symbols.Operator 10 ∷ us → us ≡ symbols.Number n ∷ rest → int_lt n (pos 0) ≡ false
+    → ReadsValue ts (pos 0 -ℤ n) rest
 minus_read ts us rest (pos size) h i w =
     let same : pos 0 -ℤ pos size ≡ neg_ℤ (pos size) = +ℤ_idl (neg_ℤ (pos size)) in
     rw (same, h, i) (ReadsMinus size rest)
@@ -40,12 +43,14 @@ minus_read ts us rest (negsuc k) h i w = absurd (false≢true (sym w))
 
 -- ---- a declaration
 
-pub cell_read : (ts us vs xs rest : List Symbol) (name : List ℕ) (value : ℤ) → ts ≡ symbols.Name name ∷ us → us ≡ symbols.Sign 61 ∷ vs → ReadsValue vs value xs
+pub cell_read : (ts us vs xs rest : List Symbol) (name : List ℕ) (value : ℤ) → ts ≡ symbols.Name name ∷ us → us ≡ symbols.Sign 61 ∷ vs
+    → ReadsValue vs value xs
     → xs ≡ symbols.Sign 59 ∷ rest → ReadsCell ts (plain_cell name value) rest
 cell_read ts us vs xs rest name value h i (ReadsNumber n xs') j = rw (h, i, j) (ReadsPlain name n rest)
 cell_read ts us vs xs rest name value h i (ReadsMinus size xs') j = rw (h, i, j) (ReadsNegative name size rest)
 
-value_follows : {name : List ℕ} {vs rest : List Symbol} {d : Declaration} → ReadsCell (symbols.Name name ∷ symbols.Sign 61 ∷ vs) d rest → ReadsNoValue vs → ⊥
+value_follows : {name : List ℕ} {vs rest : List Symbol} {d : Declaration} → ReadsCell (symbols.Name name ∷ symbols.Sign 61 ∷ vs) d rest → ReadsNoValue vs
+    → ⊥
 value_follows (ReadsPlain name value rest) n = n.none value (symbols.Sign 59 ∷ rest) (ReadsNumber value (symbols.Sign 59 ∷ rest))
 value_follows (ReadsNegative name size rest) n = n.none (neg_ℤ (pos size)) (symbols.Sign 59 ∷ rest) (ReadsMinus size (symbols.Sign 59 ∷ rest))
 
@@ -70,7 +75,8 @@ behind_cell {end = end} (ReadsCellThen {ds = ds} r' rs) r = (ds, subst (λ x. Re
 moved_cells : {ts us end : List Symbol} {ds : List Declaration} → ts ≡ us → ReadsCells ts ds end → ReadsCells us ds end
 moved_cells {end = end} {ds = ds} h r = subst (λ x. ReadsCells x ds end) h r
 
-pub one_more_cell : (rest declared behind all : List Symbol) (found : List Declaration) (d : Declaration) → CompletesCells rest found all → rest ≡ word_cell ∷ declared
+pub one_more_cell : (rest declared behind all : List Symbol) (found : List Declaration) (d : Declaration) → CompletesCells rest found all
+    → rest ≡ word_cell ∷ declared
     → ReadsCell declared d behind → CompletesCells behind (found ++ d ∷ []) all
 one_more_cell rest declared behind all found d c h r = record {
   reads = λ ds end rs. subst (λ x. ReadsCells all x end) (sym (append_assoc found (d ∷ []) ds))
@@ -89,7 +95,8 @@ no_cell_follows : {ts end : List Symbol} {ds : List Declaration} → ReadsCells 
 no_cell_follows {ts} (ReadsNoCell us h) n = h ts refl
 no_cell_follows (ReadsCellThen {mid = mid} {d = d} r rs) n = n.none d mid r
 
-pub stuck_at_cell : (rest declared all : List Symbol) (found : List Declaration) → CompletesCells rest found all → rest ≡ word_cell ∷ declared → DeclaresNothing declared
+pub stuck_at_cell : (rest declared all : List Symbol) (found : List Declaration) → CompletesCells rest found all → rest ≡ word_cell ∷ declared
+    → DeclaresNothing declared
     → ReadsNoCells all
 stuck_at_cell rest declared all found c h n = record { none = λ ds end r. no_cell_follows (moved_cells h (c.only ds end r).1) n }
 
@@ -102,11 +109,13 @@ loop_read ts us vs xs ys rest test body h i r j b = rw (h, i) (ReadsPipeWhile (l
 sign_stands : (sign : ℕ) (ts rest : List Symbol) → HasNoSign sign ts → ts ≡ symbols.Sign sign ∷ rest → ⊥
 sign_stands sign ts rest h e = (rw e at h) refl
 
-brace_follows : {vs xs rest : List Symbol} {test e : Expression} {body : Statements} → ReadsLoop (symbols.Word 8 ∷ symbols.Sign 40 ∷ vs) test body rest → ReadsClosed 256 41 vs e xs
+brace_follows : {vs xs rest : List Symbol} {test e : Expression} {body : Statements} → ReadsLoop (symbols.Word 8 ∷ symbols.Sign 40 ∷ vs) test body rest
+    → ReadsClosed 256 41 vs e xs
     → HasNoSign 123 xs → ⊥
 brace_follows {xs = xs} (ReadsPipeWhile {us = us} r' b) r h = sign_stands 123 xs us h (one_closed r r').left
 
-pub no_brace : (ts us vs xs : List Symbol) (e : Expression) → ts ≡ symbols.Word 8 ∷ us → us ≡ symbols.Sign 40 ∷ vs → ReadsClosed 256 41 vs e xs → HasNoSign 123 xs → ReadsNoLoop ts
+pub no_brace : (ts us vs xs : List Symbol) (e : Expression) → ts ≡ symbols.Word 8 ∷ us → us ≡ symbols.Sign 40 ∷ vs → ReadsClosed 256 41 vs e xs
+    → HasNoSign 123 xs → ReadsNoLoop ts
 no_brace ts us vs xs e h i r n = rw (h, i) (record { none = λ test body rest l. brace_follows l r n })
 
 body_follows : {vs ys rest : List Symbol} {test e : Expression} {body : Statements} → ReadsLoop (symbols.Word 8 ∷ symbols.Sign 40 ∷ vs) test body rest
@@ -116,11 +125,13 @@ body_follows {ys = ys} {rest} {body = body} (ReadsPipeWhile {us = us} r' b) r n 
     let same : us ≡ ys = cc (l) in
     n.none body rest (subst (λ x. ReadsBlock 256 x body rest) same b)
 
-pub no_body : (ts us vs xs ys : List Symbol) (e : Expression) → ts ≡ symbols.Word 8 ∷ us → us ≡ symbols.Sign 40 ∷ vs → ReadsClosed 256 41 vs e xs → xs ≡ symbols.Sign 123 ∷ ys
-    → ReadsNoBlock ys → ReadsNoLoop ts
-no_body ts us vs xs ys e h i r j n = rw (h, i) (record { none = λ test body rest l. body_follows l (let r' : ReadsClosed 256 41 vs e (open_brace ∷ ys) = rw j at r in r') n })
+pub no_body : (ts us vs xs ys : List Symbol) (e : Expression) → ts ≡ symbols.Word 8 ∷ us → us ≡ symbols.Sign 40 ∷ vs → ReadsClosed 256 41 vs e xs
+    → xs ≡ symbols.Sign 123 ∷ ys → ReadsNoBlock ys → ReadsNoLoop ts
+no_body ts us vs xs ys e h i r j n =
+    let r' : ReadsClosed 256 41 vs e (open_brace ∷ ys) = rw j at r in rw (h, i) (record { none = λ test body rest l. body_follows l r' n })
 
-loop_ends : {ts rest rest' : List Symbol} {test test' : Expression} {body body' : Statements} → ReadsLoop ts test body rest → ReadsLoop ts test' body' rest' → rest ≡ rest'
+loop_ends : {ts rest rest' : List Symbol} {test test' : Expression} {body body' : Statements} → ReadsLoop ts test body rest
+    → ReadsLoop ts test' body' rest' → rest ≡ rest'
 loop_ends {rest' = rest'} {body' = body'} (ReadsPipeWhile {us = us} r b) (ReadsPipeWhile {us = us'} r' b') =
     let l = (one_closed r r').left in
     let same : us' ≡ us = cc (l) in
@@ -137,7 +148,8 @@ record BehindLimits (ts : List Symbol) : Type 0 where
   declared : ReadsCells ts cells rest
   loop : ReadsLoop rest test body []
 
-behind_limits : {iterations stages steps emits : ℤ} {ts : List Symbol} {p : SyntaxTree} → ReadsProgram 256 (limits_symbols iterations stages steps emits ++ ts) p → BehindLimits ts
+behind_limits : {iterations stages steps emits : ℤ} {ts : List Symbol} {p : SyntaxTree}
+    → ReadsProgram 256 (limits_symbols iterations stages steps emits ++ ts) p → BehindLimits ts
 behind_limits (ReadsAll {ts = ts} {cells = cells} {test = test} {body = body} iterations stages steps emits c e b) =
     record { cells = cells; rest = symbols.Word 8 ∷ symbols.Sign 40 ∷ ts; test = test; body = body; declared = c; loop = ReadsPipeWhile e b }
 
@@ -155,7 +167,8 @@ refuted ts us limits h n = rw h (record { none = λ p d. n (behind_limits (found
 pub no_cells : (ts us : List Symbol) (limits : Limits) → HasLimits ts limits us → ReadsNoCells us → DerivesNoProgram ts
 no_cells ts us limits h n = refuted ts us limits h (λ b. n.none b.cells b.rest b.declared)
 
-pub no_loop : (ts us vs : List Symbol) (limits : Limits) (cells : List Declaration) → HasLimits ts limits us → ReadsCells us cells vs → ReadsNoLoop vs → DerivesNoProgram ts
+pub no_loop : (ts us vs : List Symbol) (limits : Limits) (cells : List Declaration) → HasLimits ts limits us → ReadsCells us cells vs → ReadsNoLoop vs
+    → DerivesNoProgram ts
 no_loop ts us vs limits cells h c n =
     refuted ts us limits h (λ b. n.none b.test b.body [] (subst (λ x. ReadsLoop x b.test b.body []) (one_cells b.declared c).left b.loop))
 
@@ -163,18 +176,20 @@ not_empty : (xs : List Symbol) → (length xs == 0) ≡ false → xs ≢ []
 not_empty [] h e = false≢true (sym h)
 not_empty (x ∷ xs) h e = cc (e)
 
-pub goes_on : (ts us vs xs : List Symbol) (limits : Limits) (cells : List Declaration) (test : Expression) (body : Statements) → HasLimits ts limits us → ReadsCells us cells vs
+pub goes_on : (ts us vs xs : List Symbol) (limits : Limits) (cells : List Declaration) (test : Expression) (body : Statements) → HasLimits ts limits us
+    → ReadsCells us cells vs
     → ReadsLoop vs test body xs → (length xs == 0) ≡ false → DerivesNoProgram ts
 goes_on ts us vs xs limits cells test body h c l n =
     refuted ts us limits h (λ b. not_empty xs n (loop_ends l (subst (λ x. ReadsLoop x b.test b.body []) (one_cells b.declared c).left b.loop)))
 
-whole : {us vs : List Symbol} {cells : List Declaration} {test : Expression} {body : Statements} (limits : Limits) → ReadsCells us cells vs → ReadsLoop vs test body []
+whole : {us vs : List Symbol} {cells : List Declaration} {test : Expression} {body : Statements} (limits : Limits) → ReadsCells us cells vs
+    → ReadsLoop vs test body []
     → DerivesProgram 256 (limits_symbols limits.iterations limits.stages limits.steps limits.emits ++ us)
     (record { limits = limits; cells = cells; init = Empty; test = test; body = body; last = Empty })
 whole limits c (ReadsPipeWhile r b) = sound_program (ReadsAll limits.iterations limits.stages limits.steps limits.emits c r b)
 
-pub program_derived : (ts us vs xs : List Symbol) (limits : Limits) (cells : List Declaration) (test : Expression) (body : Statements) (before after : List Stmt) → HasLimits ts limits us
-    → ReadsCells us cells vs → ReadsLoop vs test body xs → (length xs == 0) ≡ true → before ≡ [] → after ≡ []
+pub program_derived : (ts us vs xs : List Symbol) (limits : Limits) (cells : List Declaration) (test : Expression) (body : Statements)
+    (before after : List Stmt) → HasLimits ts limits us → ReadsCells us cells vs → ReadsLoop vs test body xs → (length xs == 0) ≡ true → before ≡ [] → after ≡ []
     → DerivesProgram 256 ts (record { limits = limits; cells = cells; init = statements_of before; test = test; body = body; last = statements_of after })
 program_derived ts us vs [] limits cells test body before after h c l e i j = rw (h, i, j) (whole limits c l)
 program_derived ts us vs (x ∷ xs) limits cells test body before after h c l e i j = absurd (grind (arith, e))

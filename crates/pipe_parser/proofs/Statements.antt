@@ -13,7 +13,8 @@ use Rattle.pipe_parser.specs.Stages.{ReadsStage, ReadsNoStage}
 
 -- ---- a let, an assignment, an emit
 
-pub let_read : (ts us vs rest : List Symbol) (name : List ℕ) (e : Expression) → ts ≡ symbols.Name name ∷ us → us ≡ symbols.Sign 61 ∷ vs → ReadsClosed 256 59 vs e rest
+pub let_read : (ts us vs rest : List Symbol) (name : List ℕ) (e : Expression) → ts ≡ symbols.Name name ∷ us → us ≡ symbols.Sign 61 ∷ vs
+    → ReadsClosed 256 59 vs e rest
     → ReadsStatement 256 (word_let ∷ ts) (Let name e) rest
 let_read ts us vs rest name e h i r = rw (h, i) (ReadsLet name r)
 
@@ -26,21 +27,26 @@ emit_read ts rest e r = ReadsEmit r
 
 -- ---- stage statements
 
-pub next_stage_read : (ts us vs rest : List Symbol) → ts ≡ symbols.Sign 40 ∷ us → us ≡ symbols.Sign 41 ∷ vs → vs ≡ symbols.Sign 59 ∷ rest → ReadsStage ts None rest
+pub next_stage_read : (ts us vs rest : List Symbol) → ts ≡ symbols.Sign 40 ∷ us → us ≡ symbols.Sign 41 ∷ vs → vs ≡ symbols.Sign 59 ∷ rest
+    → ReadsStage ts None rest
 next_stage_read ts us vs rest h i j = rw (h, i, j) (record { wait = ReadsWaitNext rest; continue = ReadsContinueNext rest })
 
-pub stage_read : (ts us vs rest : List Symbol) (e : Expr) → ts ≡ symbols.Sign 40 ∷ us → ReadsClosed 256 41 us (expression_of e) vs → vs ≡ symbols.Sign 59 ∷ rest
-    → ReadsStage ts (Some e) rest
-stage_read ts us vs rest e h r i = let r' : ReadsClosed 256 41 us (expression_of e) (symbols.Sign 59 ∷ rest) = rw i at r in rw h (record { wait = ReadsWait r'; continue = ReadsContinue r' })
+pub stage_read : (ts us vs rest : List Symbol) (e : Expr) → ts ≡ symbols.Sign 40 ∷ us → ReadsClosed 256 41 us (expression_of e) vs
+    → vs ≡ symbols.Sign 59 ∷ rest → ReadsStage ts (Some e) rest
+stage_read ts us vs rest e h r i =
+    let r' : ReadsClosed 256 41 us (expression_of e) (symbols.Sign 59 ∷ rest) = rw i at r in
+    rw h (record { wait = ReadsWait r'; continue = ReadsContinue r' })
 
 sign_stands : (sign : ℕ) (ts rest : List Symbol) → HasNoSign sign ts → ts ≡ symbols.Sign sign ∷ rest → ⊥
 sign_stands sign ts rest h e = (rw e at h) refl
 
-no_next_wait : {vs rest : List Symbol} {s : Statement} → ReadsStatement 256 (word_pipe_wait ∷ symbols.Sign 40 ∷ symbols.Sign 41 ∷ vs) s rest → HasNoSign 59 vs → ⊥
+no_next_wait : {vs rest : List Symbol} {s : Statement} → ReadsStatement 256 (word_pipe_wait ∷ symbols.Sign 40 ∷ symbols.Sign 41 ∷ vs) s rest
+    → HasNoSign 59 vs → ⊥
 no_next_wait (ReadsWait r) h = no_sign r.read
 no_next_wait (ReadsWaitNext rest) h = h refl
 
-no_next_continue : {vs rest : List Symbol} {s : Statement} → ReadsStatement 256 (word_pipe_continue ∷ symbols.Sign 40 ∷ symbols.Sign 41 ∷ vs) s rest → HasNoSign 59 vs → ⊥
+no_next_continue : {vs rest : List Symbol} {s : Statement} → ReadsStatement 256 (word_pipe_continue ∷ symbols.Sign 40 ∷ symbols.Sign 41 ∷ vs) s rest
+    → HasNoSign 59 vs → ⊥
 no_next_continue (ReadsContinue r) h = no_sign r.read
 no_next_continue (ReadsContinueNext rest) h = h refl
 
@@ -53,12 +59,14 @@ no_wait : {us vs rest : List Symbol} {s : Statement} {e : Expression} → ReadsS
 no_wait {vs = vs} {rest = rest} (ReadsWait r') h r n = sign_stands 59 vs rest n (one_closed r r').left
 no_wait (ReadsWaitNext rest) h r n = h refl
 
-no_continue : {us vs rest : List Symbol} {s : Statement} {e : Expression} → ReadsStatement 256 (word_pipe_continue ∷ symbols.Sign 40 ∷ us) s rest → HasNoSign 41 us
+no_continue : {us vs rest : List Symbol} {s : Statement} {e : Expression} → ReadsStatement 256 (word_pipe_continue ∷ symbols.Sign 40 ∷ us) s rest
+    → HasNoSign 41 us
     → ReadsClosed 256 41 us e vs → HasNoSign 59 vs → ⊥
 no_continue {vs = vs} {rest = rest} (ReadsContinue r') h r n = sign_stands 59 vs rest n (one_closed r r').left
 no_continue (ReadsContinueNext rest) h r n = h refl
 
-pub no_stage : (ts us vs : List Symbol) (e : Expression) → ts ≡ symbols.Sign 40 ∷ us → HasNoSign 41 us → ReadsClosed 256 41 us e vs → HasNoSign 59 vs → ReadsNoStage ts
+pub no_stage : (ts us vs : List Symbol) (e : Expression) → ts ≡ symbols.Sign 40 ∷ us → HasNoSign 41 us → ReadsClosed 256 41 us e vs → HasNoSign 59 vs
+    → ReadsNoStage ts
 no_stage ts us vs e h i r n =
     rw h (record { wait = record { none = λ s rest r'. no_wait r' i r n }; continue = record { none = λ s rest r'. no_continue r' i r n } })
 

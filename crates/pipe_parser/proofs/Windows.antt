@@ -15,7 +15,8 @@ record SeenInWindow (sign n : ℕ) (ts : List Symbol) (e : Expression) : Type 0 
   behind : List Symbol
   read : Reads 6 (take n ts) e (symbols.Sign sign ∷ behind)
 
-seen : (sign n : ℕ) (ts : List Symbol) (e : Expression) (rest : List Symbol) → n ≡ min (length ts) 257 → ReadsClosed 256 sign ts e rest → SeenInWindow sign n ts e
+seen : (sign n : ℕ) (ts : List Symbol) (e : Expression) (rest : List Symbol) → n ≡ min (length ts) 257 → ReadsClosed 256 sign ts e rest
+    → SeenInWindow sign n ts e
 seen sign n ts e rest w r =
     let t = sound_closed r in
     let all = symbols.Sign sign ∷ rest in
@@ -25,7 +26,10 @@ seen sign n ts e rest w r =
     let parts : n ≡ length t.taken + (m + 1) = omega (arith, many, short, w) in
     let front : take n ts ≡ t.taken ++ symbols.Sign sign ∷ take m rest =
     ap (λ x. take n x) t.split ∙ ap (λ x. take x (t.taken ++ all)) parts ∙ take-append-add t.taken all (m + 1) ∙ ap (λ x. t.taken ++ take x all) (add-one m) in
-    record { behind = take m rest; read = subst (λ x. Reads 6 x e (symbols.Sign sign ∷ take m rest)) (sym front) (found_before_sign sign (take m rest) t.whole.derived) }
+    record {
+      behind = take m rest;
+      read = subst (λ x. Reads 6 x e (symbols.Sign sign ∷ take m rest)) (sym front) (found_before_sign sign (take m rest) t.whole.derived);
+    }
 
 -- what is not read in the window is not read at all
 pub nothing_in_window : (sign n : ℕ) (ts : List Symbol) → n ≡ min (length ts) 257 → ReadsNothing 6 (take n ts) → ClosesNowhere sign ts
@@ -35,7 +39,8 @@ sign_stands : (sign : ℕ) (ts rest : List Symbol) → HasNoSign sign ts → ts 
 sign_stands sign ts rest h e = (rw e at h) refl
 
 -- nor is what is read in the window up to something else
-pub no_sign_in_window : (sign n : ℕ) (ts : List Symbol) (e : Expression) (rest : List Symbol) → n ≡ min (length ts) 257 → Reads 6 (take n ts) e rest → HasNoSign sign rest
+pub no_sign_in_window : (sign n : ℕ) (ts : List Symbol) (e : Expression) (rest : List Symbol) → n ≡ min (length ts) 257 → Reads 6 (take n ts) e rest
+    → HasNoSign sign rest
     → ClosesNowhere sign ts
 no_sign_in_window sign n ts e rest w r h = record {
   none = λ e' rest' r'. let s = seen sign n ts e' rest' w r' in sign_stands sign rest (s.behind) h (one_reading r s.read).left;
@@ -50,7 +55,8 @@ closed_in_window sign n ts e rest behind w r h =
     let front : take n ts ≡ t.taken ++ symbols.Sign sign ∷ behind = t.split ∙ ap (λ x. t.taken ++ x) h in
     let whole : ts ≡ t.taken ++ symbols.Sign sign ∷ all =
     sym (take-append-drop n ts) ∙ ap (λ x. x ++ drop n ts) front ∙ append_assoc t.taken (symbols.Sign sign ∷ behind) (drop n ts) in
-    let many : length (take n ts) ≡ length t.taken + length (symbols.Sign sign ∷ behind) = ap length front ∙ length-append t.taken (symbols.Sign sign ∷ behind) in
+    let many : length (take n ts) ≡ length t.taken + length (symbols.Sign sign ∷ behind) =
+        ap length front ∙ length-append t.taken (symbols.Sign sign ∷ behind) in
     let size : length (take n ts) ≡ n = length-take-le n ts (omega (arith, w)) in
     let place : n - length behind ≡ length t.taken + 1 = omega (arith, many, size) in
     let left : drop (n - length behind) ts ≡ all =

@@ -36,7 +36,8 @@ pub record ReadsNoValue (symbols : List Symbol) : Type 0 where
 
 -- the loop stands at the front
 pub data ReadsLoop : List Symbol → Expression → Statements → List Symbol → Type 0 where
-  ReadsPipeWhile : {ts us rest : List Symbol} {test : Expression} {body : Statements} → ReadsClosed 256 41 ts test (open_brace ∷ us) → ReadsBlock 256 us body rest
+  ReadsPipeWhile : {ts us rest : List Symbol} {test : Expression} {body : Statements} → ReadsClosed 256 41 ts test (open_brace ∷ us)
+      → ReadsBlock 256 us body rest
       → ReadsLoop (word_pipe_while ∷ open_round ∷ ts) test body rest
 
 -- no loop stands at the front

@@ -87,10 +87,7 @@ fn read_expression<'a>(
     let Some((first, rest)) = read_expression(alloc, rank - 1, symbols)? else {
         return Ok(None);
     };
-    match extend(alloc, rank - 1, first, rest)? {
-        Some(whole) => Ok(Some(whole)),
-        None => Ok(None),
-    }
+    extend(alloc, rank - 1, first, rest)
 }
 
 /// Extends an expression by the operators one rank looser that follow, each with its operand.
@@ -113,10 +110,7 @@ fn extend<'a>(
         return Ok(None);
     };
     let joined = Expr::Binary(code, Box::new(alloc, first)?, Box::new(alloc, second)?);
-    match extend(alloc, rank, joined, rest)? {
-        Some(whole) => Ok(Some(whole)),
-        None => Ok(None),
-    }
+    extend(alloc, rank, joined, rest)
 }
 
 /// Reads an expression that is no part of another, and the sign that closes it. It looks at no more symbols than such

@@ -16,7 +16,7 @@ use pipe_model::symbol::Symbol;
 use pipe_model::tree::{Block, Declaration, Declarations, Expr, Limits, Program};
 use std::alloc::Global;
 
-/// Reserved words.
+// The reserved words of a program's parts, by their places in the list of reserved words.
 const LIMITS: u8 = 1;
 
 const ITERATIONS: u8 = 2;
@@ -31,7 +31,7 @@ const CELL: u8 = 6;
 
 const PIPE_WHILE: u8 = 8;
 
-/// The operator `-`.
+/// The code of the operator `-`.
 const MINUS: u8 = 10;
 
 /// Reads one limit: its word, a number, and the sign behind it.

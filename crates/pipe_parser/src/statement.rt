@@ -16,7 +16,7 @@ use pipe_model::symbol::Symbol;
 use pipe_model::tree::{Block, Expr, Stmt};
 use std::alloc::Global;
 
-/// The reserved words that begin a statement.
+// The reserved words that begin a statement, by their places in the list of reserved words.
 const PIPE_WAIT: u8 = 9;
 
 const PIPE_CONTINUE: u8 = 10;

@@ -29,5 +29,6 @@ returns-else-is_between c =
     let stages : SFits w64 c.args.limits.now.stages = search rules in
     let steps : SFits w64 c.args.limits.now.steps = search rules in
     let instances : SFits w64 (c.args.limits.now.iterations *ℤ c.args.limits.now.stages) = search rules in
-    c.if-is_between.false ∙ limits_by c.args.limits.now true false _ (simp to_z-of_z at c.if-not-is_between.ensures) (simp to_z-of_z at c.if-not-is_between-2.ensures)
+    c.if-is_between.false
+    ∙ limits_by c.args.limits.now true false _ (simp to_z-of_z at c.if-not-is_between.ensures) (simp to_z-of_z at c.if-not-is_between-2.ensures)
     (simp to_z-of_z at c.if-not-is_between-3.ensures) (simp to_z-of_z at c.if-is_between.ensures) refl

@@ -2,7 +2,8 @@ use Rattle.pipe_parser.proofs.Statements.{next_stage_read, no_next_stage, stage_
 use Rattle.pipe_parser.proofs.statement.read_stage.Goals as goal
 
 pub returns-in-Some-after_sign-2-clause-some : goal.returns-in-Some-after_sign-2-clause-some
-returns-in-Some-after_sign-2-clause-some c = next_stage_read _ _ _ _ c.in-Some.ensures.some c.in-Some-after_sign.ensures.some c.in-Some-after_sign-2.ensures.some
+returns-in-Some-after_sign-2-clause-some c =
+    next_stage_read _ _ _ _ c.in-Some.ensures.some c.in-Some-after_sign.ensures.some c.in-Some-after_sign-2.ensures.some
 
 pub returns-in-None-clause-none : goal.returns-in-None-clause-none
 returns-in-None-clause-none c = no_next_stage _ _ _ c.in-Some.ensures.some c.in-Some-after_sign.ensures.some c.in-None.ensures.none
