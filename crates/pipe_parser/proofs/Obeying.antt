@@ -95,7 +95,7 @@ pub stands_twice : (cells : List Declaration) (i : ℕ) (d : Declaration) → i 
     → all_differ (cell_names cells) ≡ false
 stands_twice cells i d w h t =
     let parts : cells ≡ take i cells ++ d ∷ drop (suc i) cells =
-        sym (take-append-drop i cells) ∙ ap (λ x. take i cells ++ x) (drop-cons cells i d w ∙ ap (λ x. x ∷ drop (suc i) cells) (sym h)) in
+    sym (take-append-drop i cells) ∙ ap (λ x. take i cells ++ x) (drop-cons cells i d w ∙ ap (λ x. x ∷ drop (suc i) cells) (sym h)) in
     ap (λ x. all_differ (cell_names x)) parts ∙ ap all_differ (map-append (λ x. x.name) (take i cells) (d ∷ drop (suc i) cells))
     ∙ twice (cell_names (take i cells)) (cell_names (drop (suc i) cells)) d.name t
 

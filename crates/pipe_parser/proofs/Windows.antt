@@ -56,7 +56,7 @@ closed_in_window sign n ts e rest behind w r h =
     let whole : ts ≡ t.taken ++ symbols.Sign sign ∷ all =
     sym (take-append-drop n ts) ∙ ap (λ x. x ++ drop n ts) front ∙ append_assoc t.taken (symbols.Sign sign ∷ behind) (drop n ts) in
     let many : length (take n ts) ≡ length t.taken + length (symbols.Sign sign ∷ behind) =
-        ap length front ∙ length-append t.taken (symbols.Sign sign ∷ behind) in
+    ap length front ∙ length-append t.taken (symbols.Sign sign ∷ behind) in
     let size : length (take n ts) ≡ n = length-take-le n ts (omega (arith, w)) in
     let place : n - length behind ≡ length t.taken + 1 = omega (arith, many, size) in
     let left : drop (n - length behind) ts ≡ all =
