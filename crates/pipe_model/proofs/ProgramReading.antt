@@ -24,6 +24,7 @@ closed_front : (front taken rest : List Symbol) (close : List Symbol) (ts : List
 closed_front front taken rest close ts h =
     ap (λ x. front ++ x) (h ∙ sym (append_assoc taken close rest)) ∙ sym (append_assoc front (taken ++ close) rest)
 
+-- a statement that was read is derived
 pub sound_statement : {longest : ℕ} {ts rest : List Symbol} {s : Statement} → ReadsStatement longest ts s rest → TookStatement longest ts s rest
 sound_statement (ReadsLet {ts} {rest} name r) =
     let t = sound_closed r in
@@ -70,6 +71,7 @@ pub record TookBlock (longest : ℕ) (ts : List Symbol) (ss : Statements) (rest 
   pub split : ts ≡ taken ++ close_brace ∷ rest
   pub derived : DerivesStatements longest taken ss
 
+-- statements that were read are derived
 pub sound_block : {longest : ℕ} {ts rest : List Symbol} {ss : Statements} → ReadsBlock longest ts ss rest → TookBlock longest ts ss rest
 sound_block (ReadsClose rest) = record { taken = []; split = refl; derived = NoStatement }
 sound_block (ReadsOneMore {rest = rest} r b) =
@@ -87,6 +89,7 @@ pub record TookCells (ts : List Symbol) (ds : List Declaration) (rest : List Sym
   pub split : ts ≡ taken ++ rest
   pub derived : DerivesCells taken ds
 
+-- a declaration and those behind it are taken together
 took_one_more : {ts mid rest : List Symbol} {d : Declaration} {ds : List Declaration} → ReadsCell ts d mid → TookCells mid ds rest
     → TookCells (word_cell ∷ ts) (d ∷ ds) rest
 took_one_more (ReadsPlain name value mid) t = record {
@@ -100,10 +103,12 @@ took_one_more (ReadsNegative name size mid) t = record {
   derived = NegativeCellIs name size t.derived;
 }
 
+-- declarations that were read are derived
 pub sound_cells : {ts rest : List Symbol} {ds : List Declaration} → ReadsCells ts ds rest → TookCells ts ds rest
 sound_cells (ReadsNoCell ts h) = record { taken = []; split = refl; derived = NoCell }
 sound_cells (ReadsCellThen r rs) = took_one_more r (sound_cells rs)
 
+-- the parts of a program, put together
 program_symbols : (front cs ts us xs bs vs : List Symbol) → xs ≡ cs ++ word_pipe_while ∷ open_round ∷ bs → bs ≡ ts ++ close_round ∷ open_brace ∷ vs
     → vs ≡ us ++ close_brace ∷ []
     → front ++ xs ≡ front ++ (cs ++ word_pipe_while ∷ open_round ∷ (ts ++ close_round ∷ open_brace ∷ (us ++ close_brace ∷ [])))
@@ -128,6 +133,7 @@ found_here : {longest : ℕ} (sign : ℕ) (ts close rest : List Symbol) {e : Exp
 found_here {longest} sign ts close rest {e} d =
     subst (λ x. ReadsClosed longest sign x e (close ++ rest)) (sym (append_assoc ts (symbols.Sign sign ∷ close) rest)) (found_closed sign (close ++ rest) d)
 
+-- a statement that is derived is read, whatever follows
 pub found_statement : {longest : ℕ} {ts : List Symbol} {s : Statement} (rest : List Symbol) → DerivesStatement longest ts s
     → ReadsStatement longest (ts ++ rest) s rest
 found_statement rest (LetIs {ts} name d) = ReadsLet name (found_here 59 ts [] rest d)
@@ -138,6 +144,7 @@ found_statement rest WaitNextIs = ReadsWaitNext rest
 found_statement rest (ContinueIs {ts} d) = ReadsContinue (found_here 41 ts (semicolon ∷ []) rest d)
 found_statement rest ContinueNextIs = ReadsContinueNext rest
 
+-- statements that are derived are read before a closing brace
 pub found_block : {longest : ℕ} {ts : List Symbol} {ss : Statements} (rest : List Symbol) → DerivesStatements longest ts ss
     → ReadsBlock longest (ts ++ close_brace ∷ rest) ss rest
 found_block rest NoStatement = ReadsClose rest
@@ -145,6 +152,7 @@ found_block {longest} rest (OneMore {ts} {us} {s} {ss} d ds) =
     subst (λ x. ReadsBlock longest x (Then s ss) rest) (sym (append_assoc ts us (close_brace ∷ rest)))
     (ReadsOneMore (found_statement (us ++ close_brace ∷ rest) d) (found_block rest ds))
 
+-- declarations that are derived are read before what begins no declaration
 pub found_cells : {ts : List Symbol} {ds : List Declaration} (rest : List Symbol) → ((behind : List Symbol) → rest ≢ word_cell ∷ behind)
     → DerivesCells ts ds
     → ReadsCells (ts ++ rest) ds rest
@@ -152,6 +160,7 @@ found_cells rest h NoCell = ReadsNoCell rest h
 found_cells rest h (CellIs {ts} name value ds) = ReadsCellThen (ReadsPlain name value (ts ++ rest)) (found_cells rest h ds)
 found_cells rest h (NegativeCellIs {ts} name size ds) = ReadsCellThen (ReadsNegative name size (ts ++ rest)) (found_cells rest h ds)
 
+-- the loop begins no declaration
 no_cell_here : (ts behind : List Symbol) → word_pipe_while ∷ ts ≢ word_cell ∷ behind
 no_cell_here ts behind h = cc (h)
 
@@ -174,6 +183,7 @@ pub record SameRead (A : Type 0) (a b : A) (rest rest' : List Symbol) : Type 0 w
 pub no_sign : {rank sign : ℕ} {ts rest : List Symbol} {e : Expression} → Reads rank (symbols.Sign sign ∷ ts) e rest → ⊥
 no_sign (ReadsChain r g) = no_sign r
 
+-- a statement is read in one way
 pub one_statement : {longest : ℕ} {ts rest rest' : List Symbol} {s s' : Statement} → ReadsStatement longest ts s rest → ReadsStatement longest ts s' rest'
     → SameRead Statement s s' rest rest'
 one_statement (ReadsLet name r) (ReadsLet name' r') = let s = one_closed r r' in record { tree = ap (Let name) s.tree; left = s.left }
@@ -189,9 +199,11 @@ one_statement (ReadsContinue r) (ReadsContinueNext rest') = absurd (no_sign r.re
 one_statement (ReadsContinueNext rest) (ReadsContinue r') = absurd (no_sign r'.read)
 one_statement (ReadsContinueNext rest) (ReadsContinueNext rest') = record { tree = refl; left = refl }
 
-no_brace : {longest : ℕ} {ts rest : List Symbol} {s : Statement} → ReadsStatement longest (close_brace ∷ ts) s rest → ⊥
+-- no statement begins with a closing brace
+pub no_brace : {longest : ℕ} {ts rest : List Symbol} {s : Statement} → ReadsStatement longest (close_brace ∷ ts) s rest → ⊥
 no_brace r = elim r [ ]
 
+-- statements are read in one way
 pub one_block : {longest : ℕ} {ts rest rest' : List Symbol} {ss ss' : Statements} → ReadsBlock longest ts ss rest → ReadsBlock longest ts ss' rest'
     → SameRead Statements ss ss' rest rest'
 one_block (ReadsClose rest) (ReadsClose rest') = record { tree = refl; left = refl }
@@ -202,10 +214,12 @@ one_block {longest} {rest' = rest'} (ReadsOneMore {s = s} {ss = ss} r b) (ReadsO
     let i = one_block b (subst (λ x. ReadsBlock longest x ss' rest') (sym h.left) b') in
     record { tree = ap (λ x. Then x ss) h.tree ∙ ap (Then s') i.tree; left = i.left }
 
+-- a declaration is read in one way
 pub one_cell : {ts rest rest' : List Symbol} {d d' : Declaration} → ReadsCell ts d rest → ReadsCell ts d' rest' → SameRead Declaration d d' rest rest'
 one_cell (ReadsPlain name value rest) (ReadsPlain name' value' rest') = record { tree = refl; left = refl }
 one_cell (ReadsNegative name size rest) (ReadsNegative name' size' rest') = record { tree = refl; left = refl }
 
+-- declarations are read in one way
 pub one_cells : {ts rest rest' : List Symbol} {ds ds' : List Declaration} → ReadsCells ts ds rest → ReadsCells ts ds' rest'
     → SameRead (List Declaration) ds ds' rest rest'
 one_cells (ReadsNoCell ts h) (ReadsNoCell ts' h') = record { tree = refl; left = refl }
@@ -220,6 +234,7 @@ one_cells {rest' = rest'} (ReadsCellThen {d = d} {ds = ds} r rs) (ReadsCellThen 
 same_behind : {ts us : List Symbol} (s t : Symbol) → s ∷ t ∷ ts ≡ s ∷ t ∷ us → ts ≡ us
 same_behind s t h = cc (h)
 
+-- a program is read in one way
 one_read_program : {longest : ℕ} {ts : List Symbol} {p q : SyntaxTree} → ReadsProgram longest ts p → ReadsProgram longest ts q → p ≡ q
 one_read_program {longest} (ReadsAll {us = us} iterations stages steps emits c e b)
     (ReadsAll {ts = ts'} {us = us'} {test = test'} {body = body'} iterations' stages' steps' emits' c' e' b') =

@@ -18,6 +18,7 @@ record Extended (rank : ℕ) (left ts : List Symbol) (e : Expression) (rest : Li
   split : ts ≡ taken ++ rest
   derived : Derives (suc rank) (left ++ taken) e
 
+-- a part of a tighter rank and what extends it are taken together
 chained : {rank : ℕ} {a e : Expression} (ts mid rest : List Symbol) → (t : Took rank ts a mid) → Extended rank t.taken mid e rest
     → Took (suc rank) ts e rest
 chained ts mid rest t w = record {
@@ -26,6 +27,7 @@ chained ts mid rest t w = record {
   derived = w.derived;
 }
 
+-- an operator and its operand are taken with what extends them
 joined : {rank : ℕ} {b e : Expression} (left ts mid rest : List Symbol) (code : ℕ) → (t : Took rank ts b mid)
     → Extended rank (left ++ symbols.Operator code ∷ t.taken) mid e rest → Extended rank left (symbols.Operator code ∷ ts) e rest
 joined {rank} {e = e} left ts mid rest code t w = record {
@@ -58,16 +60,19 @@ Found zero ts e = (rest : List Symbol) → Reads 0 (ts ++ rest) e rest
 Found (suc rank) ts e =
     (rest : List Symbol) (whole : Expression) (end : List Symbol) → Loose rank rest → Extends rank e rest whole end → Reads (suc rank) (ts ++ rest) whole end
 
+-- what is derived is read where no operator of its ranks follows
 found_alone : (rank : ℕ) (ts : List Symbol) (e : Expression) → Found rank ts e → (rest : List Symbol) → Loose rank rest → Reads rank (ts ++ rest) e rest
 found_alone zero ts e f rest h = f rest
 found_alone (suc rank) ts e f rest h = f rest e rest (λ k l. h k (omega arith)) (Ends rest (h rank (omega arith)))
 
+-- two operands with an operator between them are read, whatever follows that is no tighter operator
 found_joined : (rank : ℕ) (left right : List Symbol) (a b : Expression) (code : ℕ) → rank_of code ≡ suc rank → Found (suc rank) left a → Found rank right b
     → Found (suc rank) (left ++ symbols.Operator code ∷ right) (joined_by code a b)
 found_joined rank left right a b code h f g rest whole end loose goes =
     subst (λ x. Reads (suc rank) x whole end) (sym (append_assoc left (symbols.Operator code ∷ right) rest))
     (f (symbols.Operator code ∷ (right ++ rest)) whole end (λ k l e. absurd (omega (arith, e, h))) (Joins code h (found_alone rank right b g rest loose) goes))
 
+-- what is derived is read
 found : {rank : ℕ} {ts : List Symbol} {e : Expression} → Derives rank ts e → Found rank ts e
 found (Numeral n) = λ rest. ReadsNumeral n rest
 found (Named name) = λ rest. ReadsName name rest
@@ -89,6 +94,7 @@ pub moved : (rank : ℕ) {a a' e : Expression} {ts ts' rest : List Symbol} → a
 moved rank {a = a} {e = e} {ts' = ts'} {rest = rest} h i g = subst (λ x. Extends rank a x e rest) (sym i) (subst (λ x. Extends rank x ts' e rest) (sym h) g)
 
 mutual
+  -- an expression of a rank is read in one way
   pub one_reading : {rank : ℕ} {ts rest rest' : List Symbol} {e e' : Expression} → Reads rank ts e rest → Reads rank ts e' rest'
       → SameReading e e' rest rest'
   one_reading (ReadsNumeral n rest) (ReadsNumeral m rest') = record { tree = refl; left = refl }
@@ -109,6 +115,7 @@ pub record TookClosed (longest sign : ℕ) (ts : List Symbol) (e : Expression) (
   pub split : ts ≡ taken ++ symbols.Sign sign ∷ rest
   pub whole : DerivesWhole longest taken e
 
+-- what was read up to its closing sign is derived
 pub sound_closed : {longest sign : ℕ} {ts : List Symbol} {e : Expression} {rest : List Symbol} → ReadsClosed longest sign ts e rest
     → TookClosed longest sign ts e rest
 sound_closed {longest} {sign} {ts} {e} {rest} r =
@@ -116,12 +123,14 @@ sound_closed {longest} {sign} {ts} {e} {rest} r =
     let many : length ts ≡ length t.taken + length (symbols.Sign sign ∷ rest) = ap length t.split ∙ length-append t.taken (symbols.Sign sign ∷ rest) in
     record { taken = t.taken; split = t.split; whole = record { derived = t.derived; short = omega (arith, many, r.short) } }
 
+-- what is derived is read up to a closing sign
 pub found_closed : {longest : ℕ} {ts : List Symbol} {e : Expression} (sign : ℕ) (rest : List Symbol) → DerivesWhole longest ts e
     → ReadsClosed longest sign (ts ++ symbols.Sign sign ∷ rest) e rest
 found_closed {longest} {ts} {e} sign rest d =
     let many : length (ts ++ symbols.Sign sign ∷ rest) ≡ length ts + length (symbols.Sign sign ∷ rest) = length-append ts (symbols.Sign sign ∷ rest) in
     record { read = found_before_sign sign rest d.derived; short = omega (arith, many, d.short) }
 
+-- up to its closing sign an expression is read in one way
 pub one_closed : {longest sign : ℕ} {ts rest rest' : List Symbol} {e e' : Expression} → ReadsClosed longest sign ts e rest
     → ReadsClosed longest sign ts e' rest'
     → SameReading e e' rest rest'

@@ -3,6 +3,7 @@ pub mod Numerals
 pub mod Longest
 pub mod CutLaws
 pub mod Cutting
+pub mod Fronts
 pub mod Results
 pub mod Expressions
 pub mod Windows

@@ -5,6 +5,7 @@ use Rattle.std.specs.List.{list_any}
 use Rattle.std.specs.Str.{bytes_eq}
 use Rattle.pipe_model.specs.Rules.{is_among}
 
+-- names are compared alike from both sides
 pub bytes_eq_sym : (xs ys : List ℕ) → bytes_eq xs ys ≡ bytes_eq ys xs
 bytes_eq_sym [] [] = refl
 bytes_eq_sym [] (y ∷ ys) = refl
@@ -19,11 +20,13 @@ names_at keys = map (λ key. key.now) keys
 abbrev pub has_key : List (Bor (List ℕ)) → List ℕ → Bool
 has_key keys x = list_any (λ key. bytes_eq x key.now) keys
 
+-- a key is found exactly where its name is among the names
 pub found_among : (keys : List (Bor (List ℕ))) (x : List ℕ) → has_key keys x ≡ is_among (names_at keys) x
 found_among [] x = refl
 found_among (key ∷ keys) x =
     ap (λ b. b || has_key keys x) (bytes_eq_sym x key.now) ∙ ap (λ b. bytes_eq key.now x || b) (found_among keys x)
 
+-- a test by cases is an or
 pub cond_or : (a b : Bool) → cond a true b ≡ (a || b)
 cond_or true b = refl
 cond_or false b = refl

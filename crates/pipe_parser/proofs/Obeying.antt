@@ -13,6 +13,7 @@ use Rattle.pipe_parser.proofs.NameSets.{bytes_eq_sym}
 
 -- ---- names that differ
 
+-- a name is among two lists together where it is among one of them
 among_more : (xs ys : List (List ℕ)) (x : List ℕ) → is_among (xs ++ ys) x ≡ (is_among xs x || is_among ys x)
 among_more [] ys x = refl
 among_more (y ∷ xs) ys x = ap (λ b. bytes_eq y x || b) (among_more xs ys x) ∙ or_assoc (bytes_eq y x) (is_among xs x) (is_among ys x)
@@ -21,6 +22,7 @@ among_more (y ∷ xs) ys x = ap (λ b. bytes_eq y x || b) (among_more xs ys x) �
     or_assoc true b c = refl
     or_assoc false b c = refl
 
+-- names that differ still differ with a new one
 pub differ_more : (xs : List (List ℕ)) (x : List ℕ) → all_differ xs ≡ true → is_among xs x ≡ false → all_differ (xs ++ x ∷ []) ≡ true
 differ_more [] x d h = refl
 differ_more (y ∷ xs) x d h =
@@ -35,6 +37,7 @@ differ_more (y ∷ xs) x d h =
     or_false true = refl
     or_false false = refl
 
+-- a name that stands before itself makes names not differ
 pub twice : (xs ys : List (List ℕ)) (x : List ℕ) → is_among xs x ≡ true → all_differ (xs ++ x ∷ ys) ≡ false
 twice [] ys x h = absurd (false≢true h)
 twice (y ∷ xs) ys x h =
@@ -46,10 +49,12 @@ twice (y ∷ xs) ys x h =
 
 -- ---- the same names
 
+-- the same names are known
 same_known : {these those : List (List ℕ)} (locals : List (List ℕ)) (x : List ℕ) → HasSameNames these those
     → is_known these locals x ≡ is_known those locals x
 same_known locals x h = ap (λ b. is_among locals x || b) (h.same x)
 
+-- an expression uses names known among the same names alike
 pub same_uses : {these those : List (List ℕ)} (locals : List (List ℕ)) (e : Expression) → HasSameNames these those
     → uses_known_names these locals e ≡ uses_known_names those locals e
 same_uses locals (Number n) h = refl
@@ -64,6 +69,7 @@ same_uses locals More h = refl
 same_uses locals Take h = refl
 same_uses locals Iter h = refl
 
+-- a statement obeys among the same names alike
 same_statement : {these those : List (List ℕ)} (locals : List (List ℕ)) (s : Statement) → HasSameNames these those
     → statement_obeys these locals s ≡ statement_obeys those locals s
 same_statement locals (Let x e) h = let i = same_known locals x h in let j = same_uses locals e h in cc (i, j)
@@ -75,6 +81,7 @@ same_statement locals (AssignElement x i e) h = refl
 same_statement locals (If e a b) h = refl
 same_statement locals (While e a) h = refl
 
+-- statements obey among the same names alike
 pub same_statements : {these those : List (List ℕ)} (locals : List (List ℕ)) (ss : Statements) → HasSameNames these those
     → statements_obey these locals ss ≡ statements_obey those locals ss
 same_statements locals Empty h = refl
@@ -84,6 +91,7 @@ same_statements {these} {those} locals (Then s ss) h =
 
 -- ---- the names of cells, one after the other
 
+-- the names up to this cell are those before it and its own
 names_before : (cells : List Declaration) (i : ℕ) (d : Declaration) → i < length cells → d ≡ get_or cells i d
     → cell_names (take (i + 1) cells) ≡ cell_names (take i cells) ++ d.name ∷ []
 names_before cells i d w h =
@@ -95,7 +103,7 @@ pub stands_twice : (cells : List Declaration) (i : ℕ) (d : Declaration) → i 
     → all_differ (cell_names cells) ≡ false
 stands_twice cells i d w h t =
     let parts : cells ≡ take i cells ++ d ∷ drop (suc i) cells =
-        sym (take-append-drop i cells) ∙ ap (λ x. take i cells ++ x) (drop-cons cells i d w ∙ ap (λ x. x ∷ drop (suc i) cells) (sym h)) in
+    sym (take-append-drop i cells) ∙ ap (λ x. take i cells ++ x) (drop-cons cells i d w ∙ ap (λ x. x ∷ drop (suc i) cells) (sym h)) in
     ap (λ x. all_differ (cell_names x)) parts ∙ ap all_differ (map-append (λ x. x.name) (take i cells) (d ∷ drop (suc i) cells))
     ∙ twice (cell_names (take i cells)) (cell_names (drop (suc i) cells)) d.name t
 
@@ -104,6 +112,7 @@ pub record AreAdded (names : List (List ℕ)) (cells : List Declaration) (i : �
   pub same : HasSameNames names (cell_names (take i cells))
   pub differ : all_differ (cell_names (take i cells)) ≡ true
 
+-- a new name is added
 pub one_more_name : (names names' : List (List ℕ)) (cells : List Declaration) (i : ℕ) (d : Declaration) → AreAdded names cells i → i < length cells
     → d ≡ get_or cells i d
     → is_among names d.name ≡ false → ((x : List ℕ) → is_among names' x ≡ is_among (d.name ∷ names) x) → AreAdded names' cells (i + 1)
@@ -126,6 +135,7 @@ one_more_name names names' cells i d added w h n more =
 
 -- ---- the whole program
 
+-- with its limits and cells in order, a program obeys where its test and its body do
 pub obeys_by : (tree : SyntaxTree) (names : List (List ℕ)) → limits_are_in_range tree.limits ≡ true → length tree.cells ≤ 65536
     → HasSameNames names (cell_names tree.cells) → all_differ (cell_names tree.cells) ≡ true
     → program_obeys tree ≡ (uses_known_names names [] tree.test && statements_obey names [] tree.body)
@@ -135,12 +145,14 @@ obeys_by tree names l n h d =
     let body = same_statements [] tree.body h in
     cc (l, few, d, test, body)
 
+-- a program whose test uses an unknown name does not obey
 pub refused_by_test : (tree : SyntaxTree) (names : List (List ℕ)) → limits_are_in_range tree.limits ≡ true → length tree.cells ≤ 65536
     → HasSameNames names (cell_names tree.cells) → all_differ (cell_names tree.cells) ≡ true → false ≡ uses_known_names names [] tree.test
     → false ≡ program_obeys tree
 refused_by_test tree names l n h d u =
     u ∙ sym (obeys_by tree names l n h d ∙ and_left (uses_known_names names [] tree.test) (statements_obey names [] tree.body) (sym u) ∙ u)
 
+-- with all else in order the body decides
 pub decided_by_body : (tree : SyntaxTree) (names : List (List ℕ)) (b : Bool) → limits_are_in_range tree.limits ≡ true → length tree.cells ≤ 65536
     → HasSameNames names (cell_names tree.cells) → all_differ (cell_names tree.cells) ≡ true → true ≡ uses_known_names names [] tree.test
     → b ≡ statements_obey names [] tree.body → b ≡ program_obeys tree
@@ -149,6 +161,7 @@ decided_by_body tree names b l n h d u s =
 
 -- ---- limits, one after the other
 
+-- with iterations and stages in order the other limits decide
 pub limits_by : (limits : Limits) (instances steps emits : Bool) → true ≡ is_between (pos 1) (pos 65536) limits.iterations
     → true ≡ is_between (pos 1) (pos 4096) limits.stages
     → instances ≡ is_between (pos 1) (pos 262144) (limits.iterations *ℤ limits.stages) → steps ≡ is_between (pos 1) (pos 1000000) limits.steps

@@ -1,5 +1,5 @@
 -- An expression of at most 256 symbols is read in the first 257 symbols as it is in all of them.
-use Rattle.std.proofs.Common.{◌≡◌, ◌∙◌, add-one, ℕ, ◌+◌, ◌-◌, ◌≤◌, min, List, ◌∷◌, ◌++◌, length, take, drop, refl, sym, ap, subst, arith, append_assoc, length-append}
+use Rattle.std.proofs.Common.{◌≡◌, ◌∙◌, add-one, ℕ, ◌+◌, ◌-◌, ◌≤◌, min, List, ◌∷◌, ◌++◌, length, take, drop, sym, ap, subst, arith, append_assoc, length-append}
 use Rattle.std.proofs.Math.Seq.{take-append-add, drop-append-add}
 use Rattle.std.proofs.lemmas.List.{take-append-drop, length-take-le}
 use Rattle.pipe_model.specs.declared.symbol.Symbol.{Symbol}
@@ -9,12 +9,14 @@ use Rattle.pipe_model.specs.SyntaxTree.{Expression}
 use Rattle.pipe_model.proofs.Reading.{sound, sound_closed, found_before_sign, found_closed, one_reading}
 use Rattle.pipe_parser.specs.Fronts.{HasNoSign}
 use Rattle.pipe_parser.specs.Nothing.{ReadsNothing, ClosesNowhere}
+use Rattle.pipe_parser.proofs.Fronts.{sign_stands}
 
 -- what stands behind the sign in the window, and the reading there
 record SeenInWindow (sign n : ℕ) (ts : List Symbol) (e : Expression) : Type 0 where
   behind : List Symbol
   read : Reads 6 (take n ts) e (symbols.Sign sign ∷ behind)
 
+-- what is read up to the sign is read up to it in the window
 seen : (sign n : ℕ) (ts : List Symbol) (e : Expression) (rest : List Symbol) → n ≡ min (length ts) 257 → ReadsClosed 256 sign ts e rest
     → SeenInWindow sign n ts e
 seen sign n ts e rest w r =
@@ -35,9 +37,6 @@ seen sign n ts e rest w r =
 pub nothing_in_window : (sign n : ℕ) (ts : List Symbol) → n ≡ min (length ts) 257 → ReadsNothing 6 (take n ts) → ClosesNowhere sign ts
 nothing_in_window sign n ts w h = record { none = λ e rest r. let s = seen sign n ts e rest w r in h.none e (symbols.Sign sign ∷ s.behind) s.read }
 
-sign_stands : (sign : ℕ) (ts rest : List Symbol) → HasNoSign sign ts → ts ≡ symbols.Sign sign ∷ rest → ⊥
-sign_stands sign ts rest h e = (rw e at h) refl
-
 -- nor is what is read in the window up to something else
 pub no_sign_in_window : (sign n : ℕ) (ts : List Symbol) (e : Expression) (rest : List Symbol) → n ≡ min (length ts) 257 → Reads 6 (take n ts) e rest
     → HasNoSign sign rest
@@ -56,7 +55,7 @@ closed_in_window sign n ts e rest behind w r h =
     let whole : ts ≡ t.taken ++ symbols.Sign sign ∷ all =
     sym (take-append-drop n ts) ∙ ap (λ x. x ++ drop n ts) front ∙ append_assoc t.taken (symbols.Sign sign ∷ behind) (drop n ts) in
     let many : length (take n ts) ≡ length t.taken + length (symbols.Sign sign ∷ behind) =
-        ap length front ∙ length-append t.taken (symbols.Sign sign ∷ behind) in
+    ap length front ∙ length-append t.taken (symbols.Sign sign ∷ behind) in
     let size : length (take n ts) ≡ n = length-take-le n ts (omega (arith, w)) in
     let place : n - length behind ≡ length t.taken + 1 = omega (arith, many, size) in
     let left : drop (n - length behind) ts ≡ all =

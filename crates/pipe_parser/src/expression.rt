@@ -8,7 +8,7 @@ ghost use Rattle.pipe_model.specs.declared.symbol.Symbol.TheVariants.{Operator};
 ghost use Rattle.pipe_parser.specs.Fronts.{HasNoOperand, HasNoneOfRank};
 ghost use Rattle.pipe_parser.specs.Nothing.{ReadsNothing, ExtendsNowhere, ClosesNowhere};
 
-use crate::front::after_sign;
+use crate::front::{Parsed, after_sign};
 use pipe_model::memory::NoMemory;
 use pipe_model::name::Name;
 use pipe_model::symbol::Symbol;
@@ -51,10 +51,7 @@ fn operator_of_rank<'a>(symbols: &'a [Symbol], rank: u8) -> Option<(u8, &'a [Sym
 }
 
 /// Reads a number or a name from the front.
-fn read_operand<'a>(
-    alloc: Global,
-    symbols: &'a [Symbol],
-) -> Result<Option<(Expr, &'a [Symbol])>, NoMemory>
+fn read_operand<'a>(alloc: Global, symbols: &'a [Symbol]) -> Parsed<'a, Expr>
     ensures some { IfOk result (λ o. IfSome o (λ r. Reads 0 symbols.now (expression_of r.0) r.1.now)) }
     ensures none { IfOk result (λ o. IfNone o (HasNoOperand symbols.now)) }
     ensures shorter { IfOk result (λ o. IfSome o (λ r. length r.1.now < length symbols.now)) }
@@ -71,11 +68,7 @@ fn read_operand<'a>(
 
 /// Reads an expression of the rank from the front.
 #[cycle(expression)]
-fn read_expression<'a>(
-    alloc: Global,
-    rank: u8,
-    symbols: &'a [Symbol],
-) -> Result<Option<(Expr, &'a [Symbol])>, NoMemory>
+fn read_expression<'a>(alloc: Global, rank: u8, symbols: &'a [Symbol]) -> Parsed<'a, Expr>
     requires { rank ≤ 6 }
     ensures some { IfOk result (λ o. IfSome o (λ r. Reads rank symbols.now (expression_of r.0) r.1.now)) }
     ensures none { IfOk result (λ o. IfNone o (ReadsNothing rank symbols.now)) }
@@ -92,12 +85,7 @@ fn read_expression<'a>(
 
 /// Extends an expression by the operators one rank looser that follow, each with its operand.
 #[cycle(expression)]
-fn extend<'a>(
-    alloc: Global,
-    rank: u8,
-    first: Expr,
-    symbols: &'a [Symbol],
-) -> Result<Option<(Expr, &'a [Symbol])>, NoMemory>
+fn extend<'a>(alloc: Global, rank: u8, first: Expr, symbols: &'a [Symbol]) -> Parsed<'a, Expr>
     requires { rank < 6 }
     ensures some { IfOk result (λ o. IfSome o (λ r. Extends rank (expression_of first) symbols.now (expression_of r.0) r.1.now)) }
     ensures none { IfOk result (λ o. IfNone o (ExtendsNowhere rank (expression_of first) symbols.now)) }
@@ -115,11 +103,7 @@ fn extend<'a>(
 
 /// Reads an expression that is no part of another, and the sign that closes it. It looks at no more symbols than such
 /// an expression may have, so it goes no deeper than that, however long the source is.
-pub fn read_closed<'a>(
-    alloc: Global,
-    sign: u8,
-    symbols: &'a [Symbol],
-) -> Result<Option<(Expr, &'a [Symbol])>, NoMemory>
+pub fn read_closed<'a>(alloc: Global, sign: u8, symbols: &'a [Symbol]) -> Parsed<'a, Expr>
     ensures some { IfOk result (λ o. IfSome o (λ r. ReadsClosed 256 sign symbols.now (expression_of r.0) r.1.now)) }
     ensures none { IfOk result (λ o. IfNone o (ClosesNowhere sign symbols.now)) }
     ensures shorter { IfOk result (λ o. IfSome o (λ r. length r.1.now < length symbols.now)) }

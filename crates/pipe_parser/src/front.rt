@@ -4,7 +4,11 @@ ghost use Rattle.std.specs.Prelude.{◌≡◌, ◌∷◌, IfSome, IfNone};
 ghost use Rattle.pipe_model.specs.declared.symbol.Symbol.TheVariants.{Sign, Word, Number, Operator};
 ghost use Rattle.pipe_parser.specs.Fronts.{HasNoSign, HasNoWord, HasNoNumber, HasNoOperator};
 
+use pipe_model::memory::NoMemory;
 use pipe_model::symbol::Symbol;
+
+/// What a reader takes from the front of symbols, and what it leaves; `None` where nothing of its kind stands there.
+pub type Parsed<'a, T> = Result<Option<(T, &'a [Symbol])>, NoMemory>;
 
 /// What stands behind the sign, where it stands at the front.
 pub fn after_sign<'a>(symbols: &'a [Symbol], sign: u8) -> Option<&'a [Symbol]>

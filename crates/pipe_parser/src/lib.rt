@@ -1,13 +1,13 @@
 //! Programs from their text.
 #![tactic(auto)]
 
-pub mod expression;
+mod expression;
 pub mod first_form;
-pub mod front;
-pub mod lexis;
-pub mod names;
-pub mod program;
-pub mod rules;
-pub mod statement;
+mod front;
+mod lexis;
+mod names;
+mod program;
+mod rules;
+mod statement;
 #[cfg(test)]
 mod tests;

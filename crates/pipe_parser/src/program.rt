@@ -8,7 +8,7 @@ ghost use Rattle.pipe_parser.specs.Nothing.{DeclaresNothing, ReadsNoCells, Deriv
 ghost use Rattle.pipe_parser.specs.Programs.{IsLimit, IsNoLimit, HasLimits, HasNoLimits, ReadsValue, ReadsNoValue, ReadsLoop, ReadsNoLoop};
 
 use crate::expression::read_closed;
-use crate::front::{after_number, after_operator, after_sign, after_word};
+use crate::front::{Parsed, after_number, after_operator, after_sign, after_word};
 use crate::statement::read_block;
 use pipe_model::memory::NoMemory;
 use pipe_model::name::Name;
@@ -82,10 +82,7 @@ fn read_value<'a>(symbols: &'a [Symbol]) -> Option<(i64, &'a [Symbol])>
 }
 
 /// Reads the declaration of a cell, behind its word.
-fn read_cell<'a>(
-    alloc: Global,
-    symbols: &'a [Symbol],
-) -> Result<Option<(Declaration, &'a [Symbol])>, NoMemory>
+fn read_cell<'a>(alloc: Global, symbols: &'a [Symbol]) -> Parsed<'a, Declaration>
     ensures some { IfOk result (λ o. IfSome o (λ r. ReadsCell symbols.now r.0 r.1.now)) }
     ensures none { IfOk result (λ o. IfNone o (DeclaresNothing symbols.now)) }
 {
@@ -113,10 +110,7 @@ fn read_cell<'a>(
 }
 
 /// Reads declarations, as long as their word stands at the front.
-fn read_cells<'a>(
-    alloc: Global,
-    symbols: &'a [Symbol],
-) -> Result<Option<(Declarations, &'a [Symbol])>, NoMemory>
+fn read_cells<'a>(alloc: Global, symbols: &'a [Symbol]) -> Parsed<'a, Declarations>
     ensures some { IfOk result (λ o. IfSome o (λ r. ReadsCells symbols.now r.0 r.1.now)) }
     ensures none { IfOk result (λ o. IfNone o (ReadsNoCells symbols.now)) }
 {

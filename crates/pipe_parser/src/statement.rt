@@ -9,7 +9,7 @@ ghost use Rattle.pipe_parser.specs.Nothing.{ReadsNoStatement, ReadsNoBlock};
 ghost use Rattle.pipe_parser.specs.Stages.{ReadsStage, ReadsNoStage};
 
 use crate::expression::read_closed;
-use crate::front::after_sign;
+use crate::front::{Parsed, after_sign};
 use pipe_model::memory::NoMemory;
 use pipe_model::name::Name;
 use pipe_model::symbol::Symbol;
@@ -26,10 +26,7 @@ const LET: u8 = 12;
 const EMIT: u8 = 16;
 
 /// Reads a `let` behind its word.
-fn read_let<'a>(
-    alloc: Global,
-    symbols: &'a [Symbol],
-) -> Result<Option<(Stmt, &'a [Symbol])>, NoMemory>
+fn read_let<'a>(alloc: Global, symbols: &'a [Symbol]) -> Parsed<'a, Stmt>
     ensures some { IfOk result (λ o. IfSome o (λ r. ReadsStatement 256 (word_let ∷ symbols.now) (statement_of r.0) r.1.now)) }
     ensures none { IfOk result (λ o. IfNone o (ReadsNoStatement (word_let ∷ symbols.now))) }
 {
@@ -47,11 +44,7 @@ fn read_let<'a>(
 }
 
 /// Reads an assignment behind its name.
-fn read_assignment<'a>(
-    alloc: Global,
-    name: &Name,
-    symbols: &'a [Symbol],
-) -> Result<Option<(Stmt, &'a [Symbol])>, NoMemory>
+fn read_assignment<'a>(alloc: Global, name: &Name, symbols: &'a [Symbol]) -> Parsed<'a, Stmt>
     ensures some { IfOk result (λ o. IfSome o (λ r. ReadsStatement 256 (terminals.Name name.now ∷ symbols.now) (statement_of r.0) r.1.now)) }
     ensures none { IfOk result (λ o. IfNone o (ReadsNoStatement (terminals.Name name.now ∷ symbols.now))) }
 {
@@ -66,10 +59,7 @@ fn read_assignment<'a>(
 }
 
 /// Reads an `emit` behind its word.
-fn read_emit<'a>(
-    alloc: Global,
-    symbols: &'a [Symbol],
-) -> Result<Option<(Stmt, &'a [Symbol])>, NoMemory>
+fn read_emit<'a>(alloc: Global, symbols: &'a [Symbol]) -> Parsed<'a, Stmt>
     ensures some { IfOk result (λ o. IfSome o (λ r. ReadsStatement 256 (word_emit ∷ symbols.now) (statement_of r.0) r.1.now)) }
     ensures none { IfOk result (λ o. IfNone o (ReadsNoStatement (word_emit ∷ symbols.now))) }
 {
@@ -80,10 +70,7 @@ fn read_emit<'a>(
 }
 
 /// Reads what stands behind the word of a stage statement: the stage number in round brackets, where there is one.
-fn read_stage<'a>(
-    alloc: Global,
-    symbols: &'a [Symbol],
-) -> Result<Option<(Option<Expr>, &'a [Symbol])>, NoMemory>
+fn read_stage<'a>(alloc: Global, symbols: &'a [Symbol]) -> Parsed<'a, Option<Expr>>
     ensures some { IfOk result (λ o. IfSome o (λ r. ReadsStage symbols.now r.0 r.1.now)) }
     ensures none { IfOk result (λ o. IfNone o (ReadsNoStage symbols.now)) }
 {
@@ -106,10 +93,7 @@ fn read_stage<'a>(
 }
 
 /// Reads a statement from the front.
-fn read_statement<'a>(
-    alloc: Global,
-    symbols: &'a [Symbol],
-) -> Result<Option<(Stmt, &'a [Symbol])>, NoMemory>
+fn read_statement<'a>(alloc: Global, symbols: &'a [Symbol]) -> Parsed<'a, Stmt>
     ensures some { IfOk result (λ o. IfSome o (λ r. ReadsStatement 256 symbols.now (statement_of r.0) r.1.now)) }
     ensures none { IfOk result (λ o. IfNone o (ReadsNoStatement symbols.now)) }
 {
@@ -133,10 +117,7 @@ fn read_statement<'a>(
 }
 
 /// Reads statements and the brace that closes them.
-pub fn read_block<'a>(
-    alloc: Global,
-    symbols: &'a [Symbol],
-) -> Result<Option<(Block, &'a [Symbol])>, NoMemory>
+pub fn read_block<'a>(alloc: Global, symbols: &'a [Symbol]) -> Parsed<'a, Block>
     ensures some { IfOk result (λ o. IfSome o (λ r. ReadsBlock 256 symbols.now (statements_of r.0.statements.items) r.1.now)) }
     ensures none { IfOk result (λ o. IfNone o (ReadsNoBlock symbols.now)) }
 {

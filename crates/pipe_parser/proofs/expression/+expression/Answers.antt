@@ -1,4 +1,4 @@
-use Rattle.std.proofs.Common.{◌≡◌, ◌∙◌, ◌+◌, ◌-◌, ◌<◌, ◌≤◌, length, suc, arith, add-one, sym, subst}
+use Rattle.std.proofs.Common.{◌≡◌, ◌∙◌, ◌-◌, suc, arith, add-one, sym, subst}
 use Rattle.pipe_model.specs.Grammar.{rank_of}
 use Rattle.pipe_model.specs.Reading.{Reads, Extends}
 use Rattle.pipe_model.specs.SyntaxTree.{expression_of, joined_by}
@@ -33,7 +33,7 @@ read_expression-returns-clause-some t c =
     if_ok_some (λ r. Extends (c.args.rank - 1) (expression_of c.in-Some.first) c.in-Some.rest.now (expression_of r.0) r.1.now)
     (λ r. Reads c.args.rank c.args.symbols.now (expression_of r.0) r.1.now) c.extend.result
     (λ r g. subst (λ rank. Reads rank c.args.symbols.now (expression_of r.0) r.1.now) up
-      (chain_read _ _ _ _ _ _ (rw c.in-Some.is at c.in_ok-first.ensures.some) g))
+    (chain_read _ _ _ _ _ _ (rw c.in-Some.is at c.in_ok-first.ensures.some) g))
     c.extend.ensures.some
 
 pub read_expression-returns-clause-none : goal.read_expression-returns-clause-none

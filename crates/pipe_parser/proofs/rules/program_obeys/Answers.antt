@@ -9,20 +9,20 @@ use Rattle.pipe_parser.proofs.rules.program_obeys.Goals as goal
 pub returns-then-not-uses_known_names : goal.returns-then-not-uses_known_names
 returns-then-not-uses_known_names c =
     let names : HasSameNames c.in-Some.cells (cell_names c.args.program.now.cells) =
-        rw (← c.as_slice.ensures) (rw c.in-Some.is at c.in_ok-cells.ensures.names) in
+    rw (← c.as_slice.ensures) (rw c.in-Some.is at c.in_ok-cells.ensures.names) in
     let differ : all_differ (cell_names c.args.program.now.cells) ≡ true =
-        rw (← c.as_slice.ensures) (rw c.in-Some.is at c.in_ok-cells.ensures.some) in
+    rw (← c.as_slice.ensures) (rw c.in-Some.is at c.in_ok-cells.ensures.some) in
     refused_by_test (tree_of c.args.program.now) c.in-Some.cells (sym c.if-not-limits_are_in_range.ensures) (rw c.len.ensures at c.if-len-gt-MOST_CELLS.false)
-      names differ c.if-not-uses_known_names.ensures
+    names differ c.if-not-uses_known_names.ensures
 
 pub returns : goal.returns
 returns c =
     let names : HasSameNames c.in-Some.cells (cell_names c.args.program.now.cells) =
-        rw (← c.as_slice.ensures) (rw c.in-Some.is at c.in_ok-cells.ensures.names) in
+    rw (← c.as_slice.ensures) (rw c.in-Some.is at c.in_ok-cells.ensures.names) in
     let differ : all_differ (cell_names c.args.program.now.cells) ≡ true =
-        rw (← c.as_slice.ensures) (rw c.in-Some.is at c.in_ok-cells.ensures.some) in
+    rw (← c.as_slice.ensures) (rw c.in-Some.is at c.in_ok-cells.ensures.some) in
     if_ok (λ b. b ≡ statements_obey c.in-Some.cells [] (statements_of c.deref.result.now)) (λ b. b ≡ program_obeys (tree_of c.args.program.now)) c.statements_obey.result
     (λ b h. decided_by_body (tree_of c.args.program.now) c.in-Some.cells b (sym c.if-not-limits_are_in_range.ensures) (rw c.len.ensures at c.if-len-gt-MOST_CELLS.false)
-      names differ
+    names differ
     c.if-not-uses_known_names.ensures (h ∙ ap (λ x. statements_obey c.in-Some.cells [] (statements_of x)) c.deref.ensures.value))
     c.statements_obey.ensures

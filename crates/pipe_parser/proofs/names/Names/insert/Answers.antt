@@ -11,6 +11,6 @@ returns-clause-added c =
 pub returns-clause-names : goal.returns-clause-names
 returns-clause-names c = λ x.
     let found : has_key c.self.inside.names.keys x ≡ is_among c.args.self.now x =
-        found_among c.self.inside.names.keys x ∙ ap (λ names. is_among names x) c.self.view_is in
+    found_among c.self.inside.names.keys x ∙ ap (λ names. is_among names x) c.self.view_is in
     sym (found_among c.insert.new.self.keys x) ∙ c.in_ok-insert.ensures.updates.0 (record { ref_ptr = (0, 0); now = x })
     ∙ cond_or (bytes_eq c.args.name.now x) (has_key c.self.inside.names.keys x) ∙ ap (λ b. bytes_eq c.args.name.now x || b) found
