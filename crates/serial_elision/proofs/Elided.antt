@@ -1,5 +1,5 @@
 -- The serial elision grows by one iteration after the other.
-use Rattle.std.proofs.Common.{◌≡◌, ◌∙◌, ap, sym, refl, subst, ℕ, ℤ, pos, zero, suc, ◌+◌, ◌-◌, ◌<◌, ◌==◌, ◌&&◌, List, [], ◌∷◌, ◌++◌, Bool, true, false, Option, Some, None, length, map, append-nil, append_assoc, arith, lit<}
+use Rattle.std.proofs.Common.{◌≡◌, ◌∙◌, ap, sym, refl, subst, ℕ, ℤ, zero, suc, ◌+◌, ◌-◌, ◌<◌, ◌==◌, List, [], ◌∷◌, ◌++◌, Bool, true, false, Option, Some, None, length, map, append_assoc, arith, lit<}
 use Rattle.std.proofs.lemmas.Bool.Decides.{nat_tests}
 use Rattle.std.proofs.lemmas.List.{map-append}
 use Rattle.std.specs.Option.{option_or}
@@ -12,7 +12,7 @@ use Rattle.pipe_model.specs.declared.node.Node.{Node}
 use Rattle.pipe_model.specs.declared.trap.TrapAt.{TrapAt}
 use Rattle.pipe_model.specs.declared.trap.TrapPlace.TheVariants.{At}
 use Rattle.pipe_model.specs.Columns.{at, node_at}
-use Rattle.pipe_model.specs.Behaviour.{Behaviour, Reading, Writing, Staging, Ending, Action, Accessed, Staged, Ended, accesses_in, closes_loop, column_of, is_closing, nodes_in, read_access, trace_end, write_access}
+use Rattle.pipe_model.specs.Behaviour.{Behaviour, Reading, Writing, Staging, Ending, Action, Accessed, Staged, Ended, accesses_in, closes_loop, column_of, nodes_in, read_access, trace_end, write_access}
 use Rattle.pipe_model.specs.Evaluation.{run_iteration}
 use Rattle.pipe_model.specs.Interaction.{Interaction, with_budget}
 use Rattle.pipe_model.specs.Outcome.{ended_column, first_of_both, first_trap, trap_at_end}
@@ -20,11 +20,11 @@ use Rattle.pipe_model.specs.Pipeline.{Pipeline}
 use Rattle.pipe_model.specs.Programs.{natural, pipeline_of, setting_of}
 use Rattle.pipe_model.specs.SerialElision.{located, located_from, serial_trace, serial_traces_from, unless}
 use Rattle.pipe_model.specs.State.{accesses_of}
-use Rattle.pipe_model.specs.Store.{value_after, value_from, written}
+use Rattle.pipe_model.specs.Store.{value_after}
 use Rattle.pipe_model.specs.SyntaxTree.{SyntaxTree}
 use Rattle.serial_elision.specs.Answers.{basis_of}
 use Rattle.serial_elision.specs.Elided.{AreElided, IsEnd, is_last, trap_in}
-use Rattle.serial_elision.specs.Kept.{Basis, Kept, Ran, cells_of, end_of, first_node, kept_of, perform}
+use Rattle.serial_elision.specs.Kept.{Basis, Kept, cells_of, first_node, perform}
 use Rattle.serial_elision.proofs.Traces.{IsTraced, closes_after, leads_to_end}
 
 -- the accesses of a trace, with their instances and without
@@ -40,12 +40,14 @@ first_of_three None b c = refl
 first_of_three (Some t) b c = refl
 
 -- the cells of two pipelines have the same values
-same_value : (p q : Pipeline) (accesses : List Access) (c : ℕ) → p.initial_values ≡ q.initial_values → p.output_limit ≡ q.output_limit → value_after p accesses c ≡ value_after q accesses c
+same_value : (p q : Pipeline) (accesses : List Access) (c : ℕ) → p.initial_values ≡ q.initial_values → p.output_limit ≡ q.output_limit
+    → value_after p accesses c ≡ value_after q accesses c
 same_value p q accesses c e f =
     ap (λ declared. value_after (cells_of declared p.output_limit) accesses c) e ∙ ap (λ limit. value_after (cells_of q.initial_values limit) accesses c) f
 
 -- and so iterations have the same traces
-pub same_trace : (p q : Pipeline) (b : Behaviour) (before : List Access) → p.initial_values ≡ q.initial_values → p.output_limit ≡ q.output_limit → serial_trace p b before ≡ serial_trace q b before
+pub same_trace : (p q : Pipeline) (b : Behaviour) (before : List Access) → p.initial_values ≡ q.initial_values → p.output_limit ≡ q.output_limit
+    → serial_trace p b before ≡ serial_trace q b before
 same_trace p q (Reading c go) before e f =
     let v : ℤ = value_after q before c in
     ap (λ x. Accessed (read_access c x) ∷ serial_trace p (go x) (before ++ read_access c x ∷ [])) (same_value p q before c e f)
@@ -85,7 +87,8 @@ closes_by_nodes (n ∷ ns) ends.Closed = two_are_not_one n ns
 closes_by_nodes (n ∷ ns) (ends.Trapped t) = two_are_not_one n ns
 
 -- an iteration of a program, from its first instance to its end
-pub is_iteration : (tree : SyntaxTree) (input : List ℤ) (i : ℕ) (k j : Kept) (e : ColumnEnd) → k.basis ≡ basis_of tree → k.iteration ≡ i → k.nodes ≡ first_node ∷ [] → k.left ≡ k.basis.budget
+pub is_iteration : (tree : SyntaxTree) (input : List ℤ) (i : ℕ) (k j : Kept) (e : ColumnEnd) → k.basis ≡ basis_of tree → k.iteration ≡ i
+    → k.nodes ≡ first_node ∷ [] → k.left ≡ k.basis.budget
     → IsEnd e j (perform (run_iteration (setting_of tree input i) tree.test tree.body) k)
     → IsIteration i k.accesses (serial_trace (pipeline_of tree input) ((pipeline_of tree input).behaviour i) (accesses_of k.accesses)) e j
 is_iteration tree input i k j e basis iteration nodes left h =
@@ -96,11 +99,14 @@ is_iteration tree input i k j e basis iteration nodes left h =
     let own : serial_trace (cells_of k.basis.initial_values k.basis.output_limit) (with_budget k.basis.budget k.left d) before ≡ t =
     ap (λ n. serial_trace (cells_of k.basis.initial_values k.basis.output_limit) (with_budget k.basis.budget n d) before) left
     ∙ ap (λ (b : Basis). serial_trace (cells_of b.initial_values b.output_limit) (with_budget b.budget b.budget d) before) basis
-    ∙ same_trace (cells_of (basis_of tree).initial_values (basis_of tree).output_limit) (pipeline_of tree input) (with_budget (natural tree.limits.steps) (natural tree.limits.steps) d) before refl refl in
+    ∙ same_trace (cells_of (basis_of tree).initial_values (basis_of tree).output_limit) (pipeline_of tree input)
+    (with_budget (natural tree.limits.steps) (natural tree.limits.steps) d) before refl refl in
     let here : IsTraced t k.basis k.iteration k.accesses k.nodes (perform d k) =
     subst (λ (x : List Action). IsTraced x k.basis k.iteration k.accesses k.nodes (perform d k)) own (leads_to_end d k begun) in
-    let from : IsTraced t k.basis i k.accesses k.nodes (perform d k) = subst (λ (x : ℕ). IsTraced t k.basis x k.accesses k.nodes (perform d k)) iteration here in
-    let one : IsTraced t k.basis i k.accesses (first_node ∷ []) (perform d k) = subst (λ (x : List Node). IsTraced t k.basis i k.accesses x (perform d k)) nodes from in
+    let from : IsTraced t k.basis i k.accesses k.nodes (perform d k) = subst (λ (x : ℕ). IsTraced t k.basis x k.accesses k.nodes (perform d k)) iteration
+    here in
+    let one : IsTraced t k.basis i k.accesses (first_node ∷ []) (perform d k) = subst (λ (x : List Node). IsTraced t k.basis i k.accesses x (perform d k))
+    nodes from in
     let column : j.nodes ≡ column_of t = sym (ap (λ (x : Kept). x.nodes) h.kept) ∙ one.nodes in
     let ended : trace_end t ≡ Some e = one.ended ∙ ap Some h.ended in
     record {
@@ -113,7 +119,8 @@ is_iteration tree input i k j e basis iteration nodes left h =
     }
 
 -- what is left after an iteration: nothing where it closes the loop
-rest_after : (p : Pipeline) (n m i : ℕ) (t : List Action) (before after : List Access) (closes : Bool) → closes_loop t ≡ closes → (closes ≡ true → m ≡ zero) → (closes ≡ false → m ≡ n) → after ≡ before ++ accesses_in t
+rest_after : (p : Pipeline) (n m i : ℕ) (t : List Action) (before after : List Access) (closes : Bool) → closes_loop t ≡ closes → (closes ≡ true → m ≡ zero)
+    → (closes ≡ false → m ≡ n) → after ≡ before ++ accesses_in t
     → serial_traces_from p m (i + 1) after ≡ unless (closes_loop t) (serial_traces_from p n (i + 1) (before ++ accesses_in t))
 rest_after p n m i t before after true e closed open' same = rw (e, closed refl)
 rest_after p n m i t before after false e closed open' same = rw (e, open' refl, same)
@@ -128,14 +135,17 @@ elided_more p n m i columns trap before e k h one closed open' =
     let c : Column = record { nodes = k.nodes; end = Some e } in
     let rest : List (List Action) = unless (closes_loop t) (serial_traces_from p n (i + 1) (accesses_of before ++ accesses_in t)) in
     let accesses : accesses_of k.accesses ≡ accesses_of before ++ accesses_in t =
-    ap accesses_of one.accesses ∙ map-append (λ (a : NodeAccess). a.access) before (located i 0 t) ∙ ap (λ l. accesses_of before ++ l) (accesses_of-located i 0 t) in
+    ap accesses_of one.accesses ∙ map-append (λ (a : NodeAccess). a.access) before (located i 0 t)
+    ∙ ap (λ l. accesses_of before ++ l) (accesses_of-located i 0 t) in
     let left : serial_traces_from p m (i + 1) (accesses_of k.accesses) ≡ rest =
     rest_after p n m i t (accesses_of before) (accesses_of k.accesses) (is_last k.nodes e) (sym one.closes) closed open' accesses in
     let column : c ≡ ended_column t = cc (one.nodes, one.ended) in
     record {
-      all_columns = ap (λ r. (columns ++ c ∷ []) ++ map ended_column r) left ∙ append_assoc columns (c ∷ []) (map ended_column rest) ∙ ap (λ x. columns ++ x ∷ map ended_column rest) column ∙ h.all_columns;
+      all_columns = ap (λ r. (columns ++ c ∷ []) ++ map ended_column r) left ∙ append_assoc columns (c ∷ []) (map ended_column rest)
+          ∙ ap (λ x. columns ++ x ∷ map ended_column rest) column ∙ h.all_columns;
       least_trap =
-          ap (λ r. first_of_both (first_of_both trap (trap_in i k.nodes e)) (first_trap (i + 1) r)) left ∙ first_of_three trap (trap_in i k.nodes e) (first_trap (i + 1) rest)
+          ap (λ r. first_of_both (first_of_both trap (trap_in i k.nodes e)) (first_trap (i + 1) r)) left
+          ∙ first_of_three trap (trap_in i k.nodes e) (first_trap (i + 1) rest)
           ∙ ap (λ x. first_of_both trap (first_of_both x (first_trap (i + 1) rest))) one.trap ∙ h.least_trap;
       all_accesses =
           ap (λ r. k.accesses ++ located_from (i + 1) r) left ∙ ap (λ l. l ++ located_from (i + 1) rest) one.accesses
@@ -148,17 +158,20 @@ or_is_first None b = refl
 or_is_first (Some t) b = refl
 
 -- one iteration more, as the loop keeps it
-pub elided_push : (p : Pipeline) (n m i : ℕ) (columns pushed : List Column) (trap now : Option TrapAt) (before : List NodeAccess) (e : ColumnEnd) (k : Kept) (nodes : List Node)
+pub elided_push : (p : Pipeline) (n m i : ℕ) (columns pushed : List Column) (trap now : Option TrapAt) (before : List NodeAccess) (e : ColumnEnd) (k : Kept)
+    (nodes : List Node)
     → AreElided p (suc n) i columns trap before → IsIteration i before (serial_trace p (p.behaviour i) (accesses_of before)) e k
     → (is_last k.nodes e ≡ true → m ≡ zero) → (is_last k.nodes e ≡ false → m ≡ n)
     → nodes ≡ k.nodes → pushed ≡ columns ++ record { nodes = nodes; end = Some e } ∷ [] → now ≡ option_or trap (trap_in k.iteration k.nodes e)
     → AreElided p m (i + 1) pushed now k.accesses
 elided_push p n m i columns pushed trap now before e k nodes h one closed open' same push first =
-    let column : pushed ≡ columns ++ record { nodes = k.nodes; end = Some e } ∷ [] = push ∙ ap (λ l. columns ++ record { nodes = l; end = Some e } ∷ []) same in
+    let column : pushed ≡ columns ++ record { nodes = k.nodes; end = Some e } ∷ [] = push
+    ∙ ap (λ l. columns ++ record { nodes = l; end = Some e } ∷ []) same in
     let least : now ≡ first_of_both trap (trap_in i k.nodes e) =
     first ∙ or_is_first trap (trap_in k.iteration k.nodes e) ∙ ap (λ j. first_of_both trap (trap_in j k.nodes e)) one.iteration in
     rw (column, least) (elided_more p n m i columns trap before e k h one closed open')
 
 -- after the last iteration it does not matter where the next would be
-pub elided_end : (p : Pipeline) (i : ℕ) (columns : List Column) (trap : Option TrapAt) (accesses : List NodeAccess) → AreElided p 0 i columns trap accesses → AreElided p 0 0 columns trap accesses
+pub elided_end : (p : Pipeline) (i : ℕ) (columns : List Column) (trap : Option TrapAt) (accesses : List NodeAccess) → AreElided p 0 i columns trap accesses
+    → AreElided p 0 0 columns trap accesses
 elided_end p i columns trap accesses h = record { all_columns = h.all_columns; least_trap = h.least_trap; all_accesses = h.all_accesses }

@@ -1,11 +1,11 @@
 -- Programs of the first form can be run.
-use Rattle.std.proofs.Common.{◌≡◌, ◌≤◌, ◌⊎◌, ◌==◌, ◌++◌, ap, sym, subst, refl, inl, inr, ℕ, suc, ℤ, List, [], ◌∷◌, Bool, true, false, cond, length, All, None, nat_le, arith}
+use Rattle.std.proofs.Common.{◌≡◌, ◌≤◌, ◌==◌, sym, subst, refl, inl, inr, ℕ, suc, List, Bool, true, false, cond, length, All, nat_le, arith}
 use Rattle.std.proofs.lemmas.Bool.{and_parts}
 use Rattle.std.proofs.lemmas.Bool.Decides.{nat_tests}
 use Rattle.std.proofs.lemmas.List.Elements.{All-nil, All-cons}
 use Rattle.pipe_model.specs.declared.symbol.Symbol.{Symbol}
 use Rattle.pipe_model.specs.declared.tree.Declaration.{Declaration}
-use Rattle.pipe_model.specs.Grammar.{Derives, Numeral, Named, Tighter, Joined, DerivesWhole, DerivesStatement, LetIs, AssignIs, EmitIs, WaitIs, WaitNextIs, ContinueIs, ContinueNextIs, DerivesStatements, NoStatement, OneMore, DerivesCells, NoCell, CellIs, NegativeCellIs, DerivesProgram, ProgramIs, rank_of}
+use Rattle.pipe_model.specs.Grammar.{Derives, Numeral, Named, Tighter, Joined, DerivesWhole, DerivesStatement, LetIs, AssignIs, EmitIs, WaitIs, WaitNextIs, ContinueIs, ContinueNextIs, DerivesStatements, NoStatement, OneMore, DerivesCells, NoCell, CellIs, NegativeCellIs, DerivesProgram, ProgramIs}
 use Rattle.pipe_model.specs.Rules.{cells_are_declared_once, limits_are_in_range}
 use Rattle.pipe_model.specs.Spelling.{IsFirstForm}
 use Rattle.pipe_model.specs.SyntaxTree.{Expression, Statement, Statements, SyntaxTree, joined_by}
@@ -18,7 +18,8 @@ operator_if false true code e f h = inr (grind (arith, nat_tests))
 operator_if false false code e f h = absurd (omega (arith, h))
 
 -- two expressions with such an operator between them
-joined_runs : (code : ℕ) (a b : Expression) → IsRunnableOperator code → IsRunnableExpression a → IsRunnableExpression b → IsRunnableExpression (joined_by code a b)
+joined_runs : (code : ℕ) (a b : Expression) → IsRunnableOperator code → IsRunnableExpression a → IsRunnableExpression b
+    → IsRunnableExpression (joined_by code a b)
 joined_runs code a b (inl e) h i = subst (λ (c : ℕ). IsRunnableExpression (joined_by c a b)) (sym e) ((inl refl, (h, i)))
 joined_runs code a b (inr e) h i = subst (λ (c : ℕ). IsRunnableExpression (joined_by c a b)) (sym e) ((inr refl, (h, i)))
 
@@ -57,7 +58,8 @@ cells_are_plain _ _ (CellIs name value more) = All-cons IsPlainCell _ _ refl (ce
 cells_are_plain _ _ (NegativeCellIs name value more) = All-cons IsPlainCell _ _ refl (cells_are_plain _ _ more)
 
 -- a program that is derived, of cells that are declared once and limits in their ranges
-program_runs : (longest : ℕ) (ts : List Symbol) (tree : SyntaxTree) → limits_are_in_range tree.limits ≡ true → length tree.cells ≤ 65536 → DerivesProgram longest ts tree → IsRunnable tree
+program_runs : (longest : ℕ) (ts : List Symbol) (tree : SyntaxTree) → limits_are_in_range tree.limits ≡ true → length tree.cells ≤ 65536
+    → DerivesProgram longest ts tree → IsRunnable tree
 program_runs longest _ _ limits few (ProgramIs iterations stages steps emits cells test body) = record {
   limits = limits;
   few = few;

@@ -1,5 +1,5 @@
 -- The body of an iteration after the loop's test.
-use Rattle.std.proofs.Common.{◌≡◌, ◌∙◌, ap, sym, refl, subst, ℕ, ℤ, List, [], ◌∷◌, Result, Ok, Err}
+use Rattle.std.proofs.Common.{◌≡◌, ◌∙◌, ap, sym, subst, ℤ, List, [], ◌∷◌, Result, Err}
 use Rattle.pipe_model.specs.declared.column.ColumnEnd.{ColumnEnd}
 use Rattle.pipe_model.specs.declared.column.ColumnEnd.TheVariants.{End}
 use Rattle.pipe_model.specs.declared.node.Node.{Node}
@@ -21,7 +21,8 @@ abbrev pub whole_body : Setting → Statements → Interaction ColumnEnd
 whole_body w body = bind (execute_all w body first_environment) (λ env. Return End)
 
 -- a statement of the body breaks
-pub body_breaks : (w : Setting) (body : Statements) (locals : List Local) (k k1 : Kept) (after : Environment) (e : Halt) → locals ≡ [] → k.nodes ≡ first_node ∷ []
+pub body_breaks : (w : Setting) (body : Statements) (locals : List Local) (k k1 : Kept) (after : Environment) (e : Halt) → locals ≡ []
+    → k.nodes ≡ first_node ∷ []
     → Leaves (Err e) (perform (execute_all w body (environment_at locals k.nodes)) k) after k1 → Meets (Err e) (perform (whole_body w body) k) k1
 body_breaks w body locals k k1 after (halts.Trap t) none begun h =
     perform-bind (execute_all w body first_environment) (λ env. Return End) k
@@ -32,16 +33,21 @@ body_breaks w body locals k k1 after halts.NoMemory none begun h = tt
 pub body_ends : (w : Setting) (body : Statements) (locals : List Local) (k k1 : Kept) (after : Environment) → locals ≡ [] → k.nodes ≡ first_node ∷ []
     → perform (execute_all w body (environment_at locals k.nodes)) k ≡ Gave after k1 → perform (whole_body w body) k ≡ Gave End k1
 body_ends w body locals k k1 after none begun h =
-    goes_on (execute_all w body first_environment) (λ env. Return End) k k1 after (ap (λ env. perform (execute_all w body env) k) (sym (first_is locals k.nodes none begun)) ∙ h)
+    goes_on (execute_all w body first_environment) (λ env. Return End) k k1 after
+    (ap (λ env. perform (execute_all w body env) k) (sym (first_is locals k.nodes none begun)) ∙ h)
 
 -- the test breaks
 pub test_breaks : (w : Setting) (test : Expression) (body : Statements) (locals : List Local) (k k1 : Kept) (e : Halt) → locals ≡ []
     → Meets (Err e) (perform (evaluate w locals test) k) k1 → Meets (Err e) (perform (run_iteration w test body) k) k1
 test_breaks w test body locals k k1 e none h =
-    meets_left (evaluate w [] test) (λ v. Step (after_test w.world v (whole_body w body))) k k1 e (subst (λ (l : List Local). Meets (Err e) (perform (evaluate w l test) k) k1) none h)
+    meets_left (evaluate w [] test) (λ v. Step (after_test w.world v (whole_body w body))) k k1 e
+    (subst (λ (l : List Local). Meets (Err e) (perform (evaluate w l test) k) k1) none h)
 
 -- the test has a value
-pub test_gives : (w : Setting) (test : Expression) (body : Statements) (locals : List Local) (k k1 k2 : Kept) (v : ℤ) (r : Result ColumnEnd Halt) → locals ≡ []
-    → perform (evaluate w locals test) k ≡ Gave v k1 → Meets r (perform (Step (after_test w.world v (whole_body w body))) k1) k2 → Meets r (perform (run_iteration w test body) k) k2
+pub test_gives : (w : Setting) (test : Expression) (body : Statements) (locals : List Local) (k k1 k2 : Kept) (v : ℤ) (r : Result ColumnEnd Halt)
+    → locals ≡ []
+    → perform (evaluate w locals test) k ≡ Gave v k1 → Meets r (perform (Step (after_test w.world v (whole_body w body))) k1) k2
+    → Meets r (perform (run_iteration w test body) k) k2
 test_gives w test body locals k k1 k2 v r none h m =
-    meets_next (evaluate w [] test) (λ x. Step (after_test w.world x (whole_body w body))) k k1 k2 v r (ap (λ l. perform (evaluate w l test) k) (sym none) ∙ h) m
+    meets_next (evaluate w [] test) (λ x. Step (after_test w.world x (whole_body w body))) k k1 k2 v r
+    (ap (λ l. perform (evaluate w l test) k) (sym none) ∙ h) m

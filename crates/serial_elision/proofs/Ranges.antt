@@ -1,10 +1,9 @@
 -- The cells of names among plain cells.
-use Rattle.std.proofs.Common.{◌≡◌, ◌∙◌, ap, sym, refl, ℕ, ℤ, pos, ◌+◌, ◌<◌, List, [], ◌∷◌, ◌++◌, Option, Some, None, cond, length, All, get_or, drop, replicate, append_assoc, take, arith}
+use Rattle.std.proofs.Common.{◌≡◌, ◌∙◌, ap, sym, refl, ℕ, ◌+◌, ◌<◌, List, [], ◌∷◌, ◌++◌, Some, None, cond, length, All, get_or, drop, replicate, append_assoc, take, arith}
 use Rattle.std.proofs.lemmas.List.{at_drop_more, take_more}
 use Rattle.std.proofs.lemmas.List.Elements.{All-head, All-tail}
 use Rattle.std.specs.Str.{bytes_eq}
 use Rattle.pipe_model.specs.declared.tree.Declaration.{Declaration}
-use Rattle.pipe_model.specs.Evaluation.{CellRange}
 use Rattle.pipe_model.specs.Programs.{declared_size, declared_values, range_of}
 use Rattle.pipe_model.specs.declared.tree.Program.{Program}
 use Rattle.pipe_model.specs.SyntaxTree.{tree_of}
@@ -17,8 +16,10 @@ pub range_step : (ds : List Declaration) (i next : ℕ) (x : List ℕ) (d : Decl
     → range_of next (drop i ds) x ≡ cond (bytes_eq d.name x) (Some (record { first = next; size = 1 })) (range_of (next + 1) (drop (i + 1) ds) x)
 range_step ds i next x d h e plain =
     at_drop_more (λ more. range_of next more x) ds i d h
-    ∙ ap (λ (m : Declaration). cond (bytes_eq m.name x) (Some (record { first = next; size = declared_size m.size })) (range_of (next + declared_size m.size) (drop (i + 1) ds) x)) (sym e)
-    ∙ ap (λ s. cond (bytes_eq d.name x) (Some (record { first = next; size = declared_size s })) (range_of (next + declared_size s) (drop (i + 1) ds) x)) plain
+    ∙ ap (λ (m : Declaration). cond (bytes_eq m.name x) (Some (record { first = next; size = declared_size m.size }))
+    (range_of (next + declared_size m.size) (drop (i + 1) ds) x)) (sym e)
+    ∙ ap (λ s. cond (bytes_eq d.name x) (Some (record { first = next; size = declared_size s })) (range_of (next + declared_size s) (drop (i + 1) ds) x))
+    plain
 
 -- plain cells have one value each
 pub declared_length : (ds : List Declaration) → All IsPlainCell ds → length (declared_values ds) ≡ length ds
@@ -36,7 +37,8 @@ has_cells p b e h = ap (λ (x : Basis). length x.initial_values) e ∙ omega (ar
 declared-append : (ds es : List Declaration) → declared_values (ds ++ es) ≡ declared_values ds ++ declared_values es
 declared-append [] es = refl
 declared-append (d ∷ ds) es =
-    ap (λ l. replicate (declared_size d.size) d.value ++ l) (declared-append ds es) ∙ sym (append_assoc (replicate (declared_size d.size) d.value) (declared_values ds) (declared_values es))
+    ap (λ l. replicate (declared_size d.size) d.value ++ l) (declared-append ds es)
+    ∙ sym (append_assoc (replicate (declared_size d.size) d.value) (declared_values ds) (declared_values es))
 
 -- the values of plain cells, with one cell more
 pub declared_more : (ds : List Declaration) (i : ℕ) (d : Declaration) → i < length ds → d.size ≡ None → d ≡ get_or ds i d

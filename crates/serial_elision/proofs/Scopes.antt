@@ -1,5 +1,5 @@
 -- Look-ups of locals go on behind one that has another name.
-use Rattle.std.proofs.Common.{◌≡◌, ◌∙◌, ap, sym, ℕ, ℤ, ◌+◌, ◌<◌, ◌++◌, ◌∷◌, List, Option, Some, true, cond, length, get_or, take, drop, set, add-one}
+use Rattle.std.proofs.Common.{◌≡◌, ◌∙◌, ap, sym, ℕ, ℤ, ◌+◌, ◌<◌, ◌++◌, ◌∷◌, List, Some, true, cond, length, get_or, take, drop, set, add-one}
 use Rattle.std.proofs.lemmas.List.{at_drop_more, map-append, set_split}
 use Rattle.std.specs.Str.{bytes_eq}
 use Rattle.pipe_model.specs.Evaluation.{Local as Named_value, local_value, with_local}
@@ -14,7 +14,8 @@ local_step ls i x l h e =
     ∙ ap (λ (m : Local). cond (bytes_eq m.name x) (Some m.value) (local_value (values_of (drop (i + 1) ls)) x)) (sym e)
 
 -- the locals, where the one at a place is the first of the name and has a new value
-pub set_first : (ls : List Local) (i : ℕ) (l : Local) (x : List ℕ) (v : ℤ) (whole : List Named_value) → i < length ls → l ≡ get_or ls i l → bytes_eq l.name x ≡ true
+pub set_first : (ls : List Local) (i : ℕ) (l : Local) (x : List ℕ) (v : ℤ) (whole : List Named_value) → i < length ls → l ≡ get_or ls i l
+    → bytes_eq l.name x ≡ true
     → values_of (take i ls) ++ with_local (values_of (drop i ls)) x v ≡ whole → values_of (set ls i (record { name = l.name; value = v })) ≡ whole
 set_first ls i l x v whole h e test w =
     let rest : List Named_value = values_of (drop (i + 1) ls) in

@@ -1,5 +1,5 @@
 -- What is kept at the end of an iteration is what its trace in the serial elision says.
-use Rattle.std.proofs.Common.{◌≡◌, ◌∙◌, ap, sym, refl, subst, ℕ, ℤ, pos, zero, suc, ◌+◌, ◌-◌, ◌<◌, ◌==◌, ◌&&◌, List, [], ◌∷◌, ◌++◌, Bool, true, false, Option, Some, None, length, map, min, slice_index_or, append-nil, append_assoc, length-append, arith}
+use Rattle.std.proofs.Common.{◌≡◌, ◌∙◌, ap, sym, refl, ℕ, ℤ, zero, suc, ◌+◌, ◌-◌, ◌<◌, List, [], ◌∷◌, ◌++◌, Bool, false, Some, length, append-nil, append_assoc, length-append, arith}
 use Rattle.std.proofs.lemmas.List.{map-append}
 use Rattle.pipe_model.specs.declared.access.Access.{Access}
 use Rattle.pipe_model.specs.declared.access.NodeAccess.{NodeAccess}
@@ -8,12 +8,11 @@ use Rattle.pipe_model.specs.declared.column.ColumnEnd.TheVariants as ends
 use Rattle.pipe_model.specs.declared.node.Kind.{Kind}
 use Rattle.pipe_model.specs.declared.node.Node.{Node}
 use Rattle.pipe_model.specs.declared.trap.Trap.TheVariants.{Budget}
-use Rattle.pipe_model.specs.Behaviour.{Behaviour, Reading, Writing, Staging, Ending, Action, Accessed, Staged, Ended, accesses_in, closes_loop, is_closing, node_of, nodes_in, read_access, trace_end, write_access}
+use Rattle.pipe_model.specs.Behaviour.{Action, Accessed, Staged, Ended, closes_loop, is_closing, node_of, nodes_in, read_access, trace_end, write_access}
 use Rattle.pipe_model.specs.Interaction.{Interaction, Return, Raise, Step, Get, Set, Stage, spend_step, with_budget}
 use Rattle.pipe_model.specs.Pipeline.{Pipeline}
 use Rattle.pipe_model.specs.SerialElision.{located, serial_trace}
 use Rattle.pipe_model.specs.State.{accesses_of}
-use Rattle.pipe_model.specs.Store.{last_or, value_after, written}
 use Rattle.serial_elision.specs.Kept.{Basis, Kept, Ran, Broke, cell_value, cells_of, end_of, kept_of, kept_with, made_here, perform}
 
 -- an iteration that ends so, after these instances beyond the first, closes the loop
@@ -43,7 +42,8 @@ abbrev LeadsToEnd : Interaction ColumnEnd → Kept → Type 0
 LeadsToEnd d k = IsTraced (trace_of d k) k.basis k.iteration k.accesses k.nodes (perform d k)
 
 -- the end itself
-ends_here : (e : ColumnEnd) (k : Kept) (ran : Ran ColumnEnd) → end_of ran ≡ e → kept_of ran ≡ k → IsTraced (Ended e ∷ []) k.basis k.iteration k.accesses k.nodes ran
+ends_here : (e : ColumnEnd) (k : Kept) (ran : Ran ColumnEnd) → end_of ran ≡ e → kept_of ran ≡ k
+    → IsTraced (Ended e ∷ []) k.basis k.iteration k.accesses k.nodes ran
 ends_here e k ran f g = record {
   basis = ap (λ (j : Kept). j.basis) g;
   iteration = ap (λ (j : Kept). j.iteration) g;
@@ -54,7 +54,8 @@ ends_here e k ran f g = record {
 }
 
 -- one access before the rest
-access_first : (a : Access) (t : List Action) (k : Kept) (ran : Ran ColumnEnd) → IsTraced t k.basis k.iteration (k.accesses ++ made_here k a ∷ []) k.nodes ran
+access_first : (a : Access) (t : List Action) (k : Kept) (ran : Ran ColumnEnd)
+    → IsTraced t k.basis k.iteration (k.accesses ++ made_here k a ∷ []) k.nodes ran
     → IsTraced (Accessed a ∷ t) k.basis k.iteration k.accesses k.nodes ran
 access_first a t k ran h = record {
   basis = h.basis;
@@ -71,12 +72,14 @@ accesses_push k a = map-append (λ (n : NodeAccess). n.access) k.accesses (made_
 
 -- a step before the rest
 step_first : (n : ℕ) (d : Interaction ColumnEnd) (k : Kept) → ((j : Kept) → 0 < length j.nodes → LeadsToEnd d j) → 0 < length k.nodes
-    → IsTraced (serial_trace (own k) (with_budget k.basis.budget n (Step d)) (accesses_of k.accesses)) k.basis k.iteration k.accesses k.nodes (spend_step n (Broke Budget k) (λ m. perform d (record k { left = m })))
+    → IsTraced (serial_trace (own k) (with_budget k.basis.budget n (Step d)) (accesses_of k.accesses)) k.basis k.iteration k.accesses k.nodes
+    (spend_step n (Broke Budget k) (λ m. perform d (record k { left = m })))
 step_first zero d k h w = ends_here (ends.Trapped Budget) k (Broke Budget k) refl refl
 step_first (suc n) d k h w = h (record k { left = n }) w
 
 -- a next stage before the rest
-stage_first : (kind : Kind) (n : ℤ) (t : List Action) (k : Kept) (ran : Ran ColumnEnd) → 0 < length k.nodes → IsTraced t k.basis k.iteration k.accesses (k.nodes ++ node_of kind n ∷ []) ran
+stage_first : (kind : Kind) (n : ℤ) (t : List Action) (k : Kept) (ran : Ran ColumnEnd) → 0 < length k.nodes
+    → IsTraced t k.basis k.iteration k.accesses (k.nodes ++ node_of kind n ∷ []) ran
     → IsTraced (Staged kind n ∷ t) k.basis k.iteration k.accesses k.nodes ran
 stage_first kind n t k ran w h =
     let place : length (k.nodes ++ node_of kind n ∷ []) - 1 ≡ length k.nodes - 1 + 1 = omega (arith, length-append k.nodes (node_of kind n ∷ [])) in
@@ -89,6 +92,7 @@ stage_first kind n t k ran w h =
       closes = refl;
     }
 
+-- from each place of an iteration, its trace leads to its end
 pub leads_to_end : (d : Interaction ColumnEnd) (k : Kept) → 0 < length k.nodes → LeadsToEnd d k
 leads_to_end (Return e) k w = ends_here e k (perform (Return e) k) refl refl
 leads_to_end (Raise t) k w = ends_here (ends.Trapped t) k (perform (Raise t) k) refl refl

@@ -1,4 +1,5 @@
--- What the serial elision keeps while it goes over the tree of a program, and what an interaction tree makes of that.
+-- What the serial elision keeps while it goes over the tree of a program, and what an interaction tree makes of that
+-- (interaction trees: Xia et al., "Interaction Trees", POPL 2020).
 use Rattle.std.specs.Prelude.{ℕ, ℤ, pos, List, [], ◌∷◌, ◌++◌, ◌-◌, length}
 use Rattle.pipe_model.specs.declared.access.Access.{Access}
 use Rattle.pipe_model.specs.declared.access.NodeAccess.{NodeAccess}

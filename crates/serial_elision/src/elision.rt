@@ -193,8 +193,9 @@ pub struct SerialRun {
     pub accesses: NodeAccesses,
 }
 
-/// Runs a program of the first form on an input by itself: its iterations one after the other, each to its
-/// end, up to the one that closes the loop. The one error is want of memory.
+/// Runs a program of the first form on an input as its serial elision: the iterations one after the other, each
+/// to its end, up to the one that closes the loop. Such a program has nothing before and after its loop. A trap
+/// is no error: it ends its iteration, and in instance 0 the loop. The one error is want of memory.
 pub fn run_tree(alloc: Global, program: &Program, input: &Numbers) -> Result<SerialRun, NoMemory>
     requires { IsRunnable (tree_of program.now) }
     ensures output { IfOk result (λ run. run.output ≡ serial_output (pipeline_of (tree_of program.now) input.now)) }

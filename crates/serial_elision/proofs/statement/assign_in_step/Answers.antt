@@ -5,4 +5,10 @@ use Rattle.serial_elision.proofs.statement.assign_in_step.Goals as goal
 pub write-requires-clause-there : goal.write-requires-clause-there
 write-requires-clause-there c =
     let p = c.args.place.now.program.now in
-    omega (arith, ap length c.as_slice.ensures, c.in-Some.ensures.within, has_cells p _ (c.take_step.ensures.basis ∙ c.requires.basis) c.args.place.now.plain)
+    omega (
+      arith,
+      ap length c.as_slice.ensures,
+      c.in-Some.ensures.within,
+      has_cells p _ (c.take_step.ensures.basis ∙ c.requires.basis)
+          c.args.place.now.plain,
+    )

@@ -1,4 +1,4 @@
-use Rattle.std.proofs.Common.{◌≡◌, ◌∙◌, sym, w64, length-set}
+use Rattle.std.proofs.Common.{◌∙◌, sym, w64, length-set}
 use Rattle.std.proofs.lemmas.Int.{to_z-of_z}
 use mir.Val.{SFits}
 use Rattle.serial_elision.proofs.Cells.{write_sets, other_counts}
