@@ -1,7 +1,7 @@
 //! The serial elision of a program: its iterations one after the other, by recursion over its tree.
 #![tactic(auto)]
 
-mod elision;
+pub mod elision;
 mod halt;
 mod locals;
 mod place;
@@ -10,5 +10,3 @@ mod store;
 #[cfg(test)]
 mod tests;
 mod value;
-
-pub use elision::{SerialRun, run_tree};
