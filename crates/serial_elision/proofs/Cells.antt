@@ -1,5 +1,5 @@
 -- How accesses change the values of cells.
-use Rattle.std.proofs.Common.{◌≡◌, ◌≢◌, ◌∙◌, ap, sym, refl, ℕ, ℤ, pos, ◌<◌, ◌≤◌, ◌==◌, ◌+◌, List, [], ◌∷◌, ◌++◌, length, get_or, set, append-nil, append_assoc, length-append, length-set, arith, take, true, false, Bool}
+use Rattle.std.proofs.Common.{◌≡◌, ◌≢◌, ◌∙◌, ap, sym, refl, subst, ℕ, ℤ, pos, ◌<◌, ◌≤◌, ◌==◌, ◌+◌, List, [], ◌∷◌, ◌++◌, length, get_or, set, append-nil, append_assoc, length-append, length-set, arith, take, true, false, Bool}
 use Rattle.std.proofs.lemmas.Bool.Decides.{nat_tests}
 use Rattle.std.proofs.lemmas.List.{map-append, take_more, get_or-set_same, get_or-set_other}
 use Rattle.pipe_model.specs.declared.access.Access.{Access}
@@ -8,7 +8,8 @@ use Rattle.pipe_model.specs.declared.node.NodeId.{NodeId}
 use Rattle.pipe_model.specs.Behaviour.{read_access, write_access}
 use Rattle.pipe_model.specs.State.{accesses_of}
 use Rattle.pipe_model.specs.Store.{written, wrote, wrote_as, last_or, value_after}
-use Rattle.serial_elision.specs.Caching.{AreLastWritten}
+use Rattle.serial_elision.specs.Caching.{AreLastWritten, IsConsistent}
+use Rattle.serial_elision.specs.declared.store.Store.TheInside.{Inside}
 use Rattle.serial_elision.specs.Kept.{cells_of}
 
 -- what two lists of accesses write, one after the other
@@ -90,3 +91,18 @@ pub written_more : (ns : List NodeAccess) (i : ℕ) (d : NodeAccess) → i < len
 written_more ns i d h =
     let more : take (i + 1) ns ≡ take i ns ++ get_or ns i d ∷ [] = take_more ns i d h in
     rw more (written_push 1 (take i ns) (get_or ns i d).node (get_or ns i d).access)
+
+-- a read leaves a store consistent, where it changes nothing but the accesses
+pub read_consistent : (s t : Inside) (made : NodeAccess) (at : NodeId) (cell : ℕ) (v : ℤ) → made ≡ record { node = at; access = read_access cell v }
+    → t.accesses.items ≡ s.accesses.items ++ made ∷ [] → t ≡ record s { accesses = t.accesses } → IsConsistent s → IsConsistent t
+read_consistent s t made at cell v m e same was =
+    subst IsConsistent (sym same) (record {
+      sized = was.sized;
+      last = read_keeps s.values.items s.initial_values.items s.accesses.items t.accesses.items made at cell v m e was.last;
+      counted = was.counted ∙ sym (read_counts s.accesses.items t.accesses.items made at cell v m e);
+      within = was.within;
+      begun = was.begun;
+      entered = was.entered;
+      room = was.room;
+      narrow = was.narrow;
+    })

@@ -1,44 +1,20 @@
-use Rattle.std.proofs.Common.{◌∙◌, sym, w64, arith, length-set}
+use Rattle.std.proofs.Common.{◌∙◌, refl, sym, w64, arith, length-set}
 use Rattle.std.proofs.lemmas.Int.{to_z-of_z}
 use mir.Val.{SFits}
-use Rattle.serial_elision.proofs.Cells.{read_keeps, read_counts, write_sets, emit_counts}
+use Rattle.serial_elision.proofs.Cells.{read_consistent, read_keeps, read_counts, write_sets, emit_counts}
 use Rattle.serial_elision.proofs.store.Store.emit.Goals as goal
 
 pub invariant_of-self-then-count-self : goal.invariant_of-self-then-count-self
-invariant_of-self-then-count-self c = let was = c.self.invariant in record {
-  sized = was.sized;
-  last = read_keeps _ _ _ _ _ _ _ _ c.made_here-read.ensures c.in_ok-push.ensures.items was.last;
-  counted = was.counted ∙ sym (read_counts _ _ _ _ _ _ c.made_here-read.ensures c.in_ok-push.ensures.items);
-  within = was.within;
-  begun = was.begun;
-  entered = was.entered;
-  room = was.room;
-  narrow = was.narrow;
-}
+invariant_of-self-then-count-self c =
+    read_consistent c.self.inside _ _ _ _ _ c.made_here-read.ensures c.in_ok-push.ensures.items refl c.self.invariant
 
 pub invariant_of-self-2 : goal.invariant_of-self-2
-invariant_of-self-2 c = let was = c.self.invariant in record {
-  sized = was.sized;
-  last = read_keeps _ _ _ _ _ _ _ _ c.made_here-read.ensures c.in_ok-push.ensures.items was.last;
-  counted = was.counted ∙ sym (read_counts _ _ _ _ _ _ c.made_here-read.ensures c.in_ok-push.ensures.items);
-  within = was.within;
-  begun = was.begun;
-  entered = was.entered;
-  room = was.room;
-  narrow = was.narrow;
-}
+invariant_of-self-2 c =
+    read_consistent c.self.inside _ _ _ _ _ c.made_here-read.ensures c.in_ok-push.ensures.items refl c.self.invariant
 
 pub invariant_of-self-in_err-push-2 : goal.invariant_of-self-in_err-push-2
-invariant_of-self-in_err-push-2 c = let was = c.self.invariant in record {
-  sized = was.sized;
-  last = rw c.in_err-push-2.ensures.items (read_keeps _ _ _ _ _ _ _ _ c.made_here-read.ensures c.in_ok-push.ensures.items was.last);
-  counted = rw c.in_err-push-2.ensures.items (was.counted ∙ sym (read_counts _ _ _ _ _ _ c.made_here-read.ensures c.in_ok-push.ensures.items));
-  within = was.within;
-  begun = was.begun;
-  entered = was.entered;
-  room = was.room;
-  narrow = was.narrow;
-}
+invariant_of-self-in_err-push-2 c =
+    read_consistent c.self.inside _ _ _ _ _ c.made_here-read.ensures (c.in_err-push-2.ensures.items ∙ c.in_ok-push.ensures.items) refl c.self.invariant
 
 pub invariant_of-self-3 : goal.invariant_of-self-3
 invariant_of-self-3 c =
