@@ -12,6 +12,8 @@ pub mod load;
 pub mod mem_files;
 pub mod mem_sink;
 pub mod real;
+#[cfg(test)]
+mod row_tests;
 pub mod sink;
 #[cfg(test)]
 mod tests;

@@ -1,0 +1,268 @@
+// The worked rows of the top call, over files and sinks in memory: each with its status and the bytes that were taken.
+
+use crate::call::{Ended, cilkp};
+use crate::gate::OpenGate;
+use crate::mem_files::MemFiles;
+use crate::mem_sink::MemSink;
+use pipe_model::list::Bytes;
+use pipe_model::memory::NoMemory;
+use std::alloc::Global;
+use std::test::Fail;
+
+const COUNT_TO_TWO: &str =
+    "limits iterations 2, stages 1, steps 50, emits 2; cell n = 0; pipe_while (n < 2) { n = n + 1; emit n; }";
+
+const LET_AND_SET: &str = "cell n = 0; pipe_while (n < 1) { let m = 1; n = m; }";
+
+const COUNT_UP: &str = "cell n = 0; pipe_while (n < 2) { n = n + 1; emit n; }";
+
+const NOT_BUILT: &str = "refused source NotYetBuilt\n";
+
+// A source file, an input file, and one that may not be what it should.
+fn files(alloc: Global, source: &[u8], input: &[u8]) -> Result<Vec<(String, Bytes)>, NoMemory> {
+    let mut files = Vec::new(alloc);
+    for (name, text) in [("a.pipe", source), ("a.in", input)] {
+        let bytes = Bytes::from_vec(text.to_vec(alloc)?);
+        files.push((String::from_str(alloc, name)?, bytes))?;
+    }
+    Ok(files)
+}
+
+fn words(alloc: Global, texts: &[&str]) -> Result<Vec<String>, NoMemory> {
+    let mut words = Vec::new(alloc);
+    for text in texts {
+        words.push(String::from_str(alloc, text)?)?;
+    }
+    Ok(words)
+}
+
+fn numbers(alloc: Global, number: Option<u32>) -> Result<Vec<u32>, NoMemory> {
+    let mut numbers = Vec::new(alloc);
+    for n in number {
+        numbers.push(n)?;
+    }
+    Ok(numbers)
+}
+
+// A call with a source and an input in files that serve seven bytes a call, and a sink that takes two.
+#[derive(Clone, Copy)]
+struct Case<'a> {
+    words: &'a [&'static str],
+    source: &'a [u8],
+    input: &'a [u8],
+    read_fails: Option<u32>,
+    write_fails: Option<u32>,
+}
+
+impl<'a> Case<'a> {
+    fn of(source: &'a [u8]) -> Self {
+        Case {
+            words: &["run", "a.pipe", "a.in"],
+            source,
+            input: b"",
+            read_fails: None,
+            write_fails: None,
+        }
+    }
+
+    // How the call ends, and what the sink has taken.
+    fn run(self, alloc: Global) -> Result<(Ended, Vec<u8>), NoMemory> {
+        let words = words(alloc, self.words)?;
+        let fails = numbers(alloc, self.read_fails)?;
+        let mut mem = MemFiles::new(files(alloc, self.source, self.input)?, 7, fails);
+        let mut sink = MemSink::new(alloc, 2, numbers(alloc, self.write_fails)?);
+        let ended = cilkp((), alloc, words.as_slice(), &mut mem, &mut sink, &OpenGate)?;
+        Ok((ended, sink.taken().as_slice().to_vec(alloc)?))
+    }
+
+    // Fails the test where the call ends otherwise, or another text was taken.
+    fn check(self, alloc: Global, name: &str, status: u8, text: &str) -> Result<(), Fail> {
+        let (ended, taken) = self.run(alloc)?;
+        if ended.status != status
+            || ended.written != text.len() as u64
+            || taken.as_slice() != text.as_bytes()
+        {
+            return Err(Fail::new(format_args!(
+                "{name}: status {}, {} bytes",
+                ended.status, ended.written
+            )));
+        }
+        Ok(())
+    }
+}
+
+// A source of these limits, with the rest of the program.
+fn source(alloc: Global, limits: [u32; 4], rest: &str) -> Result<String, NoMemory> {
+    let [iterations, stages, steps, emits] = limits;
+    Ok(format!(in alloc;
+        "limits iterations {iterations}, stages {stages}, steps {steps}, emits {emits}; {rest}"
+    )?)
+}
+
+// Sixty-four locals are the most.
+fn many_locals(alloc: Global, count: usize) -> Result<String, NoMemory> {
+    let mut body = String::from_str(alloc, "pipe_while (0) {")?;
+    for k in 0..count {
+        write!(body, " let a{k} = 1;")?;
+    }
+    body.push_str(" }")?;
+    Ok(body)
+}
+
+// Programs that run, and each proper front of them, which is none.
+fn runs(alloc: Global) -> Result<(), Fail> {
+    let rows = [
+        ([1, 1, 2, 0], "pipe_while (0) { }", 0, ""),
+        (
+            [1, 1, 1, 0],
+            "pipe_while (0) { }",
+            3,
+            "trap Budget at 0/0\n",
+        ),
+        (
+            [2, 1, 50, 2],
+            "cell n = 0; pipe_while (n < 3) { n = n + 1; emit n; }",
+            3,
+            "1\n2\ntrap IterLimit at 2/0\n",
+        ),
+        ([2, 1, 50, 2], COUNT_UP, 0, "1\n2\n"),
+        // The test is 4 steps, the assignment 4, and the emit 2.
+        ([2, 1, 10, 2], COUNT_UP, 0, "1\n2\n"),
+        ([2, 1, 9, 2], COUNT_UP, 3, "trap Budget at 0/0\n"),
+        ([2, 1, 3, 2], COUNT_UP, 3, "trap Budget at 0/0\n"),
+        // The test is 4 steps, `let` 2, and the assignment 2.
+        ([1, 1, 8, 0], LET_AND_SET, 0, ""),
+        ([1, 1, 7, 0], LET_AND_SET, 3, "trap Budget at 0/0\n"),
+        ([1, 1, 5, 0], LET_AND_SET, 3, "trap Budget at 0/0\n"),
+        // The second emit is one too many, and its number is not printed.
+        ([2, 1, 50, 1], COUNT_UP, 3, "1\ntrap OutputLimit at 1/0\n"),
+        ([2, 1, 50, 0], COUNT_UP, 3, "trap OutputLimit at 0/0\n"),
+        (
+            [1, 1, 50, 0],
+            "cell n = 9223372036854775807; pipe_while (1) { n = n + 1; }",
+            3,
+            "trap Overflow at 0/0\n",
+        ),
+        (
+            [1, 1, 50, 1],
+            "cell n = 9223372036854775806; pipe_while (n < 9223372036854775807) { n = n + 1; emit n; }",
+            0,
+            "9223372036854775807\n",
+        ),
+        (
+            [1, 1, 50, 0],
+            "cell n = -9223372036854775807; cell m = -2; pipe_while (n + m) { }",
+            3,
+            "trap Overflow at 0/0\n",
+        ),
+    ];
+    for (limits, rest, status, text) in rows {
+        let source = source(alloc, limits, rest)?;
+        let source = source.as_bytes();
+        Case::of(source).check(alloc, rest, status, text)?;
+        for end in 0..source.len() {
+            Case::of(&source[..end]).check(alloc, rest, 1, NOT_BUILT)?;
+        }
+    }
+    let most = source(alloc, [1, 1, 2, 0], &many_locals(alloc, 64)?)?;
+    Case::of(most.as_bytes()).check(alloc, "64 locals", 0, "")?;
+    Ok(())
+}
+
+// Sources just outside the form.
+fn sources_refused(alloc: Global) -> Result<(), Fail> {
+    let more = many_locals(alloc, 65)?;
+    let rows = [
+        ([1, 1, 2, 0], "pipe_while (0) { } // a comment"),
+        ([1, 1, 2, 0], "pipe_while ((0)) { }"),
+        ([1, 1, 2, 0], "cell n = 1; pipe_while (n - 1) { }"),
+        ([1, 1, 2, 0], "cell n[2] = 0; pipe_while (0) { }"),
+        ([1, 1, 2, 0], "init { } pipe_while (0) { }"),
+        ([1, 1, 2, 0], "pipe_while (0) { } final { }"),
+        ([1, 1, 2, 0], "pipe_while (n) { }"),
+        ([1, 1, 2, 0], "cell n = 0; cell n = 1; pipe_while (0) { }"),
+        ([1, 1, 2, 0], "pipe_while (0) { pipe_wait(1); }"),
+        ([1, 1, 2, 0], "pipe_while (0) { pipe_continue; }"),
+        ([0, 1, 2, 0], "pipe_while (0) { }"),
+        ([1, 0, 2, 0], "pipe_while (0) { }"),
+        ([1, 1, 0, 0], "pipe_while (0) { }"),
+        ([1, 1, 2, 1_048_577], "pipe_while (0) { }"),
+        ([65_537, 1, 2, 0], "pipe_while (0) { }"),
+        ([1, 1, 2, 0], more.as_str()),
+    ];
+    for (limits, rest) in rows {
+        let source = source(alloc, limits, rest)?;
+        Case::of(source.as_bytes()).check(alloc, rest, 1, NOT_BUILT)?;
+    }
+    Ok(())
+}
+
+// Other words, files that are missing, and an input that is not empty, in the order of the refusals.
+fn calls_refused(alloc: Global) -> Result<(), Fail> {
+    let good = Case::of(COUNT_TO_TWO.as_bytes());
+    let rows: [(&[&str], &str); 10] = [
+        (&[], "refused usage\n"),
+        (&["run"], "refused usage\n"),
+        (&["run", "a.pipe"], "refused usage\n"),
+        (&["run", "a.pipe", "a.in", "4"], "refused usage\n"),
+        (&["runs", "a.pipe", "a.in"], "refused usage\n"),
+        (&["check", "a.pipe", "a.in"], "refused usage\n"),
+        (&["run", "b.pipe", "b.in"], "refused missing b.pipe\n"),
+        (&["run", "a.pipe", "b.in"], "refused missing b.in\n"),
+        (&["run", "a.in", "b.in"], NOT_BUILT),
+        (&["run", "a.pipe", "a.pipe"], "refused input NotYetBuilt\n"),
+    ];
+    for (words, text) in rows {
+        Case { words, ..good }.check(alloc, text, 1, text)?;
+    }
+    Case {
+        input: b" ",
+        ..good
+    }
+    .check(alloc, "a blank", 1, "refused input NotYetBuilt\n")?;
+    Ok(())
+}
+
+// Each read in turn fails, and then each write.
+fn faults(alloc: Global) -> Result<(), Fail> {
+    let good = Case::of(COUNT_TO_TWO.as_bytes());
+    // The last read of a file finds its end.
+    let source_reads = COUNT_TO_TWO.len().div_ceil(7) as u32 + 1;
+    for k in 0..source_reads + 2 {
+        let (status, text) = if k < source_reads {
+            (4, "fault read a.pipe\n")
+        } else if k == source_reads {
+            (4, "fault read a.in\n")
+        } else {
+            (0, "1\n2\n")
+        };
+        Case {
+            read_fails: Some(k),
+            ..good
+        }
+        .check(alloc, "a read fails", status, text)?;
+    }
+    let rows = [(0, 5, ""), (1, 5, "1\n"), (2, 0, "1\n2\n")];
+    for (k, status, taken) in rows {
+        Case {
+            write_fails: Some(k),
+            ..good
+        }
+        .check(alloc, "a write fails", status, taken)?;
+    }
+    let both = Case {
+        read_fails: Some(0),
+        write_fails: Some(1),
+        ..good
+    };
+    both.check(alloc, "a read and a write fail", 5, "fa")?;
+    Ok(())
+}
+
+#[test]
+fn rows_of_the_call(rt: HostRuntime) -> Result<(), Fail> {
+    runs(rt.alloc())?;
+    sources_refused(rt.alloc())?;
+    calls_refused(rt.alloc())?;
+    faults(rt.alloc())
+}
