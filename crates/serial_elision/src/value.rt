@@ -19,7 +19,7 @@ use pipe_model::tree::{Declaration, Expr};
 
 const LESS: u8 = 5;
 
-// the cell of this name, where the declared cells are plain ones
+/// The cell of this name, where there is one; the declared cells are plain ones, which follow from 2 in order.
 #[tactic(auto, using(crate::proofs::Ranges::range_step))]
 pub fn cell_of(cells: &[Declaration], name: &Name) -> Option<u32>
     requires plain { All IsPlainCell cells.now }
