@@ -17,7 +17,7 @@ one_goes_on (a ∷ x) [] u v h = inr (record { more = a ∷ x; front = refl; res
 one_goes_on (a ∷ x) (b ∷ y) u v h =
     let tails : x ++ u ≡ y ++ v = cc (h) in let heads : a ≡ b = cc (h) in
     elim (one_goes_on x y u v tails) [
-        inl r ↦ inl (record { more = r.more; front = (let f = r.front in cc (heads, f)); rest = r.rest })
+      | inl r ↦ inl (record { more = r.more; front = (let f = r.front in cc (heads, f)); rest = r.rest })
       | inr r ↦ inr (record { more = r.more; front = (let f = r.front in cc (heads, f)); rest = r.rest })
     ]
 
@@ -54,7 +54,7 @@ blank_begins_no_symbol b bs s g h = by_cases (blank_is b g)
 -- the longest symbols at one place are one, and leave the same
 pub one_longest : (x y u v : List ℕ) (s s' : Symbol) → IsLongest x u → IsLongest y v → symbol_of x ≡ Some s → symbol_of y ≡ Some s' → x ++ u ≡ y ++ v → (x ≡ y) × (u ≡ v)
 one_longest x y u v s s' l l' t t' h = elim (one_goes_on x y u v h) [
-    inl r ↦ not_longer x y u v s' l r t'
+  | inl r ↦ not_longer x y u v s' l r t'
   | inr r ↦ (let p = not_longer y x v u s l' r t in (sym p.0, sym p.1))
 ]
 

@@ -122,7 +122,7 @@ sound_program {longest} {p = p} (ReadsAll {cs} {ts} {us} iterations stages steps
     let u = sound_closed e in
     let v = sound_block b in
     subst (λ x. DerivesProgram longest x p) (sym (program_symbols (limits_symbols iterations stages steps emits)
-      t.taken u.taken v.taken cs ts us t.split u.split v.split))
+    t.taken u.taken v.taken cs ts us t.split u.split v.split))
     (ProgramIs iterations stages steps emits t.derived u.whole v.derived)
 
 -- ---- what is derived is read
