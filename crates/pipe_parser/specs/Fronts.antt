@@ -31,15 +31,6 @@ HasNoNumber (Number n ∷ rest) = ⊥
 HasNoNumber (Operator code ∷ rest) = Unit {0}
 HasNoNumber (Sign sign ∷ rest) = Unit {0}
 
--- the first symbol is neither a number nor a name
-abbrev pub HasNoOperand : List Symbol → Type 0
-HasNoOperand [] = Unit {0}
-HasNoOperand (Name name ∷ rest) = ⊥
-HasNoOperand (Word k ∷ rest) = Unit {0}
-HasNoOperand (Number n ∷ rest) = ⊥
-HasNoOperand (Operator code ∷ rest) = Unit {0}
-HasNoOperand (Sign sign ∷ rest) = Unit {0}
-
 -- the operator with the code is not the first symbol
 abbrev pub HasNoOperator : ℕ → List Symbol → Type 0
 HasNoOperator code [] = Unit {0}

@@ -5,7 +5,7 @@ ghost use Rattle.pipe_model.specs.Grammar.{rank_of};
 ghost use Rattle.pipe_model.specs.Reading.{Reads, Extends, ReadsClosed};
 ghost use Rattle.pipe_model.specs.SyntaxTree.{expression_of};
 ghost use Rattle.pipe_model.specs.declared.symbol.Symbol.TheVariants.{Operator};
-ghost use Rattle.pipe_parser.specs.Fronts.{HasNoOperand, HasNoneOfRank};
+ghost use Rattle.pipe_parser.specs.Fronts.{HasNoneOfRank};
 ghost use Rattle.pipe_parser.specs.Nothing.{ReadsNothing, ExtendsNowhere, ClosesNowhere};
 
 use crate::front::{Parsed, after_sign};
@@ -53,7 +53,7 @@ fn operator_of_rank<'a>(symbols: &'a [Symbol], rank: u8) -> Option<(u8, &'a [Sym
 /// Reads a number or a name from the front.
 fn read_operand<'a>(alloc: Global, symbols: &'a [Symbol]) -> Parsed<'a, Expr>
     ensures some { IfOk result (λ o. IfSome o (λ r. Reads 0 symbols.now (expression_of r.0) r.1.now)) }
-    ensures none { IfOk result (λ o. IfNone o (HasNoOperand symbols.now)) }
+    ensures none { IfOk result (λ o. IfNone o (ReadsNothing 0 symbols.now)) }
     ensures shorter { IfOk result (λ o. IfSome o (λ r. length r.1.now < length symbols.now)) }
 {
     match symbols.split_first() {

@@ -5,13 +5,13 @@ ghost use Rattle.pipe_model.specs.Rules.{is_among};
 
 use pipe_model::memory::NoMemory;
 use std::alloc::Global;
-use std::collections::HashSet;
+use std::collections::BTreeSet;
 use std::marker::Model;
 
 /// A set of names, seen in contracts as a list of them in some order.
 #[derive(Drop)]
 pub struct Names<'a> {
-    names: HashSet<&'a [u8]>,
+    names: BTreeSet<&'a [u8]>,
 }
 
 impl<'a> Model for Names<'a> {
@@ -28,7 +28,7 @@ impl<'a> Names<'a> {
         ensures { result ≡ [] }
     {
         Names {
-            names: HashSet::new(alloc),
+            names: BTreeSet::new(alloc),
         }
     }
 
