@@ -1,0 +1,7 @@
+use Rattle.std.proofs.Common.{ℕ, ◌<◌}
+use Rattle.pipe_model.specs.HistoryRaces.{RacesAt}
+use Rattle.dag_build.specs.FirstRaces.{noted_all}
+use Rattle.dag_build.proofs.dag.Dag.first_race.Given as goal
+
+abbrev pub invariant-loop-later : goal.invariant-loop-later
+invariant-loop-later l = (n k : ℕ) → n < l.later → RacesAt l.self (noted_all l.accesses) n k → ⊥

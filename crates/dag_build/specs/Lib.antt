@@ -1,0 +1,3 @@
+pub mod NodeColumns
+pub mod Landings
+pub mod FirstRaces

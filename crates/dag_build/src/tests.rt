@@ -1,0 +1,1 @@
+// The dag of columns drawn by hand.
