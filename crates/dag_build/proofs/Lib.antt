@@ -1,6 +1,7 @@
 pub mod CellGroups
 pub mod Crossings
-pub mod Fronts
+pub mod FrontLaws
+pub mod Paths
 pub mod RacePlaces
 pub mod SortedAccesses
 pub mod Tables

@@ -1,3 +1,4 @@
-pub mod NodeColumns
-pub mod Landings
+pub mod AccessFronts
 pub mod FirstRaces
+pub mod Landings
+pub mod NodeColumns

@@ -2,6 +2,7 @@
 #![tactic(auto)]
 
 pub mod dag;
+mod fronts;
 mod landing;
 pub mod races;
 #[cfg(test)]

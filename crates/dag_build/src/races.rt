@@ -10,10 +10,12 @@ ghost use Rattle.pipe_model.specs.Columns.{IsNodeOf};
 ghost use Rattle.pipe_model.specs.HistoryRaces.{KindsConflict, RacesAt};
 ghost use Rattle.pipe_model.specs.HistoryReports.{report_of};
 ghost use Rattle.pipe_model.specs.Reports.{number_at};
+ghost use Rattle.dag_build.specs.AccessFronts.{AreFronts};
 ghost use Rattle.dag_build.specs.FirstRaces.{AreFirstRaces, AreRacing, HasNoRace, IsFirstRace, TellsFirstRace, noted_all};
 ghost use Rattle.dag_build.specs.NodeColumns.{IsAccessOf};
 
 use crate::dag::Dag;
+use crate::fronts::Fronts;
 use pipe_model::access::{AccessKind, CellId, NodeAccess, NodeAccesses};
 use pipe_model::list::ListOf;
 use pipe_model::memory::NoMemory;
@@ -82,16 +84,45 @@ impl Dag {
         None
     }
 
+    // The same, where the fronts of the accesses before `later` are known in its column or a later one.
+    fn race_behind(&self, fronts: Fronts, accesses: &[NodeAccess], later: usize) -> Option<usize>
+        requires inside { All (IsAccessOf self.now) accesses.now }
+        requires within { later < length accesses.now }
+        requires fronts { AreFronts self.now (noted_all accesses.now) later fronts }
+        ensures some { IfSome result (λ earlier. RacesAt self.now (noted_all accesses.now) later earlier) }
+        ensures first { IfSome result (λ earlier. (k : ℕ) → k < earlier → RacesAt self.now (noted_all accesses.now) later k → ⊥) }
+        ensures none { IfNone result ((k : ℕ) → RacesAt self.now (noted_all accesses.now) later k → ⊥) }
+    {
+        let access = accesses[later];
+        if fronts.column == access.node.iteration as usize
+            && fronts.front_for(access.access.kind) <= access.node.index as usize
+        {
+            return None;
+        }
+        self.race_with(accesses, later)
+    }
+
     // The places of the first race among the accesses to one cell, the earlier access first.
     fn first_race(&self, accesses: &[NodeAccess]) -> Option<(usize, usize)>
         requires { All (IsAccessOf self.now) accesses.now }
         ensures some { IfSome result (λ race. IsFirstRace self.now (noted_all accesses.now) race.0 race.1) }
         ensures none { IfNone result (HasNoRace self.now (noted_all accesses.now)) }
     {
+        let first = accesses.first()?;
+        let mut fronts = Fronts {
+            column: first.node.iteration as usize,
+            writes: 0,
+            accesses: 0,
+        };
         for later in 0..accesses.len() {
-            if let Some(earlier) = self.race_with(accesses, later) {
+            let access = accesses[later];
+            let column = access.node.iteration as usize;
+            fronts = fronts.moved(self, fronts.column.max(column));
+            if let Some(earlier) = self.race_behind(fronts, accesses, later) {
                 return Some((earlier, later));
             }
+            let here = self.moved(column, access.node.index as usize, fronts.column);
+            fronts = fronts.joined(access.access.kind, here);
         }
         None
     }

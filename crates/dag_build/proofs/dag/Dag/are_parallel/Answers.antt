@@ -1,4 +1,4 @@
-use Rattle.dag_build.proofs.Fronts.{not_parallel_in_column}
+use Rattle.dag_build.proofs.Paths.{not_parallel_in_column}
 use Rattle.dag_build.proofs.dag.Dag.are_parallel.Goals as goal
 
 pub returns-then-a-b-clause-no : goal.returns-then-a-b-clause-no

@@ -1,6 +1,6 @@
 use Rattle.std.proofs.Common.{◌≡◌, arith}
 use Rattle.std.proofs.lemmas.Bool.Decides.{nat_tests}
-use Rattle.dag_build.proofs.Fronts.{not_back, below_in_column, precedes_in_column, front_moved, precedes_from_front, front_from_precedes}
+use Rattle.dag_build.proofs.Paths.{not_back, below_in_column, precedes_in_column, front_moved, precedes_from_front, front_from_precedes}
 use Rattle.dag_build.proofs.dag.Dag.precedes.Goals as goal
 
 pub returns-then-b-a : goal.returns-then-b-a

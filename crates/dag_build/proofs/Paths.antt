@@ -1,22 +1,15 @@
 -- What an instance leads to in a column: all from a place on, and how that place moves to the next column.
-use Rattle.std.proofs.Common.{◌≡◌, ℕ, zero, suc, ◌+◌, ◌-◌, ◌<◌, ◌≤◌, List, length, ◌⊎◌, inl, inr, refl, sym, ap, subst, arith}
+use Rattle.std.proofs.Common.{◌≡◌, ℕ, zero, suc, ◌+◌, ◌-◌, ◌<◌, ◌≤◌, List, length, inl, inr, refl, sym, ap, subst, arith}
 use Rattle.std.proofs.lemmas.Bool.{cases_lt, cases_order}
 use Rattle.pipe_model.specs.declared.node.Node.{Node}
 use Rattle.pipe_model.specs.declared.node.NodeId.{NodeId}
 use Rattle.pipe_model.specs.Columns.{nodes_at, at}
 use Rattle.pipe_model.specs.Dag.{AreParallel, CrossEdge, Edge, DownEdge, AcrossEdge, Precedes, ByEdge, ByPath}
 use Rattle.dag_build.proofs.Crossings.{edge_begins_within}
+use Rattle.dag_build.specs.AccessFronts.{LeadsTo, LeadsFrom}
 use Rattle.dag_build.specs.Landings.{IsLanding, MovesTo, Stays, Moves}
 
--- x is y or precedes it
-abbrev pub LeadsTo : List (List Node) → NodeId → NodeId → Type 0
-LeadsTo columns x y = (x ≡ y) ⊎ Precedes columns x y
-
--- in column i, x leads to what stands at place m or past it
-pub record LeadsFrom (columns : List (List Node)) (x : NodeId) (i m : ℕ) : Type 0 where
-  pub reached : (k : ℕ) → m ≤ k → k < length (nodes_at columns i) → LeadsTo columns x (at i k)
-
--- and to nothing before it
+-- in column i, x leads to what stands at place m or past it, and to nothing before it
 pub record IsFront (columns : List (List Node)) (x : NodeId) (i m : ℕ) : Type 0 where
   pub leads : LeadsFrom columns x i m
   pub only : (k : ℕ) → LeadsTo columns x (at i k) → m ≤ k
