@@ -1,5 +1,6 @@
 pub mod CellGroups
 pub mod Crossings
+pub mod FirstRaceLaws
 pub mod FrontLaws
 pub mod Paths
 pub mod RacePlaces

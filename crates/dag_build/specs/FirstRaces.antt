@@ -7,7 +7,7 @@ use Rattle.pipe_model.specs.AccessHistory.{NotedAccess, access_at, accesses_to, 
 use Rattle.pipe_model.specs.Dag.{AreParallel}
 use Rattle.pipe_model.specs.HistoryRaces.{KindsConflict, RacesAt}
 use Rattle.pipe_model.specs.HistoryReports.{report_of}
-use Rattle.pipe_model.specs.Races.{Among}
+use Rattle.pipe_model.specs.Races.{Among, IsDeterminacyRace}
 
 -- access `later` races with access `earlier`; none before it races, and it races with none before that one
 pub record IsFirstRace (columns : List (List Node)) (accesses : List NotedAccess) (earlier later : ℕ) : Type 0 where
@@ -48,3 +48,10 @@ HasNoRace columns accesses = (later earlier : ℕ) → RacesAt columns accesses 
 pub record AreRacing (columns : List (List Node)) (a b : NodeAccess) : Type 0 where
   pub conflict : KindsConflict a.access.kind b.access.kind
   pub parallel : AreParallel columns a.node b.node
+
+-- the report tells two accesses of the list that race
+pub record TellsRace (columns : List (List Node)) (accesses : List NodeAccess) (r : Report) : Type 0 where
+  pub earlier : NodeAccess
+  pub later : NodeAccess
+  pub race : IsDeterminacyRace columns accesses earlier later
+  pub told : r ≡ report_of columns earlier.access.cell.0 (noted_access earlier.node earlier.access.kind) (noted_access later.node later.access.kind)
