@@ -1,6 +1,5 @@
 pub mod Taken
 pub mod Loading
-pub mod TextLines
 pub mod RowOfCall
 pub mod GivenUp
 pub mod OneRow

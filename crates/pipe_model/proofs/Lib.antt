@@ -1,4 +1,7 @@
+pub mod CellAccesses
+pub mod CellRaces
 pub mod Divisions
-pub mod Reading
-pub mod ProgramReading
+pub mod Members
 pub mod OneSpelling
+pub mod ProgramReading
+pub mod Reading

@@ -1,6 +1,5 @@
 -- Access histories, the races that they find and the reports of these.
 pub mod AccessOrder
-pub mod CellAccesses
 pub mod CellRaces
 pub mod CellReports
 pub mod FirstRaces

@@ -10,7 +10,6 @@ pub mod GrowingColumns
 pub mod IterationCounts
 pub mod LastIteration
 pub mod LaterEdges
-pub mod Members
 pub mod Progress
 pub mod QuietEvents
 pub mod RunAccesses

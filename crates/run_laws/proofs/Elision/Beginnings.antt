@@ -25,7 +25,7 @@ use Rattle.run_laws.proofs.RunStates.FrameTraces.{IsTraced, EndsBy, pending_node
 use Rattle.run_laws.proofs.RunStates.Frames.{frame_at_exists, nodes_at_frame, nodes_at_past, frame_at_within}
 use Rattle.run_laws.proofs.RunStates.GrowingColumns.{left_column_begun}
 use Rattle.run_laws.proofs.RunStates.LaterEdges.{Extends, no_race_before}
-use Rattle.run_laws.proofs.RunStates.Members.{among_left}
+use Rattle.pipe_model.proofs.Members.{among_left}
 use Rattle.run_laws.proofs.RunStates.RunAccesses.{HasLocatedAccesses}
 use Rattle.run_laws.proofs.RunStates.RunInvariant.{IsConsistent}
 use Rattle.run_laws.proofs.RunStates.RunningInstances.{frame_of_node, awaited_is_passed}

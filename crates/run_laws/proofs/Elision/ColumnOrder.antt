@@ -20,7 +20,7 @@ use Rattle.run_laws.proofs.Iterations.CellWrites.{written_either_order}
 use Rattle.run_laws.proofs.Iterations.TraceParts.{accesses_in-append}
 use Rattle.run_laws.proofs.RunStates.FrameAccesses.{accesses_by_column, accesses_by_column-update_frame, in_frame, accesses_by_column-parted}
 use Rattle.run_laws.proofs.RunStates.Frames.{IsParted, parted}
-use Rattle.run_laws.proofs.RunStates.Members.{among_right, among_left}
+use Rattle.pipe_model.proofs.Members.{among_right, among_left}
 use Rattle.run_laws.proofs.RunStates.QuietEvents.{IsQuiet, advance_is_quiet, enter_is_quiet, finish_is_quiet}
 use Rattle.run_laws.proofs.RunStates.RunInvariant.{IsConsistent, access_by, current_index_last, run_consistent, race_stays}
 use Rattle.run_laws.proofs.RunStates.RunningInstances.{running_is_parallel}

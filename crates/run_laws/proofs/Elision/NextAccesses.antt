@@ -25,7 +25,7 @@ use Rattle.run_laws.proofs.RunStates.FrameAccesses.{accesses_by_column, in_frame
 use Rattle.run_laws.proofs.RunStates.FrameTraces.{IsTraced, pending_node, AllTraced}
 use Rattle.run_laws.proofs.RunStates.Frames.{nodes_at_frame, parted, frame_at_within, frame_at_append}
 use Rattle.run_laws.proofs.RunStates.LaterEdges.{old_path, paths_lead_right, IsOldPath, HasInstance}
-use Rattle.run_laws.proofs.RunStates.Members.{among_right, none_among}
+use Rattle.pipe_model.proofs.Members.{among_right, none_among}
 use Rattle.run_laws.proofs.RunStates.RunAccesses.{HasLocatedAccesses}
 use Rattle.run_laws.proofs.RunStates.RunInvariant.{IsConsistent}
 use Rattle.run_laws.proofs.RunStates.RunningInstances.{running_has_no_path}

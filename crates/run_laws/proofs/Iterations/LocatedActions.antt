@@ -7,7 +7,7 @@ use Rattle.pipe_model.specs.SerialElision.{located, trace_at, located_from}
 use Rattle.pipe_model.specs.State.{accesses_of}
 use Rattle.pipe_model.specs.declared.access.Access.{Access as Cell_access}
 use Rattle.pipe_model.specs.declared.access.NodeAccess.{NodeAccess}
-use Rattle.run_laws.proofs.RunStates.Members.{among_left, among_right}
+use Rattle.pipe_model.proofs.Members.{among_left, among_right}
 
 -- one access more is made by the last instance that the trace names
 pub located-accessed : (i k : ℕ) (xs : List Action) (a : Cell_access)

@@ -12,7 +12,7 @@ use Rattle.run_laws.proofs.LogMerge.InstanceCounts.{control_counts, one_open, st
 use Rattle.run_laws.proofs.LogMerge.InstanceTickets.{ticket_within}
 use Rattle.run_laws.proofs.LogMerge.InstanceTraces.{laid_end, end_actions-tickets, laid_has, iteration_rises, laid_only}
 use Rattle.run_laws.proofs.LogMerge.MergedLogs.{fitting_merge_is_run}
-use Rattle.run_laws.proofs.RunStates.Members.{only_one, none_among, among_either, among_left, among_right}
+use Rattle.pipe_model.proofs.Members.{only_one, none_among, among_either, among_left, among_right}
 use Rattle.run_laws.specs.LogLaws.{MergedLogsAreARun}
 use Rattle.run_laws.proofs.LogMerge.Entries.{timed, book_entry, shard_entry}
 use Rattle.run_laws.proofs.LogMerge.MergedActions.{action_of_event, timed_here}

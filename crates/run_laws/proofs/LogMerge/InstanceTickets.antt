@@ -5,7 +5,7 @@ use Rattle.pipe_model.specs.Races.{Among, Here, Later}
 use Rattle.pipe_model.specs.TicketLogs.{BookEntry, start_tickets, start_ticket, end_tickets, end_ticket, ticket_at, if_ticket}
 use Rattle.pipe_model.specs.declared.event.Event.{Event}
 use Rattle.pipe_model.specs.declared.event.Event.TheVariants.{Begin, Enter, Access, Advance, Finish, Stop}
-use Rattle.run_laws.proofs.RunStates.Members.{only_one, none_among, among_either}
+use Rattle.pipe_model.proofs.Members.{only_one, none_among, among_either}
 
 -- the starts in two parts of a book
 pub start_tickets-append : (i : ℕ) (xs ys : List BookEntry)

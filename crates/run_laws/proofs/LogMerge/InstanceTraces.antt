@@ -7,7 +7,7 @@ use Rattle.pipe_model.specs.TicketLogs.{TimedAction, if_end, if_ticket, BookEntr
 use Rattle.pipe_model.specs.TicketLogs.{TicketsRise, laid_traces, ticket_at, start_tickets, InTicketOrder}
 use Rattle.pipe_model.specs.declared.event.Event.{Event}
 use Rattle.pipe_model.specs.declared.event.Event.TheVariants.{Begin, Enter, Access, Advance, Finish, Stop}
-use Rattle.run_laws.proofs.RunStates.Members.{among_either, only_one, among_left, among_right, none_among}
+use Rattle.pipe_model.proofs.Members.{among_either, only_one, among_left, among_right, none_among}
 
 -- an end and its ticket
 if_end-ticket : (b : Bool) (t : ℕ) (x : Action) (es : List TimedAction) (ts : List ℕ) → map (λ e. e.ticket) es ≡ ts

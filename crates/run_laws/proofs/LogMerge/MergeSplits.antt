@@ -11,7 +11,7 @@ use Rattle.pipe_model.specs.declared.access.Access.{Access as Cell_access}
 use Rattle.pipe_model.specs.declared.event.Event.{Event}
 use Rattle.pipe_model.specs.declared.event.Event.TheVariants.{Begin, Access, Advance, Enter, Finish, Stop}
 use Rattle.run_laws.proofs.LogMerge.FittingLogs.{FitTogether}
-use Rattle.run_laws.proofs.RunStates.Members.{none_among, among_either, only_one, among_right}
+use Rattle.pipe_model.proofs.Members.{none_among, among_either, only_one, among_right}
 
 -- the events of the book make no access
 pub control_has_no_access : {limit : ℕ} {es : List Event} {c : State} → ControlRun limit es c → (e : Event)

@@ -9,7 +9,7 @@ use Rattle.pipe_model.specs.declared.event.Event.{Event}
 use Rattle.pipe_model.specs.declared.event.Event.TheVariants.{Begin, Access, Advance, Enter, Finish, Stop}
 use Rattle.run_laws.proofs.LogMerge.FittingLogs.{IsActionOf, StagedIn, EndedIn, AccessedIn}
 use Rattle.run_laws.proofs.LogMerge.MergeSplits.{in_book, among_shard, among_book, of_shard}
-use Rattle.run_laws.proofs.RunStates.Members.{none_among, among_either, among_left, only_one, among_right}
+use Rattle.pipe_model.proofs.Members.{none_among, among_either, among_left, only_one, among_right}
 use Rattle.run_laws.proofs.LogMerge.Entries.{timed, book_entry, shard_entry}
 
 -- the action of an entry, with its ticket

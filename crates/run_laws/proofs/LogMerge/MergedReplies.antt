@@ -13,7 +13,7 @@ use Rattle.pipe_model.specs.declared.event.Event.TheVariants.{Begin, Access, Adv
 use Rattle.run_laws.proofs.Iterations.CellWrites.{other_cell_writes_none, written-append}
 use Rattle.run_laws.proofs.LogMerge.FittingLogs.{FitTogether}
 use Rattle.run_laws.proofs.LogMerge.MergeSplits.{IsSplit, shard_in-append, among_shard, control_has_no_access, among_events, book_in-append}
-use Rattle.run_laws.proofs.RunStates.Members.{among_left, among_right}
+use Rattle.pipe_model.proofs.Members.{among_left, among_right}
 
 -- what is written to a cell stands in the log of its shard
 shard_written : (c width : ℕ) (xs : List LogEntry)

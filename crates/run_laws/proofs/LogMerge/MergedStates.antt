@@ -18,7 +18,7 @@ use Rattle.run_laws.proofs.LogMerge.InstanceTickets.{HasTicket, start_tickets-ap
 use Rattle.run_laws.proofs.LogMerge.InstanceTickets.{ticket_left, end_has}
 use Rattle.run_laws.proofs.LogMerge.MergeSplits.{IsSplit, book_in-append, control_has_no_access, among_events, control_events_of_merge}
 use Rattle.run_laws.proofs.LogMerge.MergeSplits.{shard_in-append, order_before, among_book, order_after, event_entry}
-use Rattle.run_laws.proofs.RunStates.Members.{among_right, among_left}
+use Rattle.pipe_model.proofs.Members.{among_right, among_left}
 use Rattle.run_laws.proofs.LogMerge.Entries.{book_entry}
 
 -- more starts than ends: the instance that was started last runs

@@ -15,7 +15,7 @@ use Rattle.run_laws.proofs.LogMerge.FittingLogs.{FitTogether}
 use Rattle.run_laws.proofs.LogMerge.MergeSplits.{cells_of}
 use Rattle.run_laws.proofs.LogMerge.MergedActions.{timed_in_entry, timed_if, timed_in_merge, comes_from}
 use Rattle.run_laws.proofs.LogMerge.MergedActions.{action_of_entry, action_merged, timed_are_actions}
-use Rattle.run_laws.proofs.RunStates.Members.{none_among, among_either, only_one}
+use Rattle.pipe_model.proofs.Members.{none_among, among_either, only_one}
 use Rattle.run_laws.proofs.LogMerge.Entries.{timed}
 
 -- in a rising list equal tickets are of one action

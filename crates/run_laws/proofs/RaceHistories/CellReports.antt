@@ -14,11 +14,11 @@ use Rattle.pipe_model.specs.Starts.{starts_of}
 use Rattle.pipe_model.specs.State.{State, own_columns}
 use Rattle.pipe_model.specs.declared.node.NodeId.{NodeId}
 use Rattle.pipe_model.specs.declared.report.Report.{Report}
-use Rattle.run_laws.proofs.RaceHistories.CellRaces.{HasRacesAt, race_at}
+use Rattle.pipe_model.proofs.CellRaces.{HasRacesAt, race_at}
 use Rattle.run_laws.proofs.RaceHistories.RunHistories.{histories_find_the_first_race}
-use Rattle.run_laws.proofs.RunStates.Members.{among_either, among_right, among_left}
+use Rattle.pipe_model.proofs.Members.{among_either, among_right, among_left}
 use Rattle.run_laws.specs.HistoryLaws.{ReportsAreRight}
-use Rattle.run_laws.proofs.RaceHistories.CellAccesses.{noted_of, cell_id, two_places}
+use Rattle.pipe_model.proofs.CellAccesses.{noted_of, cell_id, two_places}
 
 -- a report of what a history has found names a race
 names_race : (s : State) (c : ℕ) (race : FirstRace) → IsFirstRaceOf (own_columns s) (accesses_to c s.accesses) race

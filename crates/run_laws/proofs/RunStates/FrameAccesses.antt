@@ -7,7 +7,7 @@ use Rattle.pipe_model.specs.Races.{Among}
 use Rattle.pipe_model.specs.State.{Frame, frame_at, update_frame}
 use Rattle.pipe_model.specs.declared.access.Access.{Access}
 use Rattle.run_laws.proofs.RunStates.Frames.{parted}
-use Rattle.run_laws.proofs.RunStates.Members.{none_among, among_either}
+use Rattle.pipe_model.proofs.Members.{none_among, among_either}
 
 -- the accesses of the iterations, one iteration after the other
 abbrev pub accesses_by_column : List Frame → List Access

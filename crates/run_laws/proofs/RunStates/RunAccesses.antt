@@ -21,7 +21,7 @@ use Rattle.run_laws.proofs.RunStates.FrameAccesses.{accesses_by_column}
 use Rattle.run_laws.proofs.RunStates.FrameMoves.{frame_at_moved, frame_at_begun, enter_pending_is}
 use Rattle.run_laws.proofs.RunStates.FrameTraces.{AllTraced, running_column, run_traced}
 use Rattle.run_laws.proofs.RunStates.Frames.{frame_at_updated, frame_at_other, frame_at_push, frame_at_within}
-use Rattle.run_laws.proofs.RunStates.Members.{among_either, among_left, only_one, among_right, none_among}
+use Rattle.pipe_model.proofs.Members.{among_either, among_left, only_one, among_right, none_among}
 
 -- an access stands in the trace of a frame
 pub record StandsInFrame (fs : List Frame) (x : NodeAccess) : Type 0 where

@@ -16,7 +16,7 @@ use Rattle.run_laws.proofs.RunStates.FrameMoves.{IsSound, sound_moved, frame_at_
 use Rattle.run_laws.proofs.RunStates.Frames.{nodes_at_frame}
 use Rattle.run_laws.proofs.RunStates.GrowingColumns.{extends_begun, extends_moved}
 use Rattle.run_laws.proofs.RunStates.LaterEdges.{HasInstance, columns_of_frames, Extends, no_race_before}
-use Rattle.run_laws.proofs.RunStates.Members.{none_among, among_either, only_one, among_left, among_right}
+use Rattle.pipe_model.proofs.Members.{none_among, among_either, only_one, among_left, among_right}
 use Rattle.run_laws.proofs.RunStates.QuietEvents.{IsQuiet, instance_stays, quiet_extends, advance_is_quiet, enter_is_quiet, finish_is_quiet}
 
 -- an access of iteration i is one of the run, by an instance of that iteration

@@ -3,7 +3,7 @@ use Rattle.pipe_model.specs.AccessHistory.{NotedAccess, access_at, accesses_to, 
 use Rattle.pipe_model.specs.Races.{Among, Here, Later}
 use Rattle.pipe_model.specs.declared.access.CellId.{CellId}
 use Rattle.pipe_model.specs.declared.access.NodeAccess.{NodeAccess}
-use Rattle.run_laws.proofs.RunStates.Members.{among_right}
+use Rattle.pipe_model.proofs.Members.{among_right}
 use Rattle.std.proofs.Common.{subst, ℕ, List, ◌++◌, ◌≡◌, ◌∷◌, Bool, eqb, length, cond, ◌<◌, true, zero, refl, [], suc, arith, ap}
 use Rattle.std.proofs.Common.{false, ◌∙◌, sym}
 use Rattle.std.proofs.lemmas.Bool.{eqb-true, eq-eqb}

@@ -1,5 +1,5 @@
 -- What is among the elements of a list.
-use Rattle.std.proofs.Common.{List, ◌++◌, [], ◌∷◌, ◌⊎◌, inr, inl, ◌≡◌, refl}
+use Rattle.std.proofs.Common.{List, ◌++◌, [], ◌∷◌, ◌⊎◌, inr, inl, ◌≡◌, refl, ℕ, zero, suc, ◌<◌, length, get_or, arith}
 use Rattle.pipe_model.specs.Races.{Among, Here, Later}
 
 -- an element of the first list is among both
@@ -27,3 +27,9 @@ only_one x y (Later z m) = elim m [ ]
 -- nothing is among the elements of an empty list
 pub none_among : {A : Type 0} (x : A) → Among x [] → ⊥
 none_among x m = elim m [ ]
+
+-- what stands at a place is among the elements
+pub among_at : {A : Type 0} (xs : List A) (k : ℕ) (d : A) → k < length xs → Among (get_or xs k d) xs
+among_at [] k d w = absurd (omega (arith, w))
+among_at (x ∷ xs) zero d w = Here
+among_at (x ∷ xs) (suc k) d w = Later x (among_at xs k d (omega (arith, w)))

@@ -1,0 +1,4 @@
+pub mod AccessFronts
+pub mod FirstRaces
+pub mod Landings
+pub mod NodeColumns

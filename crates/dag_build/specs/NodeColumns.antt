@@ -1,0 +1,18 @@
+-- The columns that a dag is made of: lists of instances whose stage numbers rise (Lee et al. 2013).
+use Rattle.std.specs.Prelude.{ℕ, List, map}
+use Rattle.pipe_model.specs.declared.access.NodeAccess.{NodeAccess}
+use Rattle.pipe_model.specs.declared.column.Column.{Column}
+use Rattle.pipe_model.specs.declared.node.Node.{Node}
+use Rattle.pipe_model.specs.Columns.{nodes_at, IsRising, IsNodeOf}
+
+-- the columns without their ends
+abbrev pub node_columns : List Column → List (List Node)
+node_columns columns = map (λ c. c.nodes) columns
+
+-- the stage numbers of each column rise
+pub record AreRising (columns : List (List Node)) : Type 0 where
+  pub each : (i : ℕ) → IsRising (nodes_at columns i)
+
+-- the instance that made the access is one of the columns
+abbrev pub IsAccessOf : List (List Node) → NodeAccess → Type 0
+IsAccessOf columns a = IsNodeOf columns a.node

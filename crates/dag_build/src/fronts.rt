@@ -1,0 +1,59 @@
+//! Fronts of accesses, by which an access is compared with all earlier ones at once.
+
+ghost use Rattle.std.specs.Prelude.{◌≡◌, ◌<◌, ◌≤◌, length};
+ghost use Rattle.dag_build.specs.AccessFronts.{front_for, joined_fronts};
+ghost use Rattle.dag_build.specs.Landings.{MovesTo};
+
+use crate::dag::Dag;
+use pipe_model::access::AccessKind;
+
+/// In a column, a place such that all earlier writes lead to what stands there or past it, and one such that all
+/// earlier accesses do.
+#[derive(Clone, Copy)]
+pub struct Fronts {
+    pub column: usize,
+    pub writes: usize,
+    pub accesses: usize,
+}
+
+impl Fronts {
+    /// The front of the accesses that an access of this kind conflicts with.
+    pub fn front_for(self, kind: AccessKind) -> usize
+        ensures { result ≡ front_for self kind }
+    {
+        match kind {
+            AccessKind::Read => self.writes,
+            AccessKind::Write => self.accesses,
+        }
+    }
+
+    /// The fronts with one more access of this kind, whose own front in the column is `here`.
+    pub fn joined(self, kind: AccessKind, here: usize) -> Fronts
+        ensures { result ≡ joined_fronts self kind here }
+    {
+        let writes = match kind {
+            AccessKind::Read => self.writes,
+            AccessKind::Write => self.writes.max(here),
+        };
+        Fronts {
+            column: self.column,
+            writes,
+            accesses: self.accesses.max(here),
+        }
+    }
+
+    /// The fronts in column `to`.
+    pub fn moved(self, dag: &Dag, to: usize) -> Fronts
+        requires order { self.column ≤ to }
+        requires within { to < length dag.now }
+        ensures column { result.column ≡ to }
+        ensures writes { MovesTo dag.now self.column self.writes to result.writes }
+        ensures accesses { MovesTo dag.now self.column self.accesses to result.accesses }
+    {
+        Fronts {
+            column: to,
+            writes: dag.moved(self.column, self.writes, to),
+            accesses: dag.moved(self.column, self.accesses, to),
+        }
+    }
+}

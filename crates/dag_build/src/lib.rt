@@ -1,0 +1,9 @@
+//! The explicit dag of columns: which instances precede which, and the determinacy races of a list of accesses.
+#![tactic(auto)]
+
+pub mod dag;
+mod fronts;
+mod landing;
+pub mod races;
+#[cfg(test)]
+mod tests;
