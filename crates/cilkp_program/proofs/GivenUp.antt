@@ -1,15 +1,16 @@
 -- What stands in a sink that took no more.
 use Rattle.std.proofs.Common.{◌≡◌, ◌≢◌, ◌≤◌, ◌↔◌, ℕ, List, length, Option, inr, arith}
+use Rattle.pipe_model.specs.declared.report.Report.{Report}
 use Rattle.cilkp_program.specs.Answers.{IsAnswer, IsCutShort, IsGivenUp, HasTaken}
 use Rattle.cilkp_program.specs.Reads.{Content}
 use Rattle.cilkp_program.specs.declared.whole.WriteEnd.{WriteEnd}
 use Rattle.cilkp_program.specs.declared.whole.WriteEnd.TheVariants as ends
 
 -- a text that was not written whole was cut short
-pub text_cut_short : (words : List (List ℕ)) (holds : Option Content) (before now status written : ℕ) (text : List ℕ) (taken_before taken_now : Option (List ℕ)) (end : WriteEnd)
-    → IsAnswer words holds before now status text → written ≤ length text → ((end ≡ ends.Whole) ↔ (written ≡ length text)) → end ≢ ends.Whole → HasTaken written text taken_before taken_now
-    → IsCutShort words holds before now written taken_before taken_now
-text_cut_short words holds before now status written text taken_before taken_now end answer within whole cut taken = record {
+pub text_cut_short : (words : List (List ℕ)) (holds : Option Content) (before now status written : ℕ) (text : List ℕ) (reports : List Report) (taken_before taken_now : Option (List ℕ)) (end : WriteEnd)
+    → IsAnswer words holds before now status text reports → written ≤ length text → ((end ≡ ends.Whole) ↔ (written ≡ length text)) → end ≢ ends.Whole → HasTaken written text taken_before taken_now
+    → IsCutShort words holds before now written reports taken_before taken_now
+text_cut_short words holds before now status written text reports taken_before taken_now end answer within whole cut taken = record {
   status = status;
   text = text;
   answer = answer;
@@ -18,6 +19,6 @@ text_cut_short words holds before now status written text taken_before taken_now
 }
 
 -- a call that gave up at such a text
-pub given_up_writing : (words : List (List ℕ)) (holds : Option Content) (before now written : ℕ) (taken_before taken_now : Option (List ℕ))
-    → IsCutShort words holds before now written taken_before taken_now → IsGivenUp words holds before now taken_before taken_now
-given_up_writing words holds before now written taken_before taken_now cut = inr (written, cut)
+pub given_up_writing : (words : List (List ℕ)) (holds : Option Content) (before now written : ℕ) (reports : List Report) (taken_before taken_now : Option (List ℕ))
+    → IsCutShort words holds before now written reports taken_before taken_now → IsGivenUp words holds before now taken_before taken_now
+given_up_writing words holds before now written reports taken_before taken_now cut = inr (written, reports, cut)

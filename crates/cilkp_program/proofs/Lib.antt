@@ -3,3 +3,5 @@ pub mod Loading
 pub mod RowOfCall
 pub mod GivenUp
 pub mod OneRow
+pub mod SerialDags
+pub mod RaceText

@@ -1,11 +1,12 @@
 -- What the reading of a whole file tells of a source and of an input.
 use Rattle.std.proofs.Common.{◌≡◌, ◌<◌, ℕ, List, [], length, Option, Some, None, IfSome, refl, ap, sym, arith}
 use Rattle.std.proofs.lemmas.List.{nil_from_length}
+use Rattle.pipe_model.specs.Spelling.{IsFirstForm}
 use Rattle.pipe_model.specs.SyntaxTree.{SyntaxTree}
 use Rattle.pipe_model.specs.Texts.{refused_missing, refused_source, refused_input}
 use Rattle.cilkp_program.specs.declared.whole.Whole.TheVariants as whole
 use Rattle.cilkp_program.specs.Reads.{Content}
-use Rattle.cilkp_program.specs.Rows.{InputRefusal, InputMissing, InputNotEmpty, IsBuilt, IsSourceOf, SourceRefusal, SourceMissing, SourceNotBuilt}
+use Rattle.cilkp_program.specs.Rows.{InputRefusal, InputMissing, InputNotEmpty, IsSourceOf, SourceRefusal, SourceMissing, SourceNotBuilt}
 use Rattle.cilkp_program.specs.Wholes.{IsWholeOf}
 
 -- the file is not held
@@ -35,19 +36,19 @@ pub source_is_too_long : (holds : Option Content) (name line : List ℕ) → lin
 source_is_too_long None name line e h = h
 source_is_too_long (Some content) name line e h =
     let f = too_long_is_held (content name) 1048576 h in
-    rw e (SourceNotBuilt f.0 f.1 (λ tree built. let short = built.form.spelled.short in omega (arith, short, f.2)))
+    rw e (SourceNotBuilt f.0 f.1 (λ tree form. let short = form.spelled.short in omega (arith, short, f.2)))
 
 -- a source of no program is refused
 pub source_is_not_built : (holds : Option Content) (name line bytes : List ℕ) (limit : ℕ) → line ≡ refused_source → IfSome holds (λ content. IsWholeOf (content name) limit (whole.Bytes bytes))
-    → ((tree : SyntaxTree) → IsBuilt bytes tree → ⊥) → IfSome holds (λ content. SourceRefusal content name line)
+    → ((tree : SyntaxTree) → IsFirstForm bytes tree → ⊥) → IfSome holds (λ content. SourceRefusal content name line)
 source_is_not_built None name line bytes limit e h n = h
 source_is_not_built (Some content) name line bytes limit e h n = rw e (SourceNotBuilt bytes (bytes_are_held (content name) limit bytes h) n)
 
 -- the program of a source that is held
 pub source_is_built : (holds : Option Content) (name bytes : List ℕ) (limit : ℕ) (tree : SyntaxTree) → IfSome holds (λ content. IsWholeOf (content name) limit (whole.Bytes bytes))
-    → IsBuilt bytes tree → IfSome holds (λ content. IsSourceOf content name tree)
-source_is_built None name bytes limit tree h built = h
-source_is_built (Some content) name bytes limit tree h built = record { bytes = bytes; held = bytes_are_held (content name) limit bytes h; built = built }
+    → IsFirstForm bytes tree → IfSome holds (λ content. IsSourceOf content name tree)
+source_is_built None name bytes limit tree h form = h
+source_is_built (Some content) name bytes limit tree h form = record { bytes = bytes; held = bytes_are_held (content name) limit bytes h; form = form }
 
 -- an input that is not held is refused
 pub input_is_missing : (holds : Option Content) (name line : List ℕ) (limit : ℕ) → line ≡ refused_missing name → IfSome holds (λ content. IsWholeOf (content name) limit whole.Missing)

@@ -6,5 +6,6 @@ pub mod Stored
 pub mod Wholes
 pub mod Rows
 pub mod Answers
+pub mod CellNames
 pub mod Loads
 pub mod RowLaws

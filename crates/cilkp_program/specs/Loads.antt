@@ -1,12 +1,13 @@
 -- What the loading of a source and of an input answers.
 use Rattle.std.specs.Prelude.{◌≡◌, ℕ, List, [], Some, Bool, true, false}
+use Rattle.pipe_model.specs.Spelling.{IsFirstForm}
 use Rattle.pipe_model.specs.SyntaxTree.{tree_of}
 use Rattle.cilkp_program.specs.declared.load.Source.{Source}
 use Rattle.cilkp_program.specs.declared.load.Source.TheVariants as sources
 use Rattle.cilkp_program.specs.declared.load.Input.{Input}
 use Rattle.cilkp_program.specs.declared.load.Input.TheVariants as inputs
 use Rattle.cilkp_program.specs.Reads.{Content}
-use Rattle.cilkp_program.specs.Rows.{InputRefusal, IsBuilt, IsSourceOf, SourceRefusal}
+use Rattle.cilkp_program.specs.Rows.{InputRefusal, IsSourceOf, SourceRefusal}
 
 -- whether the loading of a source failed
 abbrev pub is_source_fault : Source → Bool
@@ -16,7 +17,7 @@ is_source_fault sources.Failed = true
 
 -- a program that was loaded is that of some source
 abbrev pub IsOfSomeSource : Source → Type 0
-IsOfSomeSource (sources.Program program) = (bytes : List ℕ) × IsBuilt bytes (tree_of program)
+IsOfSomeSource (sources.Program program) = (bytes : List ℕ) × IsFirstForm bytes (tree_of program)
 IsOfSomeSource (sources.Refused line) = Unit {0}
 IsOfSomeSource sources.Failed = Unit {0}
 

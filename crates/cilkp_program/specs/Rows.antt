@@ -1,12 +1,19 @@
--- The table of answers: what a call prints, with its status, where nothing goes wrong outside.
+-- The table of answers: what a call prints, with its status and its reports of races, where nothing goes wrong outside.
 use Rattle.std.specs.Prelude.{◌≡◌, ◌≢◌, ℕ, ◌++◌, List, [], ◌∷◌, map, Option, Some, None, codes, String, string_bytes}
 use Rattle.std.specs.declared.alloc.Global.{Global}
+use Rattle.pipe_model.specs.declared.access.NodeAccess.{NodeAccess}
+use Rattle.pipe_model.specs.declared.node.Node.{Node}
+use Rattle.pipe_model.specs.declared.report.Report.{Report}
 use Rattle.pipe_model.specs.declared.trap.TrapAt.{TrapAt}
+use Rattle.pipe_model.specs.FirstRaces.{AreFirstRaces}
 use Rattle.pipe_model.specs.Outcome.{serial_output, serial_trap}
 use Rattle.pipe_model.specs.Programs.{pipeline_of}
-use Rattle.pipe_model.specs.Spelling.{IsFirstForm, AreStageless}
+use Rattle.pipe_model.specs.Races.{IsRaceFree}
+use Rattle.pipe_model.specs.SerialElision.{serial_columns, serial_accesses}
+use Rattle.pipe_model.specs.Spelling.{IsFirstForm}
 use Rattle.pipe_model.specs.SyntaxTree.{SyntaxTree}
 use Rattle.pipe_model.specs.Texts.{output_lines, trap_line, refused_usage, refused_missing, refused_source, refused_input}
+use Rattle.cilkp_program.specs.CellNames.{race_lines}
 use Rattle.cilkp_program.specs.Reads.{Content}
 
 -- the words of a call, as bytes
@@ -17,21 +24,16 @@ words_of words = map string_bytes words
 abbrev pub run_words : (source input : List ℕ) → List (List ℕ)
 run_words source input = codes "run" ∷ source ∷ input ∷ []
 
--- the program of a source that can be run today: of the first form, and without stage statements
-pub record IsBuilt (source : List ℕ) (tree : SyntaxTree) : Type 0 where
-  pub form : IsFirstForm source tree
-  pub stageless : AreStageless tree.body
-
 -- the file of this name holds the source of the program
 pub record IsSourceOf (content : Content) (name : List ℕ) (tree : SyntaxTree) : Type 0 where
   pub bytes : List ℕ
   pub held : content name ≡ Some bytes
-  pub built : IsBuilt bytes tree
+  pub form : IsFirstForm bytes tree
 
 -- the line that refuses a source: it is not held, or it is the source of no program
 pub data SourceRefusal (content : Content) (name : List ℕ) : List ℕ → Type 0 where
   SourceMissing : content name ≡ None → SourceRefusal content name (refused_missing name)
-  SourceNotBuilt : (bytes : List ℕ) → content name ≡ Some bytes → ((tree : SyntaxTree) → IsBuilt bytes tree → ⊥) → SourceRefusal content name refused_source
+  SourceNotBuilt : (bytes : List ℕ) → content name ≡ Some bytes → ((tree : SyntaxTree) → IsFirstForm bytes tree → ⊥) → SourceRefusal content name refused_source
 
 -- the line that refuses an input: it is not held, or it is not empty
 pub data InputRefusal (content : Content) (name : List ℕ) : List ℕ → Type 0 where
@@ -46,16 +48,30 @@ output_text tree = output_lines (serial_output (pipeline_of tree []))
 abbrev pub trap_of : SyntaxTree → Option TrapAt
 trap_of tree = serial_trap (pipeline_of tree [])
 
--- what a run of the program comes to: its output with status 0, or its output and its trap with status 3
-pub data Outcome (tree : SyntaxTree) : ℕ → List ℕ → Type 0 where
-  Finishes : trap_of tree ≡ None → Outcome tree 0 (output_text tree)
-  Traps : (t : TrapAt) → trap_of tree ≡ Some t → Outcome tree 3 (output_text tree ++ trap_line t)
+-- the columns of the program's serial elision, with an empty input
+abbrev pub columns_of : SyntaxTree → List (List Node)
+columns_of tree = serial_columns (pipeline_of tree [])
 
--- the row of a call by its words and the files: its status and text. The first refusal in this order counts: the words, the source, the input
-pub data Row (words : List (List ℕ)) (content : Content) : ℕ → List ℕ → Type 0 where
-  NoCommand : ((source input : List ℕ) → words ≢ run_words source input) → Row words content 1 refused_usage
-  SourceRefused : (source input : List ℕ) {text : List ℕ} → words ≡ run_words source input → SourceRefusal content source text → Row words content 1 text
+-- the accesses of the program's serial elision, with an empty input
+abbrev pub accesses_of : SyntaxTree → List NodeAccess
+accesses_of tree = serial_accesses (pipeline_of tree [])
+
+-- the dag of the program's serial elision has no race
+abbrev pub HasNoRace : SyntaxTree → Type 0
+HasNoRace tree = IsRaceFree (columns_of tree) (accesses_of tree)
+
+-- what a run of the program comes to: where the dag of its serial elision has a race, the first race of each cell, with status 2;
+-- and where it has none, its output with status 0, or its output and its trap with status 3
+pub data Outcome (tree : SyntaxTree) : ℕ → List ℕ → List Report → Type 0 where
+  Races : (reports : List Report) → (HasNoRace tree → ⊥) → AreFirstRaces (columns_of tree) (accesses_of tree) reports → Outcome tree 2 (race_lines tree.cells reports) reports
+  Finishes : HasNoRace tree → trap_of tree ≡ None → Outcome tree 0 (output_text tree) []
+  Traps : (t : TrapAt) → HasNoRace tree → trap_of tree ≡ Some t → Outcome tree 3 (output_text tree ++ trap_line t) []
+
+-- the row of a call by its words and the files: its status, its text and its reports. The first refusal in this order counts: the words, the source, the input
+pub data Row (words : List (List ℕ)) (content : Content) : ℕ → List ℕ → List Report → Type 0 where
+  NoCommand : ((source input : List ℕ) → words ≢ run_words source input) → Row words content 1 refused_usage []
+  SourceRefused : (source input : List ℕ) {text : List ℕ} → words ≡ run_words source input → SourceRefusal content source text → Row words content 1 text []
   InputRefused : (source input : List ℕ) {text : List ℕ} (tree : SyntaxTree) → words ≡ run_words source input → IsSourceOf content source tree
-      → InputRefusal content input text → Row words content 1 text
-  Runs : (source input : List ℕ) {status : ℕ} {text : List ℕ} (tree : SyntaxTree) → words ≡ run_words source input → IsSourceOf content source tree
-      → content input ≡ Some [] → Outcome tree status text → Row words content status text
+      → InputRefusal content input text → Row words content 1 text []
+  Runs : (source input : List ℕ) {status : ℕ} {text : List ℕ} {reports : List Report} (tree : SyntaxTree) → words ≡ run_words source input
+      → IsSourceOf content source tree → content input ≡ Some [] → Outcome tree status text reports → Row words content status text reports

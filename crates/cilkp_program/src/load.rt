@@ -1,8 +1,8 @@
 //! The source and the input of a command.
 
 ghost use Rattle.std.specs.Prelude.{◌≡◌, List, IfOk, IfSome, IfNone, OnErr};
+ghost use Rattle.pipe_model.specs.Spelling.{IsFirstForm};
 ghost use Rattle.pipe_model.specs.SyntaxTree.{SyntaxTree, tree_of};
-ghost use Rattle.cilkp_program.specs.Rows.{IsBuilt};
 ghost use Rattle.cilkp_program.specs.Faults.{CountsFault};
 ghost use Rattle.cilkp_program.specs.Loads.{is_source_fault, IsOfSomeSource, IsSourceAnswer, is_input_fault, IsInputAnswer};
 
@@ -55,10 +55,10 @@ pub fn load_source<F: Files>(alloc: Global, files: &mut F, name: &str) -> Result
     }
 }
 
-// The program of a source, where it can be run today.
+// The program of a source of the first form.
 fn program_of(alloc: Global, source: &[u8]) -> Result<Option<Program>, NoMemory>
-    ensures some { IfOk result (λ o. IfSome o (λ program. IsBuilt source.now (tree_of program))) }
-    ensures none { IfOk result (λ o. IfNone o ((tree : SyntaxTree) → IsBuilt source.now tree → ⊥)) }
+    ensures some { IfOk result (λ o. IfSome o (λ program. IsFirstForm source.now (tree_of program))) }
+    ensures none { IfOk result (λ o. IfNone o ((tree : SyntaxTree) → IsFirstForm source.now tree → ⊥)) }
 {
     match read_program(alloc, source) {
         Ok(program) => Ok(Some(program)),

@@ -11,6 +11,9 @@ pub mod law;
 pub mod load;
 pub mod mem_files;
 pub mod mem_sink;
+pub mod race_text;
+#[cfg(test)]
+mod race_text_tests;
 pub mod real;
 #[cfg(test)]
 mod row_tests;

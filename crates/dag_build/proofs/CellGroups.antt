@@ -17,7 +17,8 @@ use Rattle.pipe_model.specs.AccessHistory.{NotedAccess, accesses_to}
 use Rattle.pipe_model.specs.HistoryRaces.{RacesAt}
 use Rattle.pipe_model.specs.Races.{Among, Here}
 use Rattle.pipe_model.proofs.Members.{among_at, among_either, among_left, among_right, only_one}
-use Rattle.dag_build.specs.FirstRaces.{AreFirstRaces, HasNoRace, HasReport, IsFirstRaceOfCell, TellsFirstRace, noted_all}
+use Rattle.pipe_model.specs.FirstRaces.{AreFirstRaces, HasReport, IsFirstRaceOfCell, TellsFirstRace}
+use Rattle.dag_build.specs.CellRaces.{HasNoRace, noted_all}
 use Rattle.dag_build.proofs.RacePlaces.{noted_of}
 
 -- the cell of an access

@@ -14,7 +14,8 @@ use Rattle.pipe_model.specs.State.{State, own_columns}
 use Rattle.pipe_model.proofs.CellAccesses.{ArePlacedAccesses, cell_id, noted_of, two_places}
 use Rattle.pipe_model.proofs.CellRaces.{race_at}
 use Rattle.pipe_model.proofs.Members.{among_right}
-use Rattle.dag_build.specs.FirstRaces.{AreFirstRaces, HasReport, IsFirstRaceOfCell, TellsRace}
+use Rattle.pipe_model.specs.FirstRaces.{AreFirstRaces, HasReport, IsFirstRaceOfCell}
+use Rattle.dag_build.specs.CellRaces.{TellsRace}
 
 -- the accesses of a report, at their places in the list
 record HasAccesses (columns : List (List Node)) (accesses : List NodeAccess) (r : Report) : Type 0 where

@@ -10,7 +10,7 @@ use Rattle.pipe_model.specs.AccessHistory.{NotedAccess, access_at}
 use Rattle.dag_build.specs.AccessFronts.{AreFronts, LeadsFrom, joined_fronts}
 use Rattle.dag_build.specs.Landings.{MovesTo}
 use Rattle.dag_build.specs.declared.fronts.Fronts.{Fronts}
-use Rattle.dag_build.specs.FirstRaces.{noted_all}
+use Rattle.dag_build.specs.CellRaces.{noted_all}
 use Rattle.dag_build.proofs.RacePlaces.{noted_at}
 use Rattle.dag_build.proofs.Paths.{leads_from_itself, leads_moved}
 

@@ -8,7 +8,7 @@ use Rattle.pipe_model.specs.AccessHistory.{NotedAccess, access_at, noted_access}
 use Rattle.pipe_model.specs.Columns.{at}
 use Rattle.pipe_model.specs.Dag.{AreParallel}
 use Rattle.pipe_model.specs.HistoryRaces.{KindsConflict, RacesAt}
-use Rattle.dag_build.specs.FirstRaces.{AreRacing, noted_all}
+use Rattle.dag_build.specs.CellRaces.{AreRacing, noted_all}
 
 -- an access as it is noted
 abbrev pub noted_of : NodeAccess → NotedAccess

@@ -10,7 +10,8 @@ use Rattle.pipe_model.specs.declared.node.Node.{Node}
 use Rattle.pipe_model.specs.declared.report.Report.{Report}
 use Rattle.pipe_model.specs.AccessHistory.{NotedAccess, accesses_to}
 use Rattle.pipe_model.specs.HistoryRaces.{RacesAt}
-use Rattle.dag_build.specs.FirstRaces.{AreFirstRaces, TellsFirstRace, noted_all}
+use Rattle.pipe_model.specs.FirstRaces.{AreFirstRaces, TellsFirstRace}
+use Rattle.dag_build.specs.CellRaces.{noted_all}
 use Rattle.dag_build.proofs.CellGroups.{cell_of}
 use Rattle.dag_build.proofs.RacePlaces.{noted_of}
 

@@ -11,7 +11,8 @@ ghost use Rattle.pipe_model.specs.HistoryRaces.{KindsConflict, RacesAt};
 ghost use Rattle.pipe_model.specs.HistoryReports.{report_of};
 ghost use Rattle.pipe_model.specs.Reports.{number_at};
 ghost use Rattle.dag_build.specs.AccessFronts.{AreFronts};
-ghost use Rattle.dag_build.specs.FirstRaces.{AreFirstRaces, AreRacing, HasNoRace, IsFirstRace, TellsFirstRace, noted_all};
+ghost use Rattle.pipe_model.specs.FirstRaces.{AreFirstRaces, IsFirstRace, TellsFirstRace};
+ghost use Rattle.dag_build.specs.CellRaces.{AreRacing, HasNoRace, noted_all};
 ghost use Rattle.dag_build.specs.NodeColumns.{IsAccessOf};
 
 use crate::dag::Dag;

@@ -4,7 +4,7 @@ use Rattle.pipe_model.specs.declared.symbol.Symbol.{Symbol}
 use Rattle.pipe_model.specs.Grammar.{DerivesProgram}
 use Rattle.pipe_model.specs.Lexis.{Divides, IsWithinBounds}
 use Rattle.pipe_model.specs.Rules.{program_obeys}
-use Rattle.pipe_model.specs.SyntaxTree.{Statement, Let, Assign, AssignElement, Emit, If, While, Stage, NextStage, Statements, Empty, Then, SyntaxTree}
+use Rattle.pipe_model.specs.SyntaxTree.{SyntaxTree}
 
 -- the source spells the program; an expression has at most 256 symbols, and the first form never opens more than two brackets
 pub record Spells (source : List ℕ) (tree : SyntaxTree) : Type 0 where
@@ -18,19 +18,3 @@ pub record Spells (source : List ℕ) (tree : SyntaxTree) : Type 0 where
 pub record IsFirstForm (source : List ℕ) (tree : SyntaxTree) : Type 0 where
   pub spelled : Spells source tree
   pub obeys : IsTrue (program_obeys tree)
-
--- the statement names no next stage
-abbrev pub IsStageless : Statement → Type 0
-IsStageless (Let x e) = Unit {0}
-IsStageless (Assign x e) = Unit {0}
-IsStageless (AssignElement x i e) = Unit {0}
-IsStageless (Emit e) = Unit {0}
-IsStageless (If e a b) = Unit {0}
-IsStageless (While e a) = Unit {0}
-IsStageless (Stage kind e) = ⊥
-IsStageless (NextStage kind) = ⊥
-
--- no statement of a flat list names a next stage
-abbrev pub AreStageless : Statements → Type 0
-AreStageless Empty = Unit {0}
-AreStageless (Then s ss) = IsStageless s × AreStageless ss

@@ -4,7 +4,7 @@ use Rattle.std.proofs.lemmas.Bool.{false≢true}
 use Rattle.pipe_model.specs.declared.symbol.Symbol.{Symbol}
 use Rattle.pipe_model.specs.Grammar.{DerivesProgram}
 use Rattle.pipe_model.specs.Rules.{program_obeys}
-use Rattle.pipe_model.specs.Spelling.{Spells, IsFirstForm, AreStageless}
+use Rattle.pipe_model.specs.Spelling.{Spells, IsFirstForm}
 use Rattle.pipe_model.specs.SyntaxTree.{SyntaxTree}
 use Rattle.pipe_model.proofs.Divisions.{one_division}
 use Rattle.pipe_model.proofs.ProgramReading.{one_program}
@@ -18,7 +18,7 @@ derived_here source found tree d s = subst (λ x. DerivesProgram 256 x tree) (on
 
 -- a source whose symbols derive no program is not of the first form
 pub no_program : (source : List ℕ) (found : List Symbol) → DividesInto source found → DerivesNoProgram found → IsNotYetBuilt source
-no_program source found d n = record { none = λ tree f s. n.none tree (derived_here source found tree d f.spelled) }
+no_program source found d n = record { none = λ tree f. n.none tree (derived_here source found tree d f.spelled) }
 
 -- a source whose symbols derive a program that obeys is of the first form
 pub spelled : (source : List ℕ) (found : List Symbol) (tree : SyntaxTree) → length source ≤ 1048576 → DividesInto source found
@@ -34,13 +34,5 @@ pub disobeys : (source : List ℕ) (found : List Symbol) (tree : SyntaxTree) →
     → false ≡ program_obeys tree
     → IsNotYetBuilt source
 disobeys source found tree d p h = record {
-  none = λ other f s. false≢true (h ∙ ap program_obeys (one_program p (derived_here source found other d f.spelled)) ∙ f.obeys);
-}
-
--- the program of a source is its only one, so its stage statement is that of each
-pub has_stage : (source : List ℕ) (found : List Symbol) (tree : SyntaxTree) → DividesInto source found → DerivesProgram 256 found tree
-    → (AreStageless tree.body → ⊥)
-    → IsNotYetBuilt source
-has_stage source found tree d p h = record {
-  none = λ other f s. h (subst (λ x. AreStageless x.body) (one_program (derived_here source found other d f.spelled) p) s);
+  none = λ other f. false≢true (h ∙ ap program_obeys (one_program p (derived_here source found other d f.spelled)) ∙ f.obeys);
 }

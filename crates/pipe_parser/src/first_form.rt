@@ -1,8 +1,8 @@
 //! Programs of the first form, read from their source.
 
-ghost use Rattle.std.specs.Prelude.{◌≡◌, ◌↔◌, IfOk, IfErr, IsTrue};
-ghost use Rattle.pipe_model.specs.Spelling.{IsFirstForm, IsStageless, AreStageless};
-ghost use Rattle.pipe_model.specs.SyntaxTree.{tree_of, statement_of, statements_of};
+ghost use Rattle.std.specs.Prelude.{◌≡◌, IfOk, IfErr};
+ghost use Rattle.pipe_model.specs.Spelling.{IsFirstForm};
+ghost use Rattle.pipe_model.specs.SyntaxTree.{tree_of};
 ghost use Rattle.pipe_parser.specs.declared.first_form.FirstFault.TheVariants as faults;
 ghost use Rattle.pipe_parser.specs.FirstForms.{IsCause};
 
@@ -10,7 +10,7 @@ use crate::lexis::symbols;
 use crate::program::program_of;
 use crate::rules::program_obeys;
 use pipe_model::memory::NoMemory;
-use pipe_model::tree::{Program, Stmt};
+use pipe_model::tree::Program;
 use std::alloc::{AllocError, AllocFailed, Global};
 
 /// The most bytes of a source.
@@ -19,7 +19,7 @@ const LONGEST_SOURCE: usize = 1_048_576;
 /// Why no program was read.
 #[derive(Clone, Copy, PartialEq, Eq, Debug)]
 pub enum FirstFault {
-    /// The source is not of the first form, or its program has a stage statement.
+    /// The source is not of the first form.
     NotYetBuilt,
     /// Memory was refused.
     NoMemory,
@@ -49,30 +49,10 @@ impl<T: Drop> From<AllocFailed<T>> for FirstFault {
     }
 }
 
-/// Whether the statement names no next stage.
-fn is_stageless(statement: &Stmt) -> bool
-    ensures { IsTrue result ↔ IsStageless (statement_of statement.now) }
-{
-    !matches!(statement, Stmt::Wait(_) | Stmt::Continue(_))
-}
-
-/// Whether no statement names a next stage.
-fn are_stageless(statements: &[Stmt]) -> bool
-    ensures { IsTrue result ↔ AreStageless (statements_of statements.now) }
-{
-    for statement in statements {
-        if !is_stageless(statement) {
-            return false;
-        }
-    }
-    true
-}
-
-/// Reads the program that a source of the first form spells, where it has no stage statement. Any other source is
-/// `NotYetBuilt`; `NoMemory` is the answer where memory was refused, whatever the source.
+/// Reads the program that a source of the first form spells. Any other source is `NotYetBuilt`; `NoMemory` is the answer
+/// where memory was refused, whatever the source.
 pub fn read_program(alloc: Global, source: &[u8]) -> Result<Program, FirstFault>
     ensures spelled { IfOk result (λ program. IsFirstForm source.now (tree_of program)) }
-    ensures stageless { IfOk result (λ program. AreStageless (tree_of program).body) }
     ensures fault { IfErr result (λ fault. IsCause fault source.now) }
 {
     if source.len() > LONGEST_SOURCE {
@@ -85,9 +65,6 @@ pub fn read_program(alloc: Global, source: &[u8]) -> Result<Program, FirstFault>
         return Err(FirstFault::NotYetBuilt);
     };
     if !program_obeys(alloc, &program)? {
-        return Err(FirstFault::NotYetBuilt);
-    }
-    if !are_stageless(&program.body.statements) {
         return Err(FirstFault::NotYetBuilt);
     }
     Ok(program)

@@ -57,11 +57,16 @@ fn reads_the_first_form_and_nothing_just_outside_it(rt: HostRuntime) -> Result<(
             "cell n = 0; pipe_while (n < 3) { m = 1; let m = 1; }",
             false,
         ),
-        ("cell n = 0; pipe_while (n < 3) { pipe_wait(); }", false),
+        ("cell n = 0; pipe_while (n < 3) { pipe_wait(); }", true),
+        ("pipe_while (1) { pipe_continue(); pipe_wait(1 + 1); }", true),
         (
             "cell n = 0; pipe_while (n < 3) { pipe_continue(2); }",
-            false,
+            true,
         ),
+        ("pipe_while (1) { pipe_wait; }", false),
+        ("pipe_while (1) { pipe_wait() }", false),
+        ("pipe_while (1) { pipe_continue(m); }", false),
+        ("pipe_wait(); pipe_while (1) { }", false),
         ("", false),
     ] {
         let source = format!(in rt.alloc(); "{LIMITS} {text}")?;

@@ -1,6 +1,6 @@
 use Rattle.std.proofs.Common.{ℕ, ◌<◌}
 use Rattle.pipe_model.specs.HistoryRaces.{RacesAt}
-use Rattle.dag_build.specs.FirstRaces.{noted_all}
+use Rattle.dag_build.specs.CellRaces.{noted_all}
 use Rattle.dag_build.proofs.dag.Dag.race_with.Given as goal
 
 abbrev pub invariant-loop-earlier : goal.invariant-loop-earlier

@@ -1,13 +1,12 @@
 -- The first race of each cell: the first access that races with an earlier one, and the first that it races with.
-use Rattle.std.specs.Prelude.{◌≡◌, ℕ, List, ◌<◌, map, AllPairs}
+use Rattle.std.specs.Prelude.{◌≡◌, ℕ, List, ◌<◌, AllPairs}
 use Rattle.pipe_model.specs.declared.access.NodeAccess.{NodeAccess}
 use Rattle.pipe_model.specs.declared.node.Node.{Node}
 use Rattle.pipe_model.specs.declared.report.Report.{Report}
-use Rattle.pipe_model.specs.AccessHistory.{NotedAccess, access_at, accesses_to, noted_access}
-use Rattle.pipe_model.specs.Dag.{AreParallel}
-use Rattle.pipe_model.specs.HistoryRaces.{KindsConflict, RacesAt}
+use Rattle.pipe_model.specs.AccessHistory.{NotedAccess, access_at, accesses_to}
+use Rattle.pipe_model.specs.HistoryRaces.{RacesAt}
 use Rattle.pipe_model.specs.HistoryReports.{report_of}
-use Rattle.pipe_model.specs.Races.{Among, IsDeterminacyRace}
+use Rattle.pipe_model.specs.Races.{Among}
 
 -- access `later` races with access `earlier`; none before it races, and it races with none before that one
 pub record IsFirstRace (columns : List (List Node)) (accesses : List NotedAccess) (earlier later : ℕ) : Type 0 where
@@ -35,23 +34,3 @@ pub record AreFirstRaces (columns : List (List Node)) (accesses : List NodeAcces
   pub each : (r : Report) → Among r reports → IsFirstRaceOfCell columns accesses r
   pub rise : AllPairs (λ (a : Report) (b : Report). a.cell.0 < b.cell.0) reports
   pub all : (cell later earlier : ℕ) → RacesAt columns (accesses_to cell accesses) later earlier → HasReport reports cell
-
--- the accesses without cell and value
-abbrev pub noted_all : List NodeAccess → List NotedAccess
-noted_all accesses = map (λ a. noted_access a.node a.access.kind) accesses
-
--- no two of these accesses to one cell race
-abbrev pub HasNoRace : List (List Node) → List NotedAccess → Type 0
-HasNoRace columns accesses = (later earlier : ℕ) → RacesAt columns accesses later earlier → ⊥
-
--- the two accesses, of one cell, race
-pub record AreRacing (columns : List (List Node)) (a b : NodeAccess) : Type 0 where
-  pub conflict : KindsConflict a.access.kind b.access.kind
-  pub parallel : AreParallel columns a.node b.node
-
--- the report tells two accesses of the list that race
-pub record TellsRace (columns : List (List Node)) (accesses : List NodeAccess) (r : Report) : Type 0 where
-  pub earlier : NodeAccess
-  pub later : NodeAccess
-  pub race : IsDeterminacyRace columns accesses earlier later
-  pub told : r ≡ report_of columns earlier.access.cell.0 (noted_access earlier.node earlier.access.kind) (noted_access later.node later.access.kind)
