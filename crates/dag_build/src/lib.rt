@@ -3,6 +3,7 @@
 
 pub mod dag;
 mod fronts;
+mod jumps;
 mod landing;
 pub mod races;
 #[cfg(test)]
