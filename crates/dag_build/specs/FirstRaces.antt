@@ -9,11 +9,20 @@ use Rattle.pipe_model.specs.HistoryRaces.{KindsConflict, RacesAt}
 use Rattle.pipe_model.specs.HistoryReports.{report_of}
 use Rattle.pipe_model.specs.Races.{Among, IsDeterminacyRace}
 
+-- access `later` races with none before access `earlier`
+abbrev pub RacesWithNoneBefore : List (List Node) → List NotedAccess → ℕ → ℕ → Type 0
+RacesWithNoneBefore columns accesses later earlier =
+    (k : ℕ) → k < earlier → RacesAt columns accesses later k → ⊥
+
+-- access `later` races with none before it
+abbrev pub RacesWithNone : List (List Node) → List NotedAccess → ℕ → Type 0
+RacesWithNone columns accesses later = (k : ℕ) → RacesAt columns accesses later k → ⊥
+
 -- access `later` races with access `earlier`; none before it races, and it races with none before that one
 pub record IsFirstRace (columns : List (List Node)) (accesses : List NotedAccess) (earlier later : ℕ) : Type 0 where
   pub race : RacesAt columns accesses later earlier
-  pub first_later : (n k : ℕ) → n < later → RacesAt columns accesses n k → ⊥
-  pub first_earlier : (k : ℕ) → k < earlier → RacesAt columns accesses later k → ⊥
+  pub first_later : (n : ℕ) → n < later → RacesWithNone columns accesses n
+  pub first_earlier : RacesWithNoneBefore columns accesses later earlier
 
 -- the report tells a first race among these accesses to its cell
 pub record TellsFirstRace (columns : List (List Node)) (accesses : List NotedAccess) (r : Report) : Type 0 where
@@ -31,10 +40,12 @@ abbrev pub HasReport : List Report → ℕ → Type 0
 HasReport reports cell = (r : Report) × Among r reports × (r.cell.0 ≡ cell)
 
 -- each report tells the first race of its cell, the cells rise, and each cell with a race has a report
-pub record AreFirstRaces (columns : List (List Node)) (accesses : List NodeAccess) (reports : List Report) : Type 0 where
+pub record AreFirstRaces (columns : List (List Node)) (accesses : List NodeAccess) (reports : List Report) : Type
+    0 where
   pub each : (r : Report) → Among r reports → IsFirstRaceOfCell columns accesses r
   pub rise : AllPairs (λ (a : Report) (b : Report). a.cell.0 < b.cell.0) reports
-  pub all : (cell later earlier : ℕ) → RacesAt columns (accesses_to cell accesses) later earlier → HasReport reports cell
+  pub all : (cell later earlier : ℕ) → RacesAt columns (accesses_to cell accesses) later earlier
+      → HasReport reports cell
 
 -- the accesses without cell and value
 abbrev pub noted_all : List NodeAccess → List NotedAccess
@@ -42,7 +53,7 @@ noted_all accesses = map (λ a. noted_access a.node a.access.kind) accesses
 
 -- no two of these accesses to one cell race
 abbrev pub HasNoRace : List (List Node) → List NotedAccess → Type 0
-HasNoRace columns accesses = (later earlier : ℕ) → RacesAt columns accesses later earlier → ⊥
+HasNoRace columns accesses = (later : ℕ) → RacesWithNone columns accesses later
 
 -- the two accesses, of one cell, race
 pub record AreRacing (columns : List (List Node)) (a b : NodeAccess) : Type 0 where
@@ -54,4 +65,5 @@ pub record TellsRace (columns : List (List Node)) (accesses : List NodeAccess) (
   pub earlier : NodeAccess
   pub later : NodeAccess
   pub race : IsDeterminacyRace columns accesses earlier later
-  pub told : r ≡ report_of columns earlier.access.cell.0 (noted_access earlier.node earlier.access.kind) (noted_access later.node later.access.kind)
+  pub told : r ≡ report_of columns earlier.access.cell.0
+      (noted_access earlier.node earlier.access.kind) (noted_access later.node later.access.kind)

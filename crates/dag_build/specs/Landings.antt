@@ -1,5 +1,6 @@
--- Landings: the instances of a column that one instance precedes are all from some place on. That place is moved from
--- column to column, and where it lands in the next column depends on the edges between the two alone.
+-- Landings in the dag of a pipeline (Lee et al. 2013): the instances of a column that one instance precedes are all
+-- from some place on. That place is moved from column to column, and where it lands in the next column depends on the
+-- edges between the two alone.
 use Rattle.std.specs.Prelude.{◌≡◌, ℕ, List, [], All, ◌+◌, ◌-◌, ◌<◌, ◌≤◌, length, slice_index, slice_index_or}
 use Rattle.pipe_model.specs.declared.node.Node.{Node}
 use Rattle.pipe_model.specs.Columns.{nodes_at}

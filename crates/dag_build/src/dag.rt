@@ -1,4 +1,4 @@
-//! The dag of columns, with the landings of each column in the next one.
+//! The dag of columns, with the jumps that answer which instances precede which.
 
 ghost use Rattle.std.specs.Prelude.{◌≡◌, ◌<◌, ◌≤◌, ◌+◌, ◌↔◌, length, IfOk, IsTrue};
 ghost use Rattle.pipe_model.specs.Columns.{nodes_at, IsNodeOf};
@@ -46,7 +46,8 @@ fn copied_columns(alloc: Global, columns: &[Column]) -> Result<ListOf<Nodes>, No
 }
 
 impl Dag {
-    /// The dag of the columns. Fails only for want of memory.
+    /// The dag of the columns, whose stage numbers rise. Fails only for want of memory, of which it
+    /// takes a word for each instance and each doubling of the number of columns.
     pub fn of(alloc: Global, columns: &Columns) -> Result<Dag, NoMemory>
         requires { AreRising (node_columns columns.now) }
         ensures { IfOk result (λ dag. dag ≡ node_columns columns.now) }
@@ -63,8 +64,8 @@ impl Dag {
         nodes_of(self.columns.as_slice(), i)
     }
 
-    /// Moves a place from column `from` to column `to`: where it comes, and past it, is all that it and the places
-    /// past it lead to.
+    /// Where a place of column `from` comes in column `to`: what it and the places past it lead to
+    /// there is all from that place on.
     pub(crate) fn moved(&self, from: usize, place: usize, to: usize) -> usize
         requires order { from ≤ to }
         requires within { to < length self.now }
@@ -80,7 +81,8 @@ impl Dag {
         front
     }
 
-    /// Whether a path of at least one edge leads from `a` to `b`; a few look-ups, by the logarithm of how many columns there are.
+    /// Whether a path of at least one edge leads from `a` to `b`. It takes a look-up or two for each
+    /// doubling of the number of columns.
     pub fn precedes(&self, a: NodeId, b: NodeId) -> bool
         requires a_in { IsNodeOf self.now a }
         requires b_in { IsNodeOf self.now b }

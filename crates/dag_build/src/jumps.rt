@@ -41,7 +41,8 @@ fn jump(columns: &[Nodes], jumps: &Jumps, i: usize, place: usize) -> usize
     }
 }
 
-/// A place of column `from` moved in these steps as near to column `to` as they lead: the column, and the place there.
+/// A place of column `from` moved in these steps as near to column `to` as they lead: the column
+/// where it comes, and the place there.
 pub fn jumped(
     columns: &[Nodes],
     jumps: &Jumps,

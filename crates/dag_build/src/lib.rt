@@ -1,4 +1,5 @@
-//! The explicit dag of columns: which instances precede which, and the determinacy races of a list of accesses.
+//! The explicit dag of columns: which instances precede which, and the determinacy races of a list
+//! of accesses.
 #![tactic(auto)]
 
 pub mod dag;
