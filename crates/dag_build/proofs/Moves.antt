@@ -71,13 +71,6 @@ one_more_table columns step tables more table i h new e =
       ];
     })
 
--- no table yet
-pub no_tables : (columns : List (List Node)) (step : ℕ) (tables : List (List ℕ)) → tables ≡ [] → HasTables columns step tables 0
-no_tables columns step tables e = subst (λ ts. HasTables columns step ts 0) (sym e) (record {
-  whole = omega arith;
-  each = λ n l. absurd (omega (arith, l));
-})
-
 -- the first places of a table, up to n
 abbrev pub HasMoves : List (List Node) → ℕ → ℕ → List ℕ → ℕ → Type 0
 HasMoves columns i t table n = (length table ≡ n) × ((m : ℕ) → m < n → MovesTo columns i m t (get_or table m 0))
