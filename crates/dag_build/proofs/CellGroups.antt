@@ -17,7 +17,7 @@ use Rattle.pipe_model.specs.AccessHistory.{NotedAccess, accesses_to}
 use Rattle.pipe_model.specs.HistoryRaces.{RacesAt}
 use Rattle.pipe_model.specs.Races.{Among, Here}
 use Rattle.pipe_model.proofs.Members.{among_at, among_either, among_left, among_right, only_one}
-use Rattle.pipe_model.specs.FirstRaces.{AreFirstRaces, HasReport, IsFirstRaceOfCell, TellsFirstRace}
+use Rattle.pipe_model.specs.FirstRaces.{HasReport, IsFirstRaceOfCell, TellsFirstRace}
 use Rattle.dag_build.specs.CellRaces.{HasNoRace, noted_all}
 use Rattle.dag_build.proofs.RacePlaces.{noted_of}
 
@@ -151,15 +151,6 @@ progress_starts columns xs sorted = record {
   all = λ c later earlier below r.
       absurd (none_in_none columns (accesses_to c xs)
       (accesses_to-others c xs (λ k d w e. let l = below k d w in omega (arith, l, e))) later earlier r);
-}
-
--- all is told
-pub progress_ends : (columns : List (List Node)) (xs rest : List NodeAccess) (reports : List Report) → rest ≡ []
-    → IsProgress columns xs rest reports → AreFirstRaces columns xs reports
-progress_ends columns xs rest reports e h = record {
-  each = h.each;
-  rise = h.rise;
-  all = λ c later earlier r. h.all c later earlier (λ k d w. absurd (omega (arith, w, ap length e))) r;
 }
 
 -- the accesses to a cell in the group and behind it

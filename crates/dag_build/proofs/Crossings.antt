@@ -64,11 +64,6 @@ by_edge : {left right : List Node} {j k : ℕ} (from : ℕ) → CrossEdge left r
 by_edge from (HeadCross h i) l head waits = head refl (omega (arith, l))
 by_edge from (WaitCross j k v kind h) l head waits = waits kind h
 
--- no edge leads to what is no head and does not wait
-pub none_by_kind : (left right : List Node) (from k : ℕ) → (k ≡ 0 → from ≡ 0 → ⊥)
-    → ((node_at right k).kind ≡ Wait → ⊥) → NoneCross left right from k
-none_by_kind left right from k head kind = λ j l c. by_edge from c l head (λ e h. kind e)
-
 -- past a place with a larger number is no last place up to s
 none_up_to : (left : List Node) (from j : ℕ) (s : ℤ) → IsRising left → s <ℤ (node_at left from).number → from ≤ j
     → IsLastUpTo left j s → ⊥

@@ -1,4 +1,4 @@
--- Fronts of accesses: what is behind them races with none, how they move, and how they grow.
+-- Fronts of accesses: how they move, and how they grow.
 use Rattle.std.proofs.Common.{◌≡◌, ℕ, List, ◌+◌, ◌<◌, ◌≤◌, length, max, get_or, refl, subst, sym, inl, inr, arith}
 use Rattle.std.proofs.lemmas.Bool.{cases_lt}
 use Rattle.pipe_model.specs.declared.access.AccessKind.{AccessKind}

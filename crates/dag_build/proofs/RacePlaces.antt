@@ -27,14 +27,6 @@ length-noted_all xs = length-map xs (λ (a : NodeAccess). noted_access a.node a.
 abbrev NotedRace : List (List Node) → NotedAccess → NotedAccess → Type 0
 NotedRace columns a b = KindsConflict a.kind b.kind × AreParallel columns a.who b.who
 
--- accesses that race, at their places
-pub races_at : (columns : List (List Node)) (xs : List NodeAccess) (n k : ℕ) (d e : NodeAccess) → k < n → n < length xs
-    → AreRacing columns (get_or xs k d) (get_or xs n e) → RacesAt columns (noted_all xs) n k
-races_at columns xs n k d e l w r =
-    let both : NotedRace columns (access_at (noted_all xs) k) (access_at (noted_all xs) n) =
-    rw (noted_at xs k d (omega (arith, l, w)), noted_at xs n e w) (r.conflict, r.parallel) in
-    record { within = omega (arith, w, length-noted_all xs); earlier = l; conflict = both.0; parallel = both.1 }
-
 -- places of a race have accesses that race
 pub racing_at : (columns : List (List Node)) (xs : List NodeAccess) (n k : ℕ) (d e : NodeAccess)
     → RacesAt columns (noted_all xs) n k → AreRacing columns (get_or xs k d) (get_or xs n e)

@@ -1,5 +1,5 @@
--- Fronts of accesses: a place of a column such that all earlier accesses lead to what stands there or past it. An access
--- behind the front of those that conflict with it races with none of them.
+-- Fronts of accesses: a place of a column such that all earlier accesses lead to what stands there or past it. An
+-- access behind the front of those that conflict with it races with none of them.
 use Rattle.std.specs.Prelude.{◌≡◌, ℕ, List, ◌<◌, ◌≤◌, ◌⊎◌, length, max}
 use Rattle.pipe_model.specs.declared.access.AccessKind.{AccessKind}
 use Rattle.pipe_model.specs.declared.access.AccessKind.TheVariants.{Read, Write}
@@ -20,7 +20,8 @@ pub record LeadsFrom (columns : List (List Node)) (x : NodeId) (i m : ℕ) : Typ
 
 -- the fronts of the first n accesses: that of those that write, and that of all
 pub record AreFronts (columns : List (List Node)) (noted : List NotedAccess) (n : ℕ) (f : Fronts) : Type 0 where
-  pub writes : (k : ℕ) → k < n → (access_at noted k).kind ≡ Write → LeadsFrom columns (access_at noted k).who f.column f.writes
+  pub writes : (k : ℕ) → k < n → (access_at noted k).kind ≡ Write
+      → LeadsFrom columns (access_at noted k).who f.column f.writes
   pub accesses : (k : ℕ) → k < n → LeadsFrom columns (access_at noted k).who f.column f.accesses
 
 -- the front of the accesses that an access of this kind conflicts with

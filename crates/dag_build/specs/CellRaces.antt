@@ -5,7 +5,8 @@ use Rattle.pipe_model.specs.declared.node.Node.{Node}
 use Rattle.pipe_model.specs.declared.report.Report.{Report}
 use Rattle.pipe_model.specs.AccessHistory.{NotedAccess, noted_access}
 use Rattle.pipe_model.specs.Dag.{AreParallel}
-use Rattle.pipe_model.specs.HistoryRaces.{KindsConflict, RacesAt}
+use Rattle.pipe_model.specs.FirstRaces.{RacesWithNone}
+use Rattle.pipe_model.specs.HistoryRaces.{KindsConflict}
 use Rattle.pipe_model.specs.HistoryReports.{report_of}
 use Rattle.pipe_model.specs.Races.{IsDeterminacyRace}
 
@@ -15,7 +16,7 @@ noted_all accesses = map (λ a. noted_access a.node a.access.kind) accesses
 
 -- no two of these accesses to one cell race
 abbrev pub HasNoRace : List (List Node) → List NotedAccess → Type 0
-HasNoRace columns accesses = (later earlier : ℕ) → RacesAt columns accesses later earlier → ⊥
+HasNoRace columns accesses = (later : ℕ) → RacesWithNone columns accesses later
 
 -- the two accesses, of one cell, race
 pub record AreRacing (columns : List (List Node)) (a b : NodeAccess) : Type 0 where
@@ -27,4 +28,5 @@ pub record TellsRace (columns : List (List Node)) (accesses : List NodeAccess) (
   pub earlier : NodeAccess
   pub later : NodeAccess
   pub race : IsDeterminacyRace columns accesses earlier later
-  pub told : r ≡ report_of columns earlier.access.cell.0 (noted_access earlier.node earlier.access.kind) (noted_access later.node later.access.kind)
+  pub told : r ≡ report_of columns earlier.access.cell.0
+      (noted_access earlier.node earlier.access.kind) (noted_access later.node later.access.kind)

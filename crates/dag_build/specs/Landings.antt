@@ -1,9 +1,11 @@
--- Landings: the instances of a column that one instance precedes are all from some place on. That place is moved from
--- column to column, and where it lands in the next column depends on the edges between the two alone.
-use Rattle.std.specs.Prelude.{◌≡◌, ℕ, List, [], ◌+◌, ◌<◌, ◌≤◌, length, slice_index, slice_index_or}
+-- Landings in the dag of a pipeline (Lee et al. 2013): the instances of a column that one instance precedes are all
+-- from some place on. That place is moved from column to column, and where it lands in the next column depends on the
+-- edges between the two alone.
+use Rattle.std.specs.Prelude.{◌≡◌, ℕ, List, [], All, ◌+◌, ◌-◌, ◌<◌, ◌≤◌, length, slice_index, slice_index_or}
 use Rattle.pipe_model.specs.declared.node.Node.{Node}
 use Rattle.pipe_model.specs.Columns.{nodes_at}
 use Rattle.pipe_model.specs.Dag.{CrossEdge}
+use Rattle.dag_build.specs.declared.jumps.Jumps.{Jumps}
 
 -- an edge leads from place `from` of the left column, or a later one, to place k of the right column
 abbrev pub CrossesFrom : List Node → List Node → ℕ → ℕ → Type 0
@@ -24,14 +26,26 @@ pub record AreLandings (left right : List Node) (landings : List ℕ) : Type 0 w
   pub whole : length landings ≡ length left
   pub each : (from : ℕ) → from < length left → IsLanding left right from (slice_index landings from)
 
--- each column has the table of its landings in the next one
-pub record AreTables (columns : List (List Node)) (tables : List (List ℕ)) : Type 0 where
-  pub whole : length tables ≡ length columns
-  pub each : (i : ℕ) → i < length columns → AreLandings (nodes_at columns i) (nodes_at columns (i + 1)) (slice_index_or tables i [])
-
 -- place m of column i, moved by landings, comes to a place of a column
 pub data MovesTo (columns : List (List Node)) (i m : ℕ) : ℕ → ℕ → Type 0 where
   Stays : MovesTo columns i m i m
   Moves : (t from landing : ℕ) → MovesTo columns i m t from
       → IsLanding (nodes_at columns t) (nodes_at columns (t + 1)) from landing
       → MovesTo columns i m (t + 1) landing
+
+-- the table tells where the places of column i come `step` columns further
+pub record IsTable (columns : List (List Node)) (step i : ℕ) (table : List ℕ) : Type 0 where
+  pub whole : length table ≡ length (nodes_at columns i)
+  pub moves : (m : ℕ) → m < length table → MovesTo columns i m (i + step) (slice_index table m)
+
+-- each column with one `step` columns further has its table
+pub record AreJumps (columns : List (List Node)) (jumps : Jumps) : Type 0 where
+  pub positive : 0 < jumps.step
+  pub whole : length jumps.tables ≡ length columns - jumps.step
+  pub each : (i : ℕ) → i < length jumps.tables → IsTable columns jumps.step i (slice_index_or jumps.tables i [])
+
+-- jumps of several steps, the first of which is one column
+pub record AreLevels (columns : List (List Node)) (levels : List Jumps) : Type 0 where
+  pub filled : 0 < length levels
+  pub single : (d : Jumps) → (slice_index_or levels 0 d).step ≡ 1
+  pub each : All (AreJumps columns) levels

@@ -1,12 +1,12 @@
-//! The dag of columns, with the landings of each column in the next one.
+//! The dag of columns, with the jumps that answer which instances precede which.
 
 ghost use Rattle.std.specs.Prelude.{◌≡◌, ◌<◌, ◌≤◌, ◌+◌, ◌↔◌, length, IfOk, IsTrue};
 ghost use Rattle.pipe_model.specs.Columns.{nodes_at, IsNodeOf};
 ghost use Rattle.pipe_model.specs.Dag.{Precedes};
-ghost use Rattle.dag_build.specs.Landings.{AreTables, IsLanding, MovesTo};
+ghost use Rattle.dag_build.specs.Landings.{MovesTo};
 ghost use Rattle.dag_build.specs.NodeColumns.{node_columns, AreRising};
 
-use crate::landing::landings;
+use crate::jumps::{Jumps, jumped, levels, nodes_of};
 use pipe_model::column::{Column, Columns};
 use pipe_model::list::ListOf;
 use pipe_model::memory::NoMemory;
@@ -18,20 +18,19 @@ use std::marker::Model;
 #[derive(Drop)]
 pub struct Dag {
     columns: ListOf<Nodes>,
-    // for each column the landings of its places in the next one
-    tables: ListOf<ListOf<usize>>,
+    levels: ListOf<Jumps>,
 }
 
 impl Model for Dag {
     ghost use Rattle.std.specs.Prelude.{List};
     ghost use Rattle.pipe_model.specs.declared.node.Node.{Node};
-    ghost use Rattle.dag_build.specs.Landings.{AreTables};
+    ghost use Rattle.dag_build.specs.Landings.{AreLevels};
 
     ghost Value = { List (List Node) };
 
     ghost view = { λ d. d.columns };
 
-    ghost invariant = { λ d. AreTables d.columns d.tables };
+    ghost invariant = { λ d. AreLevels d.columns d.levels };
 }
 
 // The columns without their ends.
@@ -46,38 +45,16 @@ fn copied_columns(alloc: Global, columns: &[Column]) -> Result<ListOf<Nodes>, No
     Ok(copies)
 }
 
-// The instances of column `i`, none past the last column.
-fn nodes_of(columns: &[Nodes], i: usize) -> &[Node]
-    ensures { result.now ≡ nodes_at columns.now i }
-{
-    match columns.get(i) {
-        Some(nodes) => nodes.as_slice(),
-        None => &[],
-    }
-}
-
-// The landings of each column in the next one.
-fn tables_of(alloc: Global, columns: &[Nodes]) -> Result<ListOf<ListOf<usize>>, NoMemory>
-    requires { AreRising columns.now }
-    ensures { IfOk result (λ tables. AreTables columns.now tables) }
-{
-    let mut tables = ListOf::with_capacity(alloc, columns.len())?;
-    for i in 0..columns.len() {
-        let table = landings(alloc, nodes_of(columns, i), nodes_of(columns, i + 1))?;
-        tables.push(table)?;
-    }
-    Ok(tables)
-}
-
 impl Dag {
-    /// The dag of the columns. Fails only for want of memory.
+    /// The dag of the columns, whose stage numbers rise. Fails only for want of memory, of which it
+    /// takes a word for each instance and each doubling of the number of columns.
     pub fn of(alloc: Global, columns: &Columns) -> Result<Dag, NoMemory>
         requires { AreRising (node_columns columns.now) }
         ensures { IfOk result (λ dag. dag ≡ node_columns columns.now) }
     {
         let columns = copied_columns(alloc, columns.as_slice())?;
-        let tables = tables_of(alloc, columns.as_slice())?;
-        Ok(Dag { columns, tables })
+        let levels = levels(alloc, columns.as_slice())?;
+        Ok(Dag { columns, levels })
     }
 
     /// The instances of column `i`, none past the last column.
@@ -87,33 +64,25 @@ impl Dag {
         nodes_of(self.columns.as_slice(), i)
     }
 
-    // The landing of a place of column `i` in the next column.
-    fn landing(&self, i: usize, from: usize) -> usize
-        requires { i < length self.now }
-        ensures { IsLanding (nodes_at self.now i) (nodes_at self.now (i + 1)) from result }
-    {
-        let table = &self.tables.as_slice()[i];
-        match table.as_slice().get(from) {
-            Some(landing) => *landing,
-            None => self.nodes(i + 1).len(),
-        }
-    }
-
-    /// Moves a place from column `from` to column `to`: where it comes, and past it, is all that it and the places
-    /// past it lead to.
+    /// Where a place of column `from` comes in column `to`: what it and the places past it lead to
+    /// there is all from that place on.
     pub(crate) fn moved(&self, from: usize, place: usize, to: usize) -> usize
         requires order { from ≤ to }
         requires within { to < length self.now }
         ensures { MovesTo self.now from place to result }
     {
+        let columns = self.columns.as_slice();
+        let levels = self.levels.as_slice();
+        let mut column = from;
         let mut front = place;
-        for i in from..to {
-            front = self.landing(i, front);
+        for k in (0..levels.len()).rev() {
+            (column, front) = jumped(columns, &levels[k], column, front, to);
         }
         front
     }
 
-    /// Whether a path of at least one edge leads from `a` to `b`; one look-up for each column between them.
+    /// Whether a path of at least one edge leads from `a` to `b`. It takes a look-up or two for each
+    /// doubling of the number of columns.
     pub fn precedes(&self, a: NodeId, b: NodeId) -> bool
         requires a_in { IsNodeOf self.now a }
         requires b_in { IsNodeOf self.now b }

@@ -7,8 +7,8 @@ ghost use Rattle.dag_build.specs.Landings.{MovesTo};
 use crate::dag::Dag;
 use pipe_model::access::AccessKind;
 
-/// In a column, a place such that all earlier writes lead to what stands there or past it, and one such that all
-/// earlier accesses do.
+/// In a column, a place such that all earlier writes lead to what stands there or past it, and one
+/// such that all earlier accesses do.
 #[derive(Clone, Copy)]
 pub struct Fronts {
     pub column: usize,

@@ -1,4 +1,5 @@
-//! Landings: the least place of the next column that an edge from a place of a column, or from a later one, leads to.
+//! Landings: the least place of the next column that an edge from a place of a column, or from a
+//! later one, leads to.
 
 ghost use Rattle.std.specs.Prelude.{ℕ, ◌<◌, ◌≤◌, length, IfOk};
 ghost use Rattle.std.specs.Bool.{OnTrue, OnFalse};
@@ -48,7 +49,8 @@ fn landing_from(left: &[Node], right: &[Node], from: usize, start: usize) -> usi
     right.len()
 }
 
-/// The landings of all places of the left column. They do not fall, so that both columns are gone through once.
+/// The landings of all places of the left column. They do not fall, so that both columns are gone
+/// through once.
 pub fn landings(alloc: Global, left: &[Node], right: &[Node]) -> Result<ListOf<usize>, NoMemory>
     requires { IsRising left.now }
     ensures { IfOk result (λ table. AreLandings left.now right.now table) }

@@ -1,8 +1,10 @@
-//! The explicit dag of columns: which instances precede which, and the determinacy races of a list of accesses.
+//! The explicit dag of columns: which instances precede which, and the determinacy races of a list
+//! of accesses.
 #![tactic(auto)]
 
 pub mod dag;
 mod fronts;
+mod jumps;
 mod landing;
 pub mod races;
 #[cfg(test)]

@@ -1,6 +1,6 @@
 //! Determinacy races of a list of accesses: the first one of each cell.
 
-ghost use Rattle.std.specs.Prelude.{◌≡◌, ◌<◌, ◌==◌, ℕ, All, IfOk, IfNone, IfSome, length};
+ghost use Rattle.std.specs.Prelude.{◌≡◌, ◌<◌, ◌==◌, All, IfOk, IfNone, IfSome, length};
 ghost use Rattle.std.specs.Bool.{OnFalse, OnTrue};
 ghost use Rattle.std.specs.List.Sorted.{IsNonDecreasingBy};
 ghost use Rattle.std.specs.List.{prefix_len};
@@ -11,8 +11,10 @@ ghost use Rattle.pipe_model.specs.HistoryRaces.{KindsConflict, RacesAt};
 ghost use Rattle.pipe_model.specs.HistoryReports.{report_of};
 ghost use Rattle.pipe_model.specs.Reports.{number_at};
 ghost use Rattle.dag_build.specs.AccessFronts.{AreFronts};
-ghost use Rattle.pipe_model.specs.FirstRaces.{AreFirstRaces, IsFirstRace, TellsFirstRace};
-ghost use Rattle.dag_build.specs.CellRaces.{AreRacing, HasNoRace, noted_all};
+ghost use Rattle.pipe_model.specs.FirstRaces.{AreFirstRaces, IsFirstRace, RacesWithNone};
+ghost use Rattle.dag_build.specs.CellRaces.{AreRacing, HasNoRace};
+ghost use Rattle.pipe_model.specs.FirstRaces.{RacesWithNoneBefore, TellsFirstRace};
+ghost use Rattle.dag_build.specs.CellRaces.{noted_all};
 ghost use Rattle.dag_build.specs.NodeColumns.{IsAccessOf};
 
 use crate::dag::Dag;
@@ -74,8 +76,9 @@ impl Dag {
         requires inside { All (IsAccessOf self.now) accesses.now }
         requires within { later < length accesses.now }
         ensures some { IfSome result (λ earlier. RacesAt self.now (noted_all accesses.now) later earlier) }
-        ensures first { IfSome result (λ earlier. (k : ℕ) → k < earlier → RacesAt self.now (noted_all accesses.now) later k → ⊥) }
-        ensures none { IfNone result ((k : ℕ) → RacesAt self.now (noted_all accesses.now) later k → ⊥) }
+        ensures first { IfSome result (λ earlier.
+            RacesWithNoneBefore self.now (noted_all accesses.now) later earlier) }
+        ensures none { IfNone result (RacesWithNone self.now (noted_all accesses.now) later) }
     {
         for earlier in 0..later {
             if self.are_racing(&accesses[earlier], &accesses[later]) {
@@ -91,8 +94,9 @@ impl Dag {
         requires within { later < length accesses.now }
         requires fronts { AreFronts self.now (noted_all accesses.now) later fronts }
         ensures some { IfSome result (λ earlier. RacesAt self.now (noted_all accesses.now) later earlier) }
-        ensures first { IfSome result (λ earlier. (k : ℕ) → k < earlier → RacesAt self.now (noted_all accesses.now) later k → ⊥) }
-        ensures none { IfNone result ((k : ℕ) → RacesAt self.now (noted_all accesses.now) later k → ⊥) }
+        ensures first { IfSome result (λ earlier.
+            RacesWithNoneBefore self.now (noted_all accesses.now) later earlier) }
+        ensures none { IfNone result (RacesWithNone self.now (noted_all accesses.now) later) }
     {
         let access = accesses[later];
         if fronts.column == access.node.iteration as usize
@@ -185,9 +189,9 @@ impl Dag {
         Ok(reports)
     }
 
-    /// The determinacy races of the accesses, one report for each cell that has some, rising by cell: the first
-    /// access that conflicts with an earlier access of a parallel instance, and the first such earlier access. Fails
-    /// only for want of memory.
+    /// The determinacy races of the accesses, one report for each cell that has some, rising by cell:
+    /// the first access that conflicts with an earlier access of a parallel instance, and the first
+    /// such earlier access. Fails only for want of memory.
     pub fn races(&self, alloc: Global, accesses: &NodeAccesses) -> Result<Reports, NoMemory>
         requires { All (IsAccessOf self.now) accesses.now }
         ensures { IfOk result (λ reports. AreFirstRaces self.now accesses.now reports) }

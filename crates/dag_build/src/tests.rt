@@ -79,8 +79,8 @@ fn column(alloc: Global, nodes: &[Node]) -> Result<Column, Fail> {
 
 #[test]
 fn every_pair(rt: HostRuntime) -> Result<(), Fail> {
-    // Edges down each column and between the heads; 3 and 4 of the second column wait for 2 of the first, of which the
-    // latter edge is redundant; 6 of the third waits for 4 of the second.
+    // Edges down each column and between the heads; 3 and 4 of the second column wait for 2 of the
+    // first, of which the latter edge is redundant; 6 of the third waits for 4 of the second.
     let alloc = rt.alloc();
     let (zero, wait, skip) = (Kind::Zero, Kind::Wait, Kind::Continue);
     let mut columns = ListOf::new(alloc);

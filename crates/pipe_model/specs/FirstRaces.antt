@@ -8,11 +8,20 @@ use Rattle.pipe_model.specs.HistoryRaces.{RacesAt}
 use Rattle.pipe_model.specs.HistoryReports.{report_of}
 use Rattle.pipe_model.specs.Races.{Among}
 
+-- access `later` races with none before access `earlier`
+abbrev pub RacesWithNoneBefore : List (List Node) → List NotedAccess → ℕ → ℕ → Type 0
+RacesWithNoneBefore columns accesses later earlier =
+    (k : ℕ) → k < earlier → RacesAt columns accesses later k → ⊥
+
+-- access `later` races with none before it
+abbrev pub RacesWithNone : List (List Node) → List NotedAccess → ℕ → Type 0
+RacesWithNone columns accesses later = (k : ℕ) → RacesAt columns accesses later k → ⊥
+
 -- access `later` races with access `earlier`; none before it races, and it races with none before that one
 pub record IsFirstRace (columns : List (List Node)) (accesses : List NotedAccess) (earlier later : ℕ) : Type 0 where
   pub race : RacesAt columns accesses later earlier
-  pub first_later : (n k : ℕ) → n < later → RacesAt columns accesses n k → ⊥
-  pub first_earlier : (k : ℕ) → k < earlier → RacesAt columns accesses later k → ⊥
+  pub first_later : (n : ℕ) → n < later → RacesWithNone columns accesses n
+  pub first_earlier : RacesWithNoneBefore columns accesses later earlier
 
 -- the report tells a first race among these accesses to its cell
 pub record TellsFirstRace (columns : List (List Node)) (accesses : List NotedAccess) (r : Report) : Type 0 where
@@ -33,4 +42,5 @@ HasReport reports cell = (r : Report) × Among r reports × (r.cell.0 ≡ cell)
 pub record AreFirstRaces (columns : List (List Node)) (accesses : List NodeAccess) (reports : List Report) : Type 0 where
   pub each : (r : Report) → Among r reports → IsFirstRaceOfCell columns accesses r
   pub rise : AllPairs (λ (a : Report) (b : Report). a.cell.0 < b.cell.0) reports
-  pub all : (cell later earlier : ℕ) → RacesAt columns (accesses_to cell accesses) later earlier → HasReport reports cell
+  pub all : (cell later earlier : ℕ) → RacesAt columns (accesses_to cell accesses) later earlier
+      → HasReport reports cell
