@@ -1,7 +1,7 @@
 -- What stands in a sink that took no more.
 use Rattle.std.proofs.Common.{◌≡◌, ◌≢◌, ◌≤◌, ◌↔◌, ℕ, List, length, Option, inr, arith}
 use Rattle.pipe_model.specs.declared.report.Report.{Report}
-use Rattle.cilkp_program.specs.Answers.{IsAnswer, IsCutShort, IsGivenUp, HasTaken}
+use Rattle.cilkp_program.specs.Answers.{IsAnswer, OfRow, SourceFault, InputFault, IsCutShort, IsGivenUp, HasTaken}
 use Rattle.cilkp_program.specs.Reads.{Content}
 use Rattle.cilkp_program.specs.declared.whole.WriteEnd.{WriteEnd}
 use Rattle.cilkp_program.specs.declared.whole.WriteEnd.TheVariants as ends
@@ -22,3 +22,10 @@ text_cut_short words holds before now status written text reports taken_before t
 pub given_up_writing : (words : List (List ℕ)) (holds : Option Content) (before now written : ℕ) (reports : List Report) (taken_before taken_now : Option (List ℕ))
     → IsCutShort words holds before now written reports taken_before taken_now → IsGivenUp words holds before now taken_before taken_now
 given_up_writing words holds before now written reports taken_before taken_now cut = inr (written, reports, cut)
+
+-- no answer has the status of a fault of writing
+pub no_write_fault : {words : List (List ℕ)} {holds : Option Content} {before now status : ℕ} {text : List ℕ} {reports : List Report} → IsAnswer words holds before now status text reports
+    → status ≡ 5 → ⊥
+no_write_fault (OfRow same small row) five = omega (arith, small, five)
+no_write_fault (SourceFault source input grew rose w) five = absurd (omega (arith, five))
+no_write_fault (InputFault source input grew rose w of) five = absurd (omega (arith, five))

@@ -5,3 +5,4 @@ pub mod GivenUp
 pub mod OneRow
 pub mod SerialDags
 pub mod RaceText
+pub mod OneReports

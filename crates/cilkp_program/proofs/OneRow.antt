@@ -1,14 +1,17 @@
 -- A call has one row of the table.
 use Rattle.std.proofs.Common.{◌≡◌, ◌∙◌, ℕ, List, [], ◌++◌, Option, Some, None, refl, ap, sym}
+use Rattle.pipe_model.specs.declared.report.Report.{Report}
 use Rattle.pipe_model.specs.SyntaxTree.{SyntaxTree}
 use Rattle.pipe_model.specs.Texts.{trap_line}
 use Rattle.pipe_model.proofs.OneSpelling.{one_spelling}
+use Rattle.cilkp_program.proofs.OneReports.{one_first_races}
+use Rattle.cilkp_program.specs.CellNames.{race_lines}
 use Rattle.cilkp_program.specs.Reads.{Content}
-use Rattle.cilkp_program.specs.Rows.{run_words, IsSourceOf, SourceRefusal, SourceMissing, SourceNotBuilt, InputRefusal, InputMissing, InputNotEmpty, Outcome, Finishes, Traps, output_text, Row, NoCommand, SourceRefused, InputRefused, Runs}
+use Rattle.cilkp_program.specs.Rows.{run_words, IsSourceOf, SourceRefusal, SourceMissing, SourceNotBuilt, InputRefusal, InputMissing, InputNotEmpty, Outcome, Races, Finishes, Traps, columns_of, accesses_of, output_text, Row, NoCommand, SourceRefused, InputRefused, Runs}
 
--- a status and a text are the same as others
-abbrev pub AreSame : (status other : ℕ) (text other_text : List ℕ) → Type 0
-AreSame status other text other_text = (status ≡ other) × (text ≡ other_text)
+-- a status, a text and reports are the same as others
+abbrev pub AreSame : (status other : ℕ) (text other_text : List ℕ) (reports other_reports : List Report) → Type 0
+AreSame status other text other_text reports other_reports = (status ≡ other) × (text ≡ other_text) × (reports ≡ other_reports)
 
 -- a file is not both missing and there
 missing_not_held : (file : Option (List ℕ)) (bytes : List ℕ) → file ≡ None → file ≡ Some bytes → ⊥
@@ -28,7 +31,7 @@ one_source_refusal (SourceNotBuilt bytes h n) (SourceNotBuilt bytes' h' n') = re
 -- a source that is refused is no source of a program
 refused_not_built : {content : Content} {name text : List ℕ} (tree : SyntaxTree) → SourceRefusal content name text → IsSourceOf content name tree → ⊥
 refused_not_built tree (SourceMissing m) s = missing_not_held _ s.bytes m s.held
-refused_not_built tree (SourceNotBuilt bytes h n) s = n tree (rw (one_held _ bytes s.bytes h s.held) s.built)
+refused_not_built tree (SourceNotBuilt bytes h n) s = n tree (rw (one_held _ bytes s.bytes h s.held) s.form)
 
 -- an input has one line of refusal
 one_input_refusal : {content : Content} {name text other : List ℕ} → InputRefusal content name text → InputRefusal content name other → text ≡ other
@@ -46,14 +49,22 @@ refused_not_empty (InputNotEmpty bytes h n) e = n (one_held _ bytes [] h e)
 one_source : {content : Content} {name : List ℕ} (tree other : SyntaxTree) → IsSourceOf content name tree → IsSourceOf content name other → tree ≡ other
 one_source tree other s o =
     let same : o.bytes ≡ s.bytes = one_held _ o.bytes s.bytes o.held s.held in
-    one_spelling s.bytes tree other s.built.form.spelled (rw same at o.built.form.spelled)
+    one_spelling s.bytes tree other s.form.spelled (rw same at o.form.spelled)
 
 -- a program comes to one outcome
-one_outcome : {tree : SyntaxTree} {status other : ℕ} {text other_text : List ℕ} → Outcome tree status text → Outcome tree other other_text → AreSame status other text other_text
-one_outcome (Finishes e) (Finishes e') = (refl, refl)
-one_outcome (Finishes e) (Traps t e') = absurd (let d : None ≡ Some t = sym e ∙ e' in cc (d))
-one_outcome (Traps t e) (Finishes e') = absurd (let d : None ≡ Some t = sym e' ∙ e in cc (d))
-one_outcome {tree} (Traps t e) (Traps t' e') = (refl, let d : Some t ≡ Some t' = sym e ∙ e' in let same : t ≡ t' = cc (d) in ap (λ x. output_text tree ++ trap_line x) same)
+one_outcome : {tree : SyntaxTree} {status other : ℕ} {text other_text : List ℕ} {reports other_reports : List Report} → Outcome tree status text reports
+    → Outcome tree other other_text other_reports → AreSame status other text other_text reports other_reports
+one_outcome {tree} (Races rs some h) (Races rs' some' h') =
+    let same : rs ≡ rs' = one_first_races (columns_of tree) (accesses_of tree) rs rs' h h' in (refl, ap (race_lines tree.cells) same, same)
+one_outcome (Races rs some h) (Finishes free e') = absurd (some free)
+one_outcome (Races rs some h) (Traps t' free e') = absurd (some free)
+one_outcome (Finishes free e) (Races rs' some' h') = absurd (some' free)
+one_outcome (Finishes free e) (Finishes free' e') = (refl, refl, refl)
+one_outcome (Finishes free e) (Traps t free' e') = absurd (let d : None ≡ Some t = sym e ∙ e' in cc (d))
+one_outcome (Traps t free e) (Races rs' some' h') = absurd (some' free)
+one_outcome (Traps t free e) (Finishes free' e') = absurd (let d : None ≡ Some t = sym e' ∙ e in cc (d))
+one_outcome {tree} (Traps t free e) (Traps t' free' e') =
+    (refl, let d : Some t ≡ Some t' = sym e ∙ e' in let same : t ≡ t' = cc (d) in ap (λ x. output_text tree ++ trap_line x) same, refl)
 
 -- the words name one source, and one input
 sources_same : (words : List (List ℕ)) (source source' input input' : List ℕ) → words ≡ run_words source input → words ≡ run_words source' input' → source ≡ source'
@@ -63,19 +74,19 @@ inputs_same : (words : List (List ℕ)) (source source' input input' : List ℕ)
 inputs_same words source source' input input' w w' = let e : run_words source input ≡ run_words source' input' = sym w ∙ w' in cc (e)
 
 -- two rows of a call are one
-pub one_row : {words : List (List ℕ)} {content : Content} {status other : ℕ} {text other_text : List ℕ} → Row words content status text → Row words content other other_text
-    → AreSame status other text other_text
-one_row (NoCommand n) (NoCommand n') = (refl, refl)
+pub one_row : {words : List (List ℕ)} {content : Content} {status other : ℕ} {text other_text : List ℕ} {reports other_reports : List Report}
+    → Row words content status text reports → Row words content other other_text other_reports → AreSame status other text other_text reports other_reports
+one_row (NoCommand n) (NoCommand n') = (refl, refl, refl)
 one_row (NoCommand n) (SourceRefused s i w r) = absurd (n s i w)
 one_row (NoCommand n) (InputRefused s i tree w o r) = absurd (n s i w)
 one_row (NoCommand n) (Runs s i tree w o e r) = absurd (n s i w)
 one_row (SourceRefused s i w r) (NoCommand n) = absurd (n s i w)
-one_row (SourceRefused s i w r) (SourceRefused s' i' w' r') = (refl, one_source_refusal r (rw (sources_same _ s s' i i' w w') r'))
+one_row (SourceRefused s i w r) (SourceRefused s' i' w' r') = (refl, one_source_refusal r (rw (sources_same _ s s' i i' w w') r'), refl)
 one_row (SourceRefused s i w r) (InputRefused s' i' tree w' o r') = absurd (refused_not_built tree r (rw (sources_same _ s s' i i' w w') o))
 one_row (SourceRefused s i w r) (Runs s' i' tree w' o e r') = absurd (refused_not_built tree r (rw (sources_same _ s s' i i' w w') o))
 one_row (InputRefused s i tree w o r) (NoCommand n) = absurd (n s i w)
 one_row (InputRefused s i tree w o r) (SourceRefused s' i' w' r') = absurd (refused_not_built tree r' (rw (sources_same _ s' s i' i w' w) o))
-one_row (InputRefused s i tree w o r) (InputRefused s' i' tree' w' o' r') = (refl, one_input_refusal r (rw (inputs_same _ s s' i i' w w') r'))
+one_row (InputRefused s i tree w o r) (InputRefused s' i' tree' w' o' r') = (refl, one_input_refusal r (rw (inputs_same _ s s' i i' w w') r'), refl)
 one_row (InputRefused s i tree w o r) (Runs s' i' tree' w' o' e r') = absurd (refused_not_empty r (rw (inputs_same _ s s' i i' w w') e))
 one_row (Runs s i tree w o e r) (NoCommand n) = absurd (n s i w)
 one_row (Runs s i tree w o e r) (SourceRefused s' i' w' r') = absurd (refused_not_built tree r' (rw (sources_same _ s' s i' i w' w) o))

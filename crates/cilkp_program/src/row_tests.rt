@@ -181,8 +181,8 @@ fn sources_refused(alloc: Global) -> Result<(), Fail> {
         ([1, 1, 2, 0], "pipe_while (0) { } final { }"),
         ([1, 1, 2, 0], "pipe_while (n) { }"),
         ([1, 1, 2, 0], "cell n = 0; cell n = 1; pipe_while (0) { }"),
-        ([1, 1, 2, 0], "pipe_while (0) { pipe_wait(1); }"),
         ([1, 1, 2, 0], "pipe_while (0) { pipe_continue; }"),
+        ([1, 1, 2, 0], "pipe_wait(1); pipe_while (0) { }"),
         ([0, 1, 2, 0], "pipe_while (0) { }"),
         ([1, 0, 2, 0], "pipe_while (0) { }"),
         ([1, 1, 0, 0], "pipe_while (0) { }"),
@@ -259,9 +259,128 @@ fn faults(alloc: Global) -> Result<(), Fail> {
     Ok(())
 }
 
+// Pipelines: their output and trap, or their race lines.
+fn pipelines(alloc: Global) -> Result<(), Fail> {
+    let rows = [
+        // A last stage in order of the iterations.
+        (
+            [8, 4, 100, 8],
+            "cell n = 0; cell s = 0; pipe_while (n < 3) { n = n + 1; let t = n; pipe_wait(1); s = s + t; emit s; }",
+            0,
+            "1\n3\n6\n",
+        ),
+        // Without the wait both what is summed and the output race.
+        (
+            [8, 4, 100, 8],
+            "cell n = 0; cell s = 0; pipe_while (n < 3) { n = n + 1; let t = n; pipe_continue(1); s = s + t; emit s; }",
+            2,
+            "race output write 0/1 read 1/1\nrace s write 0/1 read 1/1\n",
+        ),
+        // The next iteration counts on before the last stage reads.
+        (
+            [8, 4, 100, 8],
+            "cell n = 0; cell s = 0; pipe_while (n < 3) { n = n + 1; let t = n; pipe_wait(1); s = s + n; emit s; }",
+            2,
+            "race n read 0/1 write 1/0\n",
+        ),
+        (
+            [1, 3, 50, 1],
+            "cell n = 0; pipe_while (n < 1) { n = 1; pipe_wait(1); pipe_wait(1); }",
+            3,
+            "trap StageOrder at 0/1\n",
+        ),
+        (
+            [1, 2, 50, 1],
+            "cell n = 0; pipe_while (n < 1) { n = 1; pipe_wait(1); pipe_wait(2); }",
+            3,
+            "trap StageLimit at 0/1\n",
+        ),
+        (
+            [1, 3, 50, 1],
+            "cell n = 0; pipe_while (n < 1) { n = 1; pipe_wait(1); pipe_wait(2); }",
+            0,
+            "",
+        ),
+        (
+            [1, 3, 50, 1],
+            "cell n = 0; pipe_while (n < 1) { n = 1; pipe_wait(); pipe_wait(); }",
+            0,
+            "",
+        ),
+        // A stage that the iteration before skipped follows the last stage before it, so 0/1 and 1/2 are in order.
+        (
+            [3, 3, 50, 0],
+            "cell n = 0; cell s = 0; pipe_while (n < 2) { n = n + 1; let t = n; pipe_wait(t); s = s + t; }",
+            0,
+            "",
+        ),
+        // The other way about, the later stage of the left column is not before the earlier one of the next.
+        (
+            [3, 3, 50, 0],
+            "cell n = 3; cell m = -1; cell s = 0; pipe_while (1 < n) { let t = n; n = n + m; pipe_wait(t); s = s + t; }",
+            2,
+            "race s write 0/3 read 1/2\n",
+        ),
+        // A continue before a wait leaves the stage of the wait in order.
+        (
+            [3, 3, 50, 4],
+            "cell n = 0; pipe_while (n < 2) { n = n + 1; let t = n; pipe_continue(1); let u = t + t; pipe_wait(2); emit u; }",
+            0,
+            "2\n4\n",
+        ),
+        // Two waits, and the only path from 0/1 to 2/2 goes through both.
+        (
+            [4, 4, 50, 4],
+            "cell n = 0; cell s = 0; pipe_while (n < 3) { n = n + 1; let t = n; pipe_wait(1); pipe_wait(2); s = s + t; emit s; }",
+            0,
+            "1\n3\n6\n",
+        ),
+        // The stage number overflows, and so does the implied one after the greatest.
+        (
+            [1, 3, 50, 0],
+            "cell n = 9223372036854775807; pipe_while (n) { pipe_wait(n + 1); }",
+            3,
+            "trap Overflow at 0/0\n",
+        ),
+        (
+            [1, 3, 50, 0],
+            "cell n = 9223372036854775807; pipe_while (n) { pipe_wait(n); pipe_wait(); }",
+            3,
+            "trap Overflow at 0/9223372036854775807\n",
+        ),
+        // A trap in a later stage ends its iteration alone, and the line is that of the least iteration.
+        (
+            [3, 3, 50, 4],
+            "cell n = 0; pipe_while (n < 2) { n = n + 1; let t = n; pipe_wait(1); emit t; let u = 9223372036854775807 + t; }",
+            3,
+            "1\n2\ntrap Overflow at 0/1\n",
+        ),
+        // The left column ended in its instance 0, so that the waiting stage of the next follows that.
+        (
+            [3, 3, 50, 4],
+            "cell n = 0; cell m = 1; pipe_while (n < 2) { n = n + 1; let t = n; let u = t + t; pipe_wait(u); emit t; pipe_wait(u); }",
+            3,
+            "1\n2\ntrap StageOrder at 0/2\n",
+        ),
+        // A race in a program that also traps: its output and trap are not printed.
+        (
+            [3, 3, 50, 4],
+            "cell n = 0; cell s = 0; pipe_while (n < 2) { n = n + 1; pipe_continue(1); s = s + 1; let u = 9223372036854775807 + s; }",
+            2,
+            "race s write 0/1 read 1/1\n",
+        ),
+    ];
+    for (limits, rest, status, text) in rows {
+        let source = source(alloc, limits, rest)?;
+        Case::of(source.as_bytes()).check(alloc, rest, status, text)?;
+    }
+    Ok(())
+}
+
 #[test]
 fn rows_of_the_call(rt: HostRuntime) -> Result<(), Fail> {
     runs(rt.alloc())?;
+    pipelines(rt.alloc())?;
     sources_refused(rt.alloc())?;
     calls_refused(rt.alloc())?;
     faults(rt.alloc())

@@ -58,11 +58,11 @@ fn reads_the_first_form_and_nothing_just_outside_it(rt: HostRuntime) -> Result<(
             false,
         ),
         ("cell n = 0; pipe_while (n < 3) { pipe_wait(); }", true),
-        ("pipe_while (1) { pipe_continue(); pipe_wait(1 + 1); }", true),
         (
-            "cell n = 0; pipe_while (n < 3) { pipe_continue(2); }",
+            "pipe_while (1) { pipe_continue(); pipe_wait(1 + 1); }",
             true,
         ),
+        ("cell n = 0; pipe_while (n < 3) { pipe_continue(2); }", true),
         ("pipe_while (1) { pipe_wait; }", false),
         ("pipe_while (1) { pipe_wait() }", false),
         ("pipe_while (1) { pipe_continue(m); }", false),
