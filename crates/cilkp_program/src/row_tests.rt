@@ -355,19 +355,12 @@ fn pipelines(alloc: Global) -> Result<(), Fail> {
             3,
             "1\n2\ntrap Overflow at 0/1\n",
         ),
-        // The left column ended early, by a trap in stage 2, so stage 4 of the next follows that.
+        // The left column ended in its instance 0, so that the waiting stage of the next follows that.
         (
             [3, 3, 50, 4],
             "cell n = 0; cell m = 1; pipe_while (n < 2) { n = n + 1; let t = n; let u = t + t; pipe_wait(u); emit t; pipe_wait(u); }",
             3,
             "1\n2\ntrap StageOrder at 0/2\n",
-        ),
-        // Stages 6 and 7 both follow the left stage 5, so the edge to 7 is redundant, and 7 is parallel to the left 9.
-        (
-            [2, 3, 50, 4],
-            "cell n = 0; cell a = 5; cell b = 9; cell m = -2; cell s = 0; pipe_while (n < 2) { n = n + 1; let t = a; let u = b; a = a + 1; b = b + m; pipe_wait(t); s = s + t; pipe_wait(u); emit t; }",
-            2,
-            "race output write 0/9 read 1/7\n",
         ),
         // A race in a program that also traps: its output and trap are not printed.
         (
