@@ -1,14 +1,11 @@
--- Races of the accesses to one cell, and what a report tells of those of a list.
-use Rattle.std.specs.Prelude.{◌≡◌, ℕ, List, map}
+-- Races of the accesses to one cell.
+use Rattle.std.specs.Prelude.{ℕ, List, map}
 use Rattle.pipe_model.specs.declared.access.NodeAccess.{NodeAccess}
 use Rattle.pipe_model.specs.declared.node.Node.{Node}
-use Rattle.pipe_model.specs.declared.report.Report.{Report}
 use Rattle.pipe_model.specs.AccessHistory.{NotedAccess, noted_access}
 use Rattle.pipe_model.specs.Dag.{AreParallel}
 use Rattle.pipe_model.specs.FirstRaces.{RacesWithNone}
 use Rattle.pipe_model.specs.HistoryRaces.{KindsConflict}
-use Rattle.pipe_model.specs.HistoryReports.{report_of}
-use Rattle.pipe_model.specs.Races.{IsDeterminacyRace}
 
 -- the accesses without cell and value
 abbrev pub noted_all : List NodeAccess → List NotedAccess
@@ -22,11 +19,3 @@ HasNoRace columns accesses = (later : ℕ) → RacesWithNone columns accesses la
 pub record AreRacing (columns : List (List Node)) (a b : NodeAccess) : Type 0 where
   pub conflict : KindsConflict a.access.kind b.access.kind
   pub parallel : AreParallel columns a.node b.node
-
--- the report tells two accesses of the list that race
-pub record TellsRace (columns : List (List Node)) (accesses : List NodeAccess) (r : Report) : Type 0 where
-  pub earlier : NodeAccess
-  pub later : NodeAccess
-  pub race : IsDeterminacyRace columns accesses earlier later
-  pub told : r ≡ report_of columns earlier.access.cell.0
-      (noted_access earlier.node earlier.access.kind) (noted_access later.node later.access.kind)

@@ -10,5 +10,6 @@ pub mod name;
 pub mod node;
 pub mod report;
 pub mod symbol;
+pub mod token;
 pub mod trap;
 pub mod tree;

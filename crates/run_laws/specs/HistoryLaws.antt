@@ -35,7 +35,7 @@ abbrev pub ReportsAreRight : Type 0
 ReportsAreRight =
     (p : Pipeline) (limit : ℕ) (events : List Event) (s : State) (cells : ℕ) → Run p limit events s
     → ((a : NodeAccess) → Among a s.accesses → a.access.cell.0 < cells)
-    → AreRight s (reports_below (own_columns s) (starts_of events) s.accesses cells)
+    → AreRight (own_columns s) s.accesses (reports_below (own_columns s) (starts_of events) s.accesses cells)
 
 -- a finished run in which the histories find nothing is the serial elision
 abbrev pub NothingFoundIsSerial : Type 0

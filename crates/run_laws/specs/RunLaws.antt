@@ -6,36 +6,17 @@ use Rattle.pipe_model.specs.Pipeline.{Pipeline, IsWellFormed, AlwaysClosesLoop, 
 use Rattle.pipe_model.specs.Races.{Among}
 use Rattle.pipe_model.specs.Run.{Run, IsFinished, AllowedFrom, state_from}
 use Rattle.pipe_model.specs.State.{State, own_columns, alive, initial_state}
+use Rattle.pipe_model.specs.Throttling.{begun, finished, IsThrottled}
 use Rattle.pipe_model.specs.declared.access.NodeAccess.{NodeAccess}
 use Rattle.pipe_model.specs.declared.event.Event.{Event}
-use Rattle.pipe_model.specs.declared.event.Event.TheVariants.{Begin, Access, Advance, Enter, Finish, Stop}
+use Rattle.pipe_model.specs.declared.event.Event.TheVariants.{Stop}
 
--- how many iterations have begun
-abbrev pub begun : List Event → ℕ
-begun [] = 0
-begun (Begin i ∷ es) = suc (begun es)
-begun (Access i a ∷ es) = begun es
-begun (Advance i k n ∷ es) = begun es
-begun (Enter i ∷ es) = begun es
-begun (Finish i e ∷ es) = begun es
-begun (Stop ∷ es) = begun es
-
--- how many iterations have ended
-abbrev pub finished : List Event → ℕ
-finished [] = 0
-finished (Begin i ∷ es) = finished es
-finished (Access i a ∷ es) = finished es
-finished (Advance i k n ∷ es) = finished es
-finished (Enter i ∷ es) = finished es
-finished (Finish i e ∷ es) = suc (finished es)
-finished (Stop ∷ es) = finished es
-
--- what every run keeps: iterations have begun, are alive or have ended; at most `limit` are alive; the stage numbers of
--- an iteration rise; and each access is made by an instance of the run
+-- what every run keeps: iterations have begun, are alive or have ended; after each event at most `limit` are alive; the
+-- stage numbers of an iteration rise; and each access is made by an instance of the run
 pub record KeepsRules (limit : ℕ) (events : List Event) (s : State) : Type 0 where
   pub columns : begun events ≡ length (own_columns s)
   pub counted : begun events ≡ finished events + alive s
-  pub throttled : begun events ≤ finished events + limit
+  pub throttled : IsThrottled limit events
   pub rising : (i : ℕ) → IsRising (nodes_at (own_columns s) i)
   pub inside : (x : NodeAccess) → Among x s.accesses
       → x.node.index < length (nodes_at (own_columns s) x.node.iteration)

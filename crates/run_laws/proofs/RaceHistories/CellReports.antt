@@ -22,7 +22,7 @@ use Rattle.pipe_model.proofs.CellAccesses.{noted_of, cell_id, two_places}
 
 -- a report of what a history has found names a race
 names_race : (s : State) (c : ℕ) (race : FirstRace) → IsFirstRaceOf (own_columns s) (accesses_to c s.accesses) race
-    → NamesRace s (report_of (own_columns s) c race.earlier (access_at (accesses_to c s.accesses) race.number))
+    → NamesRace (own_columns s) s.accesses (report_of (own_columns s) c race.earlier (access_at (accesses_to c s.accesses) race.number))
 names_race s c race h =
     let q = h.racy in
     let r = q.1 in
@@ -57,7 +57,7 @@ names_race s c race h =
 -- each report of a cell names a race
 report_names_race : (s : State) (c : ℕ) (v : Option FirstRace)
     → IsRightVerdict (own_columns s) (accesses_to c s.accesses) v → (r : Report)
-    → Among r (report_found (own_columns s) c (accesses_to c s.accesses) v) → NamesRace s r
+    → Among r (report_found (own_columns s) c (accesses_to c s.accesses) v) → NamesRace (own_columns s) s.accesses r
 report_names_race s c None h r m = elim m [ ]
 report_names_race s c (Some race) h r Here = names_race s c race h
 report_names_race s c (Some race) h r (Later _ m) = elim m [ ]
@@ -67,7 +67,7 @@ reports_name_races : (s : State) (starts : List NodeId)
     → ((c : ℕ) → IsRightVerdict (own_columns s) (accesses_to c s.accesses)
     (first_race_of (own_columns s) starts s.accesses c))
     → (cells : ℕ) (r : Report)
-    → Among r (reports_below (own_columns s) starts s.accesses cells) → NamesRace s r
+    → Among r (reports_below (own_columns s) starts s.accesses cells) → NamesRace (own_columns s) s.accesses r
 reports_name_races s starts right zero r m = elim m [ ]
 reports_name_races s starts right (suc c) r m =
     elim (among_either r (reports_below (own_columns s) starts s.accesses c)

@@ -42,6 +42,18 @@ run_from_front {p} {limit} (RunThen {events = es} {s = t} r e h) =
     allowed_from-push p limit initial_state es e (run_from_front r)
     (subst (λ u. Allowed p limit u e) (run_state_is r) h)
 
+-- what is allowed is allowed up to each point
+allowed_front : (p : Pipeline) (limit : ℕ) (s : State) (front rest : List Event) → AllowedFrom p limit s (front ++ rest)
+    → AllowedFrom p limit s front
+allowed_front p limit s [] rest g = tt
+allowed_front p limit s (e ∷ front) rest g = (g.0, allowed_front p limit (next_state s e) front rest g.1)
+
+-- a front of a run is a run
+pub front_is_run : (p : Pipeline) (limit : ℕ) (front rest : List Event) (s : State) → Run p limit (front ++ rest) s
+    → Run p limit front (state_from initial_state front)
+front_is_run p limit front rest s r =
+    run_goes_on p limit [] initial_state front EmptyRun (allowed_front p limit initial_state front rest (run_from_front r))
+
 -- the law of runs told from the front
 pub runs_from_the_front : RunsFromTheFront
 runs_from_the_front p limit events s = (

@@ -1,5 +1,5 @@
 -- How many iterations have begun, have ended and are alive.
-use Rattle.std.proofs.Common.{List, ◌≡◌, ◌+◌, [], ◌∷◌, ◌++◌, arith, ℕ, Some, zero, suc, length, ◌≤◌, ap, ◌∙◌, refl, sym, map, inl, inr}
+use Rattle.std.proofs.Common.{List, ◌≡◌, ◌+◌, [], ◌∷◌, ◌++◌, arith, ℕ, Some, zero, suc, length, ◌≤◌, ap, ◌∙◌, refl, subst, sym, map, inl, inr}
 use Rattle.std.proofs.lemmas.Bool.{cases_lt}
 use Rattle.std.proofs.lemmas.List.{length_push, length-map}
 use Rattle.pipe_model.specs.Allowed.{Allowed}
@@ -9,12 +9,14 @@ use Rattle.pipe_model.specs.Pipeline.{Pipeline}
 use Rattle.pipe_model.specs.Run.{Run, EmptyRun, RunThen}
 use Rattle.pipe_model.specs.State.{Frame, frame_at, alive_in, update_frame, alive_one, fresh_frame, State, alive, next_state, with_action}
 use Rattle.pipe_model.specs.State.{Running, Pending, enter_pending, Completed}
+use Rattle.pipe_model.specs.Throttling.{begun, finished, IsThrottled}
 use Rattle.pipe_model.specs.declared.event.Event.{Event}
 use Rattle.pipe_model.specs.declared.event.Event.TheVariants.{Begin, Access, Advance, Enter, Finish, Stop}
 use Rattle.run_laws.proofs.RunStates.FrameMoves.{IsSound}
 use Rattle.run_laws.proofs.RunStates.Frames.{length-update_frame, frame_at_exists, nodes_at_frame, nodes_at_past}
 use Rattle.run_laws.proofs.RunStates.RunInvariant.{run_consistent}
-use Rattle.run_laws.specs.RunLaws.{begun, finished, RunsKeepRules}
+use Rattle.run_laws.proofs.RunStates.FrontAndBack.{front_is_run}
+use Rattle.run_laws.specs.RunLaws.{RunsKeepRules}
 
 -- how many have begun after one event more
 begun-push : (es : List Event) (e : Event) → begun (es ++ e ∷ []) ≡ begun es + begun (e ∷ [])
@@ -121,6 +123,15 @@ run_counts : {p : Pipeline} {limit : ℕ} {events : List Event} {s : State} → 
 run_counts EmptyRun = record { frames = refl; counted = refl; throttled = omega arith }
 run_counts {p} {limit} (RunThen {events = es} {s = t} r e h) = counts_after p limit es t e h (run_counts r)
 
+-- every run is throttled at each of its points
+runs_are_throttled : (p : Pipeline) (limit : ℕ) (events : List Event) (s : State) → Run p limit events s
+    → IsThrottled limit events
+runs_are_throttled p limit events s r = λ front rest e. (
+    let c = run_counts (front_is_run p limit front rest s (subst (λ es. Run p limit es s) e r)) in
+    let c2 = c.counted in
+    let c3 = c.throttled in
+    omega (arith, c2, c3))
+
 -- the columns of sound frames rise
 columns_rise : (fs : List Frame) (i : ℕ) → IsSound fs → IsRising (nodes_at (map (λ f. f.nodes) fs) i)
 columns_rise fs i s = elim (cases_lt i (length fs)) [
@@ -137,13 +148,11 @@ runs_keep_rules p limit events s r =
     let c = run_counts r in
     let k = run_consistent r in
     let c1 = c.frames in
-    let c2 = c.counted in
-    let c3 = c.throttled in
     let w = length-map s.frames (λ (f : Frame). f.nodes) in
     record {
       columns = omega (arith, w, c1);
       counted = c.counted;
-      throttled = omega (arith, c2, c3);
+      throttled = runs_are_throttled p limit events s r;
       rising = λ i. columns_rise s.frames i k.sound;
       inside = k.located;
     }
