@@ -8,3 +8,4 @@ pub mod Traces
 pub mod Elided
 pub mod Iterations
 pub mod FirstForm
+pub mod EventLaws

@@ -4,3 +4,4 @@ pub mod Answers
 pub mod Scope
 pub mod Caching
 pub mod Elided
+pub mod ColumnEvents

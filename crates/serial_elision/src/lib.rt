@@ -2,6 +2,7 @@
 #![tactic(auto)]
 
 pub mod elision;
+pub mod events;
 mod halt;
 mod locals;
 mod place;

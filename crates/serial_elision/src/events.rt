@@ -1,0 +1,128 @@
+//! The serial elision as a list of events.
+
+ghost use Rattle.std.specs.Prelude.{◌≡◌, ◌≤◌, ◌^◌, ◌++◌, IfOk, OnOk, length};
+ghost use Rattle.pipe_model.specs.Outcome.{serial_ended_columns};
+ghost use Rattle.pipe_model.specs.Pipeline.{Pipeline};
+ghost use Rattle.pipe_model.specs.SerialElision.{serial_accesses, serial_events};
+ghost use Rattle.serial_elision.specs.ColumnEvents.{access_events, column_events, end_events, entry_events, events_of, is_made_by, left_by_column, own_count};
+
+use pipe_model::access::{NodeAccess, NodeAccesses};
+use pipe_model::column::{Column, ColumnEnd, Columns};
+use pipe_model::event::{Event, Events};
+use pipe_model::memory::NoMemory;
+use pipe_model::node::Node;
+use std::alloc::Global;
+
+// whether the access is made by the instance of the iteration at this place
+fn is_made_by(access: &NodeAccess, iteration: u32, index: usize) -> bool
+    ensures { result ≡ is_made_by iteration index access.now }
+{
+    access.node.iteration == iteration && access.node.index as usize == index
+}
+
+// how many accesses at the front the instance of the iteration at this place makes
+fn own_count(accesses: &[NodeAccess], iteration: u32, index: usize) -> usize
+    ensures counted { result ≡ own_count iteration index accesses.now }
+    ensures within { result ≤ length accesses.now }
+{
+    accesses
+        .iter()
+        .take_while(|access| is_made_by(access, iteration, index))
+        .count()
+}
+
+// adds the events of accesses of the iteration
+fn push_accesses(
+    events: &mut Events,
+    iteration: u32,
+    accesses: &[NodeAccess],
+) -> Result<(), NoMemory>
+    ensures { OnOk result (events.new ≡ events.old ++ access_events iteration accesses.now) }
+{
+    for access in accesses {
+        events.push(Event::Access(iteration, access.access))?;
+    }
+    Ok(())
+}
+
+// adds the events by which an instance is named and entered
+fn push_entry(
+    events: &mut Events,
+    iteration: u32,
+    index: usize,
+    node: Node,
+) -> Result<(), NoMemory>
+    ensures { OnOk result (events.new ≡ events.old ++ entry_events iteration index node) }
+{
+    if index > 0 {
+        events.push(Event::Advance(iteration, node.kind, node.number))?;
+        events.push(Event::Enter(iteration))?;
+    }
+    Ok(())
+}
+
+// adds the events of the iteration's instances, and tells which accesses they leave
+fn push_column<'a>(
+    events: &mut Events,
+    iteration: u32,
+    nodes: &[Node],
+    accesses: &'a [NodeAccess],
+) -> Result<&'a [NodeAccess], NoMemory>
+    ensures events { OnOk result (events.new ≡ events.old ++ column_events iteration 0 nodes.now accesses.now) }
+    ensures rest { IfOk result (λ rest. rest.now ≡ left_by_column iteration 0 nodes.now accesses.now) }
+{
+    let mut rest = accesses;
+    for (index, node) in nodes.iter().enumerate() {
+        push_entry(events, iteration, index, *node)?;
+        let (own, behind) = rest.split_at(own_count(rest, iteration, index));
+        push_accesses(events, iteration, own)?;
+        rest = behind;
+    }
+    Ok(rest)
+}
+
+// adds the end of the iteration, where it has one
+fn push_end(
+    events: &mut Events,
+    iteration: u32,
+    end: Option<ColumnEnd>,
+) -> Result<(), NoMemory>
+    ensures { OnOk result (events.new ≡ events.old ++ end_events iteration end) }
+{
+    if let Some(end) = end {
+        events.push(Event::Finish(iteration, end))?;
+    }
+    Ok(())
+}
+
+// how many events there are at most: two for each column and each instance, and one for each access
+fn most_events(columns: &[Column], accesses: usize) -> usize {
+    let mut most = accesses;
+    for column in columns {
+        most = most.saturating_add(2).saturating_add(column.nodes.len().saturating_mul(2));
+    }
+    most
+}
+
+/// The events of a serial elision, told by its columns, of which there are at most 2^32, and its accesses: one iteration
+/// after the other, each stage entered as soon as it is named. Fails for want of memory alone.
+pub fn serial_events(
+    alloc: Global,
+    columns: &Columns,
+    accesses: &NodeAccesses,
+) -> Result<Events, NoMemory>
+    requires { length columns.now ≤ 2 ^ 32 }
+    ensures { IfOk result (λ events. (p : Pipeline) → columns.now ≡ serial_ended_columns p → accesses.now ≡ serial_accesses p
+        → events ≡ serial_events p) }
+{
+    let columns = columns.as_slice();
+    let mut rest = accesses.as_slice();
+    let mut events = Events::with_capacity(alloc, most_events(columns, rest.len()))?;
+    for (iteration, column) in columns.iter().enumerate() {
+        let iteration = iteration as u32;
+        events.push(Event::Begin(iteration))?;
+        rest = push_column(&mut events, iteration, column.nodes.as_slice(), rest)?;
+        push_end(&mut events, iteration, column.end)?;
+    }
+    Ok(events)
+}
