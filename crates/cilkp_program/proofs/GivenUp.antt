@@ -1,5 +1,6 @@
 -- What stands in a sink that took no more.
 use Rattle.std.proofs.Common.{◌≡◌, ◌≢◌, ◌≤◌, ◌↔◌, ℕ, List, length, Option, inr, arith}
+use Rattle.pipe_model.specs.declared.event.RunLog.{RunLog}
 use Rattle.pipe_model.specs.declared.report.Report.{Report}
 use Rattle.cilkp_program.specs.Answers.{IsAnswer, OfRow, SourceFault, InputFault, IsCutShort, IsGivenUp, HasTaken}
 use Rattle.cilkp_program.specs.Reads.{Content}
@@ -7,10 +8,10 @@ use Rattle.cilkp_program.specs.declared.whole.WriteEnd.{WriteEnd}
 use Rattle.cilkp_program.specs.declared.whole.WriteEnd.TheVariants as ends
 
 -- a text that was not written whole was cut short
-pub text_cut_short : (words : List (List ℕ)) (holds : Option Content) (before now status written : ℕ) (text : List ℕ) (reports : List Report) (taken_before taken_now : Option (List ℕ)) (end : WriteEnd)
-    → IsAnswer words holds before now status text reports → written ≤ length text → ((end ≡ ends.Whole) ↔ (written ≡ length text)) → end ≢ ends.Whole → HasTaken written text taken_before taken_now
-    → IsCutShort words holds before now written reports taken_before taken_now
-text_cut_short words holds before now status written text reports taken_before taken_now end answer within whole cut taken = record {
+pub text_cut_short : (words : List (List ℕ)) (holds : Option Content) (before now status written : ℕ) (text : List ℕ) (log : Option RunLog) (reports : List Report)
+    (taken_before taken_now : Option (List ℕ)) (end : WriteEnd) → IsAnswer words holds before now status text log reports → written ≤ length text → ((end ≡ ends.Whole) ↔ (written ≡ length text)) → end ≢ ends.Whole → HasTaken written text taken_before taken_now
+    → IsCutShort words holds before now written log reports taken_before taken_now
+text_cut_short words holds before now status written text log reports taken_before taken_now end answer within whole cut taken = record {
   status = status;
   text = text;
   answer = answer;
@@ -19,12 +20,13 @@ text_cut_short words holds before now status written text reports taken_before t
 }
 
 -- a call that gave up at such a text
-pub given_up_writing : (words : List (List ℕ)) (holds : Option Content) (before now written : ℕ) (reports : List Report) (taken_before taken_now : Option (List ℕ))
-    → IsCutShort words holds before now written reports taken_before taken_now → IsGivenUp words holds before now taken_before taken_now
-given_up_writing words holds before now written reports taken_before taken_now cut = inr (written, reports, cut)
+pub given_up_writing : (words : List (List ℕ)) (holds : Option Content) (before now written : ℕ) (log : Option RunLog) (reports : List Report)
+    (taken_before taken_now : Option (List ℕ)) → IsCutShort words holds before now written log reports taken_before taken_now → IsGivenUp words holds before now taken_before taken_now
+given_up_writing words holds before now written log reports taken_before taken_now cut = inr (written, log, reports, cut)
 
 -- no answer has the status of a fault of writing
-pub no_write_fault : {words : List (List ℕ)} {holds : Option Content} {before now status : ℕ} {text : List ℕ} {reports : List Report} → IsAnswer words holds before now status text reports
+pub no_write_fault : {words : List (List ℕ)} {holds : Option Content} {before now status : ℕ} {text : List ℕ} {log : Option RunLog} {reports : List Report}
+    → IsAnswer words holds before now status text log reports
     → status ≡ 5 → ⊥
 no_write_fault (OfRow same small row) five = omega (arith, small, five)
 no_write_fault (SourceFault source input grew rose w) five = absurd (omega (arith, five))

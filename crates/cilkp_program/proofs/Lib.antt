@@ -5,4 +5,6 @@ pub mod GivenUp
 pub mod OneRow
 pub mod SerialDags
 pub mod RaceText
+pub mod RunTexts
 pub mod OneReports
+pub mod HeadlineLaws

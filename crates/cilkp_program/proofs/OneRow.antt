@@ -1,5 +1,6 @@
 -- A call has one row of the table.
 use Rattle.std.proofs.Common.{◌≡◌, ◌∙◌, ℕ, List, [], ◌++◌, Option, Some, None, refl, ap, sym}
+use Rattle.pipe_model.specs.declared.event.RunLog.{RunLog}
 use Rattle.pipe_model.specs.declared.report.Report.{Report}
 use Rattle.pipe_model.specs.SyntaxTree.{SyntaxTree}
 use Rattle.pipe_model.specs.Texts.{trap_line}
@@ -7,7 +8,7 @@ use Rattle.pipe_model.proofs.OneSpelling.{one_spelling}
 use Rattle.cilkp_program.proofs.OneReports.{one_first_races}
 use Rattle.cilkp_program.specs.CellNames.{race_lines}
 use Rattle.cilkp_program.specs.Reads.{Content}
-use Rattle.cilkp_program.specs.Rows.{run_words, IsSourceOf, SourceRefusal, SourceMissing, SourceNotBuilt, InputRefusal, InputMissing, InputNotEmpty, Outcome, Races, Finishes, Traps, columns_of, accesses_of, output_text, Row, NoCommand, SourceRefused, InputRefused, Runs}
+use Rattle.cilkp_program.specs.Rows.{run_words, IsSourceOf, SourceRefusal, SourceMissing, SourceNotBuilt, InputRefusal, InputMissing, InputNotEmpty, Outcome, Races, Finishes, Traps, columns_of, accesses_of, log_of, output_text, Row, NoCommand, SourceRefused, InputRefused, Runs}
 
 -- a status, a text and reports are the same as others
 abbrev pub AreSame : (status other : ℕ) (text other_text : List ℕ) (reports other_reports : List Report) → Type 0
@@ -29,7 +30,7 @@ one_source_refusal (SourceNotBuilt bytes h n) (SourceMissing m) = absurd (missin
 one_source_refusal (SourceNotBuilt bytes h n) (SourceNotBuilt bytes' h' n') = refl
 
 -- a source that is refused is no source of a program
-refused_not_built : {content : Content} {name text : List ℕ} (tree : SyntaxTree) → SourceRefusal content name text → IsSourceOf content name tree → ⊥
+pub refused_not_built : {content : Content} {name text : List ℕ} (tree : SyntaxTree) → SourceRefusal content name text → IsSourceOf content name tree → ⊥
 refused_not_built tree (SourceMissing m) s = missing_not_held _ s.bytes m s.held
 refused_not_built tree (SourceNotBuilt bytes h n) s = n tree (rw (one_held _ bytes s.bytes h s.held) s.form)
 
@@ -41,12 +42,12 @@ one_input_refusal (InputNotEmpty bytes h n) (InputMissing m) = absurd (missing_n
 one_input_refusal (InputNotEmpty bytes h n) (InputNotEmpty bytes' h' n') = refl
 
 -- an input that is refused is not the empty file
-refused_not_empty : {content : Content} {name text : List ℕ} → InputRefusal content name text → content name ≡ Some [] → ⊥
+pub refused_not_empty : {content : Content} {name text : List ℕ} → InputRefusal content name text → content name ≡ Some [] → ⊥
 refused_not_empty (InputMissing m) e = missing_not_held _ [] m e
 refused_not_empty (InputNotEmpty bytes h n) e = n (one_held _ bytes [] h e)
 
 -- a file is the source of one program
-one_source : {content : Content} {name : List ℕ} (tree other : SyntaxTree) → IsSourceOf content name tree → IsSourceOf content name other → tree ≡ other
+pub one_source : {content : Content} {name : List ℕ} (tree other : SyntaxTree) → IsSourceOf content name tree → IsSourceOf content name other → tree ≡ other
 one_source tree other s o =
     let same : o.bytes ≡ s.bytes = one_held _ o.bytes s.bytes o.held s.held in
     one_spelling s.bytes tree other s.form.spelled (rw same at o.form.spelled)
@@ -66,30 +67,39 @@ one_outcome (Traps t free e) (Finishes free' e') = absurd (let d : None ≡ Some
 one_outcome {tree} (Traps t free e) (Traps t' free' e') =
     (refl, let d : Some t ≡ Some t' = sym e ∙ e' in let same : t ≡ t' = cc (d) in ap (λ x. output_text tree ++ trap_line x) same, refl)
 
+-- a program has one run
+one_run : {tree other_tree : SyntaxTree} {status other : ℕ} {text other_text : List ℕ} {reports other_reports : List Report} → tree ≡ other_tree
+    → Outcome tree status text reports → Outcome other_tree other other_text other_reports
+    → (status ≡ other) × (text ≡ other_text) × (Some (log_of tree) ≡ Some (log_of other_tree)) × (reports ≡ other_reports)
+one_run {tree} {other_tree} {status} {other} {text} {other_text} {reports} {other_reports} same r r' =
+    let one : AreSame status other text other_text reports other_reports = one_outcome r (rw same r') in
+    (one.0, one.1, ap (λ t. Some (log_of t)) same, one.2)
+
 -- the words name one source, and one input
-sources_same : (words : List (List ℕ)) (source source' input input' : List ℕ) → words ≡ run_words source input → words ≡ run_words source' input' → source ≡ source'
+pub sources_same : (words : List (List ℕ)) (source source' input input' : List ℕ) → words ≡ run_words source input → words ≡ run_words source' input' → source ≡ source'
 sources_same words source source' input input' w w' = let e : run_words source input ≡ run_words source' input' = sym w ∙ w' in cc (e)
 
-inputs_same : (words : List (List ℕ)) (source source' input input' : List ℕ) → words ≡ run_words source input → words ≡ run_words source' input' → input ≡ input'
+pub inputs_same : (words : List (List ℕ)) (source source' input input' : List ℕ) → words ≡ run_words source input → words ≡ run_words source' input' → input ≡ input'
 inputs_same words source source' input input' w w' = let e : run_words source input ≡ run_words source' input' = sym w ∙ w' in cc (e)
 
 -- two rows of a call are one
-pub one_row : {words : List (List ℕ)} {content : Content} {status other : ℕ} {text other_text : List ℕ} {reports other_reports : List Report}
-    → Row words content status text reports → Row words content other other_text other_reports → AreSame status other text other_text reports other_reports
-one_row (NoCommand n) (NoCommand n') = (refl, refl, refl)
+pub one_row : {words : List (List ℕ)} {content : Content} {status other : ℕ} {text other_text : List ℕ} {log other_log : Option RunLog} {reports other_reports : List Report}
+    → Row words content status text log reports → Row words content other other_text other_log other_reports
+    → (status ≡ other) × (text ≡ other_text) × (log ≡ other_log) × (reports ≡ other_reports)
+one_row (NoCommand n) (NoCommand n') = (refl, refl, refl, refl)
 one_row (NoCommand n) (SourceRefused s i w r) = absurd (n s i w)
 one_row (NoCommand n) (InputRefused s i tree w o r) = absurd (n s i w)
 one_row (NoCommand n) (Runs s i tree w o e r) = absurd (n s i w)
 one_row (SourceRefused s i w r) (NoCommand n) = absurd (n s i w)
-one_row (SourceRefused s i w r) (SourceRefused s' i' w' r') = (refl, one_source_refusal r (rw (sources_same _ s s' i i' w w') r'), refl)
+one_row (SourceRefused s i w r) (SourceRefused s' i' w' r') = (refl, one_source_refusal r (rw (sources_same _ s s' i i' w w') r'), refl, refl)
 one_row (SourceRefused s i w r) (InputRefused s' i' tree w' o r') = absurd (refused_not_built tree r (rw (sources_same _ s s' i i' w w') o))
 one_row (SourceRefused s i w r) (Runs s' i' tree w' o e r') = absurd (refused_not_built tree r (rw (sources_same _ s s' i i' w w') o))
 one_row (InputRefused s i tree w o r) (NoCommand n) = absurd (n s i w)
 one_row (InputRefused s i tree w o r) (SourceRefused s' i' w' r') = absurd (refused_not_built tree r' (rw (sources_same _ s' s i' i w' w) o))
-one_row (InputRefused s i tree w o r) (InputRefused s' i' tree' w' o' r') = (refl, one_input_refusal r (rw (inputs_same _ s s' i i' w w') r'), refl)
+one_row (InputRefused s i tree w o r) (InputRefused s' i' tree' w' o' r') = (refl, one_input_refusal r (rw (inputs_same _ s s' i i' w w') r'), refl, refl)
 one_row (InputRefused s i tree w o r) (Runs s' i' tree' w' o' e r') = absurd (refused_not_empty r (rw (inputs_same _ s s' i i' w w') e))
 one_row (Runs s i tree w o e r) (NoCommand n) = absurd (n s i w)
 one_row (Runs s i tree w o e r) (SourceRefused s' i' w' r') = absurd (refused_not_built tree r' (rw (sources_same _ s' s i' i w' w) o))
 one_row (Runs s i tree w o e r) (InputRefused s' i' tree' w' o' r') = absurd (refused_not_empty r' (rw (inputs_same _ s' s i' i w' w) e))
 one_row (Runs s i tree w o e r) (Runs s' i' tree' w' o' e' r') =
-    one_outcome r (rw (one_source tree tree' o (rw (sources_same _ s s' i i' w w') o')) r')
+    one_run (one_source tree tree' o (rw (sources_same _ s s' i i' w w') o')) r r'

@@ -1,29 +1,35 @@
 -- The dag of a program's serial elision, as it is built from what the elision tells.
-use Rattle.std.proofs.Common.{◌≡◌, ◌∙◌, ◌<◌, ◌==◌, ℕ, zero, suc, true, false, All, List, [], ◌∷◌, length, map, refl, sym, ap, subst, arith}
-use Rattle.std.proofs.lemmas.Bool.{eqb-true}
-use Rattle.std.proofs.lemmas.List.{nil_from_length}
+use Rattle.std.proofs.Common.{◌≡◌, ◌∙◌, ◌<◌, ◌≤◌, ◌^◌, ℕ, ℤ, pos, negsuc, IsTrue, zero, suc, All, List, [], ◌∷◌, Option, length, map, refl, sym, ap, subst, arith}
+use Rattle.std.proofs.lemmas.Bool.{and_parts}
 use Rattle.pipe_model.specs.declared.access.NodeAccess.{NodeAccess}
 use Rattle.pipe_model.specs.declared.column.Column.{Column}
+use Rattle.pipe_model.specs.declared.event.Event.{Event}
+use Rattle.pipe_model.specs.declared.event.RunLog.{RunLog}
 use Rattle.pipe_model.specs.declared.node.Node.{Node}
 use Rattle.pipe_model.specs.declared.report.Report.{Report}
+use Rattle.pipe_model.specs.declared.trap.TrapAt.{TrapAt}
 use Rattle.pipe_model.specs.Behaviour.{Action, column_of}
 use Rattle.pipe_model.specs.Columns.{nodes_at}
 use Rattle.pipe_model.specs.FirstRaces.{AreFirstRaces}
-use Rattle.pipe_model.specs.Outcome.{ended_column, serial_ended_columns}
-use Rattle.pipe_model.specs.Programs.{pipeline_of}
-use Rattle.pipe_model.specs.SerialElision.{serial_traces}
+use Rattle.pipe_model.specs.Outcome.{ended_column, serial_ended_columns, serial_output}
+use Rattle.pipe_model.specs.Pipeline.{Pipeline}
+use Rattle.pipe_model.specs.Programs.{natural, pipeline_of}
+use Rattle.pipe_model.specs.Rules.{is_between, limits_are_in_range}
+use Rattle.pipe_model.specs.SerialElision.{serial_accesses, serial_events, serial_traces}
 use Rattle.pipe_model.specs.Spelling.{IsFirstForm}
 use Rattle.pipe_model.specs.SyntaxTree.{SyntaxTree}
 use Rattle.pipe_model.proofs.Members.{among_at}
 use Rattle.dag_build.specs.NodeColumns.{AreRising, IsAccessOf, node_columns}
 use Rattle.dag_build.proofs.FirstRaceLaws.{no_report_is_race_free}
 use Rattle.language_laws.proofs.WellFormed.{first_form_is_well_formed}
+use Rattle.serial_elision.proofs.EventLaws.{serial_columns_are_few}
+use Rattle.serial_elision.proofs.FirstForm.{first_form_is_runnable}
 use Rattle.run_laws.proofs.Elision.SerialRun.{serial_elision_is_a_run}
 use Rattle.run_laws.proofs.RunStates.IterationCounts.{runs_keep_rules}
 use Rattle.run_laws.specs.RunLaws.{KeepsRules}
 use Rattle.run_laws.specs.SerialLaws.{HasSerialRun}
-use Rattle.cilkp_program.specs.CellNames.{race_lines}
-use Rattle.cilkp_program.specs.Rows.{HasNoRace, Outcome, Races, accesses_of, columns_of}
+use Rattle.cilkp_program.specs.Rows.{Outcome, Races, Finishes, Traps, accesses_of, columns_of, log_of, trap_of}
+use Rattle.cilkp_program.specs.RunTexts.{IsPrintedAs, WithRaces, ToItsEnd, WithTrap}
 
 -- the instances of ended columns
 ended_nodes : (traces : List (List Action)) → node_columns (map ended_column traces) ≡ map column_of traces
@@ -75,25 +81,38 @@ told_races : (tree : SyntaxTree) (dag : List (List Node)) (columns : List Column
     → columns ≡ serial_ended_columns (pipeline_of tree []) → accesses ≡ accesses_of tree → AreFirstRaces dag accesses reports → AreFirstRaces (columns_of tree) (accesses_of tree) reports
 told_races tree dag columns accesses reports d e a r = rw (← a, ← (d ∙ told_columns tree columns e)) r
 
--- a list whose length is 0 is empty
-none_left : (reports : List Report) → (length reports == 0) ≡ true → reports ≡ []
-none_left reports e = nil_from_length reports (eqb-true (length reports) 0 e)
-
--- a program with a report has a race
-pub run_races : (tree : SyntaxTree) (dag : List (List Node)) (columns : List Column) (accesses : List NodeAccess) (reports : List Report) (text : List ℕ)
-    → dag ≡ node_columns columns → columns ≡ serial_ended_columns (pipeline_of tree []) → accesses ≡ accesses_of tree → AreFirstRaces dag accesses reports
-    → (length reports == 0) ≡ false → text ≡ race_lines tree.cells reports → Outcome tree 2 text reports
-run_races tree dag columns accesses reports text d e a r some t =
+-- what is printed of the elision's parts is what the program comes to
+pub outcome_of_run : (tree : SyntaxTree) (dag : List (List Node)) (columns : List Column) (accesses : List NodeAccess) (output : List ℤ) (trap : Option TrapAt) (reports : List Report)
+    {status : ℕ} {text : List ℕ} → dag ≡ node_columns columns → columns ≡ serial_ended_columns (pipeline_of tree []) → accesses ≡ accesses_of tree
+    → output ≡ serial_output (pipeline_of tree []) → trap ≡ trap_of tree → AreFirstRaces dag accesses reports
+    → IsPrintedAs tree.cells output trap reports status text → Outcome tree status text reports
+outcome_of_run tree dag columns accesses output trap reports d e a o t r (WithRaces some) =
     let first = told_races tree dag columns accesses reports d e a r in
-    rw t (Races reports (λ free. not_empty ((no_report_is_race_free _ _ reports first).1 free)) first)
-  where
-    not_empty : reports ≡ [] → ⊥
-    not_empty none = let e : (length reports == 0) ≡ true = rw none refl in let f = some in cc (e, f)
+    Races reports (λ free. some ((no_report_is_race_free _ _ reports first).1 free)) first
+outcome_of_run tree dag columns accesses output trap reports d e a o t r (ToItsEnd none ends) =
+    let free = (no_report_is_race_free _ _ reports (told_races tree dag columns accesses reports d e a r)).0 none in
+    rw (none, o) (Finishes free (sym t ∙ ends))
+outcome_of_run tree dag columns accesses output trap reports d e a o t r (WithTrap at none ends) =
+    let free = (no_report_is_race_free _ _ reports (told_races tree dag columns accesses reports d e a r)).0 none in
+    rw (none, o) (Traps at free (sym t ∙ ends))
 
--- a program without a report has no race
-pub run_is_race_free : (tree : SyntaxTree) (dag : List (List Node)) (columns : List Column) (accesses : List NodeAccess) (reports : List Report)
-    → dag ≡ node_columns columns → columns ≡ serial_ended_columns (pipeline_of tree []) → accesses ≡ accesses_of tree → AreFirstRaces dag accesses reports
-    → (length reports == 0) ≡ true → (reports ≡ []) × HasNoRace tree
-run_is_race_free tree dag columns accesses reports d e a r none =
-    let empty = none_left reports none in
-    (empty, (no_report_is_race_free _ _ reports (told_races tree dag columns accesses reports d e a r)).0 empty)
+-- a number that is in the range of iterations
+few_iterations : (n : ℤ) → IsTrue (is_between (pos 1) (pos 65536) n) → natural n ≤ 65536
+few_iterations (pos n) h = ?
+few_iterations (negsuc n) h = omega arith
+
+-- the elision has few enough columns for its events to be told
+pub told_columns_are_few : (source : List ℕ) (tree : SyntaxTree) (columns : List Column) → IsFirstForm source tree
+    → columns ≡ serial_ended_columns (pipeline_of tree []) → length columns ≤ 2 ^ 32
+told_columns_are_few source tree columns form e =
+    let limits : IsTrue (limits_are_in_range tree.limits) = (first_form_is_runnable source tree form).limits in
+    let few = serial_columns_are_few (pipeline_of tree []) in
+    let most = few_iterations tree.limits.iterations (and_parts (is_between (pos 1) (pos 65536) tree.limits.iterations) _ limits).0 in
+    omega (arith, ap length e, few, most)
+
+-- the log of the elision's columns and events is that of the program
+pub told_log : (tree : SyntaxTree) (columns : List Column) (accesses : List NodeAccess) (events : List Event)
+    → columns ≡ serial_ended_columns (pipeline_of tree []) → accesses ≡ accesses_of tree
+    → ((p : Pipeline) → columns ≡ serial_ended_columns p → accesses ≡ serial_accesses p → events ≡ serial_events p)
+    → record { columns = columns; events = events } ≡ log_of tree
+told_log tree columns accesses events e a told = λ i. record { columns = e i; events = told (pipeline_of tree []) e a i }

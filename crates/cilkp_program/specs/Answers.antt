@@ -1,6 +1,7 @@
 -- What a call answers, with the faults that came in it.
-use Rattle.std.specs.Prelude.{◌≡◌, ◌≤◌, ◌<◌, ℕ, ◌++◌, List, [], length, take, Option, IfSome, ◌⊎◌}
+use Rattle.std.specs.Prelude.{◌≡◌, ◌≤◌, ◌<◌, ℕ, ◌++◌, List, [], length, take, Option, None, IfSome, ◌⊎◌}
 use Rattle.std.specs.Option.{option_map}
+use Rattle.pipe_model.specs.declared.event.RunLog.{RunLog}
 use Rattle.pipe_model.specs.declared.report.Report.{Report}
 use Rattle.pipe_model.specs.SyntaxTree.{SyntaxTree}
 use Rattle.pipe_model.specs.Texts.{fault_read}
@@ -8,35 +9,38 @@ use Rattle.cilkp_program.specs.Faults.{Rose}
 use Rattle.cilkp_program.specs.Reads.{Content}
 use Rattle.cilkp_program.specs.Rows.{IsSourceOf, Row, run_words}
 
--- the status, the text and the reports that a call is to give: those of its row where no fault of reading came in the call, and else the line of the fault.
+-- the status, the text, the run log and the reports that a call is to give: those of its row where no fault of reading came in the call, and else the line of the fault.
 -- The faults are counted before the call and after it; nothing is said of rows where the files do not tell what they hold.
-pub data IsAnswer (words : List (List ℕ)) (holds : Option Content) (before now : ℕ) : ℕ → List ℕ → List Report → Type 0 where
-  OfRow : {status : ℕ} {text : List ℕ} {reports : List Report} → now ≡ before → status ≤ 3 → IfSome holds (λ content. Row words content status text reports)
-      → IsAnswer words holds before now status text reports
-  SourceFault : (source input : List ℕ) → before ≤ now → Rose before now → words ≡ run_words source input → IsAnswer words holds before now 4 (fault_read source) []
+pub data IsAnswer (words : List (List ℕ)) (holds : Option Content) (before now : ℕ) : ℕ → List ℕ → Option RunLog → List Report → Type 0 where
+  OfRow : {status : ℕ} {text : List ℕ} {log : Option RunLog} {reports : List Report} → now ≡ before → status ≤ 3
+      → IfSome holds (λ content. Row words content status text log reports) → IsAnswer words holds before now status text log reports
+  SourceFault : (source input : List ℕ) → before ≤ now → Rose before now → words ≡ run_words source input → IsAnswer words holds before now 4 (fault_read source) None []
   InputFault : (source input : List ℕ) → before ≤ now → Rose before now → words ≡ run_words source input
-      → IfSome holds (λ content. (tree : SyntaxTree) × IsSourceOf content source tree) → IsAnswer words holds before now 4 (fault_read input) []
+      → IfSome holds (λ content. (tree : SyntaxTree) × IsSourceOf content source tree) → IsAnswer words holds before now 4 (fault_read input) None []
 
 -- the sink has taken so many bytes at the front of the text
 abbrev pub HasTaken : ℕ → List ℕ → Option (List ℕ) → Option (List ℕ) → Type 0
 HasTaken count text before now = now ≡ option_map (λ taken. taken ++ take count text) before
 
 -- the call's text was taken whole
-pub record IsPrinted (words : List (List ℕ)) (holds : Option Content) (faults_before faults_now status written : ℕ) (reports : List Report) (taken_before taken_now : Option (List ℕ)) : Type 0 where
+pub record IsPrinted (words : List (List ℕ)) (holds : Option Content) (faults_before faults_now status written : ℕ) (log : Option RunLog) (reports : List Report)
+    (taken_before taken_now : Option (List ℕ)) : Type 0 where
   pub text : List ℕ
-  pub answer : IsAnswer words holds faults_before faults_now status text reports
+  pub answer : IsAnswer words holds faults_before faults_now status text log reports
   pub whole : written ≡ length text
   pub taken : HasTaken written text taken_before taken_now
 
--- of the call's text a front was taken, and not all; the reports are those of the whole answer
-pub record IsCutShort (words : List (List ℕ)) (holds : Option Content) (faults_before faults_now written : ℕ) (reports : List Report) (taken_before taken_now : Option (List ℕ)) : Type 0 where
+-- of the call's text a front was taken, and not all; the run log and the reports are those of the whole answer
+pub record IsCutShort (words : List (List ℕ)) (holds : Option Content) (faults_before faults_now written : ℕ) (log : Option RunLog) (reports : List Report)
+    (taken_before taken_now : Option (List ℕ)) : Type 0 where
   pub status : ℕ
   pub text : List ℕ
-  pub answer : IsAnswer words holds faults_before faults_now status text reports
+  pub answer : IsAnswer words holds faults_before faults_now status text log reports
   pub short : written < length text
   pub taken : HasTaken written text taken_before taken_now
 
 -- where memory was refused, nothing was taken, or the call's text was cut short
 abbrev pub IsGivenUp : (words : List (List ℕ)) (holds : Option Content) (faults_before faults_now : ℕ) (taken_before taken_now : Option (List ℕ)) → Type 0
 IsGivenUp words holds faults_before faults_now taken_before taken_now =
-    (taken_now ≡ taken_before) ⊎ ((written : ℕ) × (reports : List Report) × IsCutShort words holds faults_before faults_now written reports taken_before taken_now)
+    (taken_now ≡ taken_before)
+    ⊎ ((written : ℕ) × (log : Option RunLog) × (reports : List Report) × IsCutShort words holds faults_before faults_now written log reports taken_before taken_now)

@@ -9,3 +9,5 @@ pub mod Answers
 pub mod CellNames
 pub mod Loads
 pub mod RowLaws
+pub mod RunTexts
+pub mod Headline

@@ -1,11 +1,13 @@
 -- The table of answers has one row for each call.
-use Rattle.std.specs.Prelude.{◌≡◌, ℕ, List}
+use Rattle.std.specs.Prelude.{◌≡◌, ℕ, List, Option}
+use Rattle.pipe_model.specs.declared.event.RunLog.{RunLog}
 use Rattle.pipe_model.specs.declared.report.Report.{Report}
 use Rattle.cilkp_program.specs.Reads.{Content}
 use Rattle.cilkp_program.specs.Rows.{Row}
 
--- two rows of the same words and files have one status, one text and the same reports
+-- two rows of the same words and files have one status, one text, one run log and the same reports
 abbrev pub CallsHaveOneRow : Type 0
-CallsHaveOneRow = (words : List (List ℕ)) (content : Content) (status other_status : ℕ) (text other_text : List ℕ) (reports other_reports : List Report)
-    → Row words content status text reports → Row words content other_status other_text other_reports
-    → (status ≡ other_status) × (text ≡ other_text) × (reports ≡ other_reports)
+CallsHaveOneRow = (words : List (List ℕ)) (content : Content) (status other_status : ℕ) (text other_text : List ℕ) (log other_log : Option RunLog)
+    (reports other_reports : List Report)
+    → Row words content status text log reports → Row words content other_status other_text other_log other_reports
+    → (status ≡ other_status) × (text ≡ other_text) × (log ≡ other_log) × (reports ≡ other_reports)

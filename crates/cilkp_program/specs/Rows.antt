@@ -1,15 +1,16 @@
--- The table of answers: what a call prints, with its status and its reports of races, where nothing goes wrong outside.
+-- The table of answers: what a call prints, with its status, its run log and its reports of races, where nothing goes wrong outside.
 use Rattle.std.specs.Prelude.{◌≡◌, ◌≢◌, ℕ, ◌++◌, List, [], ◌∷◌, map, Option, Some, None, codes, String, string_bytes}
 use Rattle.std.specs.declared.alloc.Global.{Global}
 use Rattle.pipe_model.specs.declared.access.NodeAccess.{NodeAccess}
+use Rattle.pipe_model.specs.declared.event.RunLog.{RunLog}
 use Rattle.pipe_model.specs.declared.node.Node.{Node}
 use Rattle.pipe_model.specs.declared.report.Report.{Report}
 use Rattle.pipe_model.specs.declared.trap.TrapAt.{TrapAt}
 use Rattle.pipe_model.specs.FirstRaces.{AreFirstRaces}
-use Rattle.pipe_model.specs.Outcome.{serial_output, serial_trap}
+use Rattle.pipe_model.specs.Outcome.{serial_ended_columns, serial_output, serial_trap}
 use Rattle.pipe_model.specs.Programs.{pipeline_of}
 use Rattle.pipe_model.specs.Races.{IsRaceFree}
-use Rattle.pipe_model.specs.SerialElision.{serial_columns, serial_accesses}
+use Rattle.pipe_model.specs.SerialElision.{serial_columns, serial_accesses, serial_events}
 use Rattle.pipe_model.specs.Spelling.{IsFirstForm}
 use Rattle.pipe_model.specs.SyntaxTree.{SyntaxTree}
 use Rattle.pipe_model.specs.Texts.{output_lines, trap_line, refused_usage, refused_missing, refused_source, refused_input}
@@ -56,6 +57,10 @@ columns_of tree = serial_columns (pipeline_of tree [])
 abbrev pub accesses_of : SyntaxTree → List NodeAccess
 accesses_of tree = serial_accesses (pipeline_of tree [])
 
+-- the program's serial elision as a run, with an empty input: its columns and its events
+abbrev pub log_of : SyntaxTree → RunLog
+log_of tree = record { columns = serial_ended_columns (pipeline_of tree []); events = serial_events (pipeline_of tree []) }
+
 -- the dag of the program's serial elision has no race
 abbrev pub HasNoRace : SyntaxTree → Type 0
 HasNoRace tree = IsRaceFree (columns_of tree) (accesses_of tree)
@@ -67,11 +72,12 @@ pub data Outcome (tree : SyntaxTree) : ℕ → List ℕ → List Report → Type
   Finishes : HasNoRace tree → trap_of tree ≡ None → Outcome tree 0 (output_text tree) []
   Traps : (t : TrapAt) → HasNoRace tree → trap_of tree ≡ Some t → Outcome tree 3 (output_text tree ++ trap_line t) []
 
--- the row of a call by its words and the files: its status, its text and its reports. The first refusal in this order counts: the words, the source, the input
-pub data Row (words : List (List ℕ)) (content : Content) : ℕ → List ℕ → List Report → Type 0 where
-  NoCommand : ((source input : List ℕ) → words ≢ run_words source input) → Row words content 1 refused_usage []
-  SourceRefused : (source input : List ℕ) {text : List ℕ} → words ≡ run_words source input → SourceRefusal content source text → Row words content 1 text []
+-- the row of a call by its words and the files: its status, its text, its run log where the program is run, and its reports.
+-- The first refusal in this order counts: the words, the source, the input
+pub data Row (words : List (List ℕ)) (content : Content) : ℕ → List ℕ → Option RunLog → List Report → Type 0 where
+  NoCommand : ((source input : List ℕ) → words ≢ run_words source input) → Row words content 1 refused_usage None []
+  SourceRefused : (source input : List ℕ) {text : List ℕ} → words ≡ run_words source input → SourceRefusal content source text → Row words content 1 text None []
   InputRefused : (source input : List ℕ) {text : List ℕ} (tree : SyntaxTree) → words ≡ run_words source input → IsSourceOf content source tree
-      → InputRefusal content input text → Row words content 1 text []
+      → InputRefusal content input text → Row words content 1 text None []
   Runs : (source input : List ℕ) {status : ℕ} {text : List ℕ} {reports : List Report} (tree : SyntaxTree) → words ≡ run_words source input
-      → IsSourceOf content source tree → content input ≡ Some [] → Outcome tree status text reports → Row words content status text reports
+      → IsSourceOf content source tree → content input ≡ Some [] → Outcome tree status text reports → Row words content status text (Some (log_of tree)) reports

@@ -1,12 +1,14 @@
 //! The top call.
 
-ghost use Rattle.std.specs.Prelude.{◌≡◌, ◌≢◌, ℕ, ◌≤◌, ◌⊎◌, List, [], IfOk, IfSome, IfNone, OnErr};
+ghost use Rattle.std.specs.Prelude.{◌≡◌, ◌≢◌, ℕ, ◌≤◌, ◌⊎◌, ◌↔◌, List, [], IfOk, IfSome, IfNone, OnErr};
 ghost use Rattle.pipe_model.specs.Spelling.{IsFirstForm};
-ghost use Rattle.pipe_model.specs.SyntaxTree.{tree_of};
+ghost use Rattle.pipe_model.specs.SyntaxTree.{SyntaxTree, tree_of};
 ghost use Rattle.pipe_model.specs.Texts.{fault_read};
 ghost use Rattle.cilkp_program.specs.Answers.{IsAnswer, IsPrinted, IsCutShort, IsGivenUp};
 ghost use Rattle.cilkp_program.specs.Faults.{Grew, Rose};
-ghost use Rattle.cilkp_program.specs.Rows.{Outcome, words_of, run_words};
+ghost use Rattle.cilkp_program.specs.Headline.{AnswersRun, IsAccepted};
+ghost use Rattle.cilkp_program.specs.Rows.{Outcome, log_of, words_of, run_words};
+ghost use Rattle.cilkp_program.specs.RunTexts.{IsPrintedAs};
 
 use crate::files::Files;
 use crate::gate::Gate;
@@ -16,11 +18,14 @@ use crate::sink::Sink;
 use crate::text::{line, named_line, outcome_text};
 use crate::whole::{WriteEnd, write_text};
 use dag_build::dag::Dag;
+use pipe_model::event::RunLog;
 use pipe_model::list::{Bytes, Numbers};
 use pipe_model::memory::NoMemory;
 use pipe_model::report::Reports;
-use pipe_model::tree::Program;
-use serial_elision::elision::run_tree;
+use pipe_model::trap::TrapAt;
+use pipe_model::tree::{Declaration, Program};
+use serial_elision::elision::{SerialRun, run_tree};
+use serial_elision::events::serial_events;
 use std::alloc::Global;
 
 const FINISHED: u8 = 0;
@@ -41,17 +46,20 @@ pub struct Ended {
     /// 0: the run finished without a trap. 1: refused. 2: the program has a race. 3: the run trapped. 4: a read failed.
     /// 5: a write failed.
     pub status: u8,
-    /// How many bytes the sink took in the call.
-    pub written: u64,
+    /// The run of the program: its events, and its own columns; none where a refusal or a fault of reading came.
+    pub run_log: Option<RunLog>,
     /// The first race of each cell that has one, rising by cell; none where the program was not run.
     pub reports: Reports,
+    /// How many bytes the sink took in the call.
+    pub written: u64,
 }
 
-// A status, the text that is to be printed, and the reports of races.
+// A status, the text that is to be printed, the log of the run, and the reports of races.
 #[derive(Drop)]
 struct Answer {
     status: u8,
     text: Bytes,
+    run_log: Option<RunLog>,
     reports: Reports,
 }
 
@@ -72,55 +80,69 @@ fn file_names(words: &[String]) -> Option<(&str, &str)>
     }
 }
 
-// What a run of the program comes to: its races, or else its output and trap.
+// What is printed of a run with these reports of races, this output and this trap, and its status.
+fn printed_run(
+    alloc: Global,
+    cells: &[Declaration],
+    output: &Numbers,
+    trap: Option<TrapAt>,
+    reports: &Reports,
+) -> Result<(u8, Bytes), NoMemory>
+    ensures { IfOk result (λ r. IsPrintedAs cells.now output.now trap reports.now r.0 r.1) }
+{
+    if !reports.is_empty() {
+        return Ok((RACES, race_text(alloc, cells, reports)?));
+    }
+    let text = outcome_text(alloc, output, trap)?;
+    match trap {
+        None => Ok((FINISHED, text)),
+        Some(_) => Ok((TRAPPED, text)),
+    }
+}
+
+// What a run of the program comes to, with its log: the run is the serial one, one iteration after the other.
 fn run_program(alloc: Global, program: &Program) -> Result<Answer, NoMemory>
     requires { (bytes : List ℕ) × IsFirstForm bytes (tree_of program.now) }
-    ensures { IfOk result (λ a. Outcome (tree_of program.now) a.status a.text a.reports) }
+    ensures outcome { IfOk result (λ a. Outcome (tree_of program.now) a.status a.text a.reports) }
+    ensures log { IfOk result (λ a. a.run_log ≡ Some (log_of (tree_of program.now))) }
 {
-    let run = run_tree(alloc, program, &Numbers::new(alloc))?;
-    let dag = Dag::of(alloc, &run.columns)?;
-    let reports = dag.races(alloc, &run.accesses)?;
-    if !reports.is_empty() {
-        let text = race_text(alloc, program.cells.as_slice(), &reports)?;
-        return Ok(Answer {
-            status: RACES,
-            text,
-            reports,
-        });
-    }
-    let text = outcome_text(alloc, &run.output, run.trap)?;
-    match run.trap {
-        None => Ok(Answer {
-            status: FINISHED,
-            text,
-            reports,
-        }),
-        Some(_) => Ok(Answer {
-            status: TRAPPED,
-            text,
-            reports,
-        }),
-    }
+    let SerialRun {
+        output,
+        trap,
+        columns,
+        accesses,
+    } = run_tree(alloc, program, &Numbers::new(alloc))?;
+    let reports = Dag::of(alloc, &columns)?.races(alloc, &accesses)?;
+    let events = serial_events(alloc, &columns, &accesses)?;
+    let (status, text) = printed_run(alloc, program.cells.as_slice(), &output, trap, &reports)?;
+    Ok(Answer {
+        status,
+        text,
+        run_log: Some(RunLog { columns, events }),
+        reports,
+    })
 }
 
 // A refusal with its line.
 fn refused(alloc: Global, text: Bytes) -> Answer
-    ensures { result ≡ record { status = 1; text = text; reports = [] } }
+    ensures { result ≡ record { status = 1; text = text; run_log = None; reports = [] } }
 {
     Answer {
         status: REFUSED,
         text,
+        run_log: None,
         reports: Reports::new(alloc),
     }
 }
 
 // A fault of reading the file of this name.
 fn read_fault(alloc: Global, name: &str) -> Result<Answer, NoMemory>
-    ensures { IfOk result (λ a. a ≡ record { status = 4; text = fault_read name.now; reports = [] }) }
+    ensures { IfOk result (λ a. a ≡ record { status = 4; text = fault_read name.now; run_log = None; reports = [] }) }
 {
     Ok(Answer {
         status: READ_FAULT,
         text: named_line(alloc, "fault read ", name)?,
+        run_log: None,
         reports: Reports::new(alloc),
     })
 }
@@ -130,7 +152,7 @@ fn answer_for<F: Files>(alloc: Global, words: &[String], files: &mut F) -> Resul
     ensures keeps { F.holds files.new ≡ F.holds files.old }
     ensures grows { OnErr result (F.faults files.old ≤ F.faults files.new) }
     ensures answer { IfOk result (λ a. IsAnswer (words_of words.now) (F.holds files.old)
-        (F.faults files.old) (F.faults files.new) a.status a.text a.reports) }
+        (F.faults files.old) (F.faults files.new) a.status a.text a.run_log a.reports) }
 {
     let Some((source, input)) = file_names(words) else {
         return Ok(refused(alloc, line(alloc, "refused usage\n")?));
@@ -150,8 +172,9 @@ fn answer_for<F: Files>(alloc: Global, words: &[String], files: &mut F) -> Resul
 }
 
 /// Answers the words of a command, which are `run SOURCE INPUT`: all text goes to `out`, and what is answered is the
-/// status, how many bytes were taken and the reports of races. The source has to be of the first form, and the input
-/// empty. The runtime value and the gate are taken and not used yet. Fails for want of memory alone.
+/// status, the log of the run, the reports of races, and how many bytes were taken. The source has to be of the first
+/// form, and the input empty. The run is the serial one today, which is a run for every throttling limit of at least 1.
+/// The runtime value and the gate are taken and not used yet. Fails for want of memory alone.
 pub fn cilkp<R: Drop, F: Files, S: Sink, G: Gate + Sync>(
     _rt: R,
     alloc: Global,
@@ -160,18 +183,28 @@ pub fn cilkp<R: Drop, F: Files, S: Sink, G: Gate + Sync>(
     out: &mut S,
     _gate: &G,
 ) -> Result<Ended, NoMemory>
-    // The text of the call's row, or of its fault of reading, was taken whole, and the reports are those of the row.
+    // The headline: for every accepted program and throttling limit, where no fault came from outside, a call that returns
+    // reports a cell exactly when the run's own dag has two parallel conflicting accesses to it, reports some cell exactly
+    // when the serial elision's dag has such a pair, and otherwise prints exactly the serial elision's output and trap; at
+    // most the throttling limit of iterations are alive at any event.
+    ensures headline { IfOk result (λ e. ¬ (Rose (F.faults files.old) (F.faults files.new)) → ¬ (Rose (S.faults out.old) (S.faults out.new)) →
+        IfSome (F.holds files.old) (λ content. (tree : SyntaxTree) → IsAccepted (words_of words.now) content tree →
+        AnswersRun tree e.status e.written e.run_log e.reports (S.taken out.old) (S.taken out.new))) }
+
+    // The text of the call's row, or of its fault of reading, was taken whole; the run log and the reports are those of the row.
     ensures printed { IfOk result (λ e. e.status ≢ 5 →
         IsPrinted (words_of words.now) (F.holds files.old) (F.faults files.old) (F.faults files.new)
-        e.status e.written e.reports (S.taken out.old) (S.taken out.new)) }
+        e.status e.written e.run_log e.reports (S.taken out.old) (S.taken out.new)) }
     // After a fault of writing, a front of that text was taken.
     ensures cut_short { IfOk result (λ e. e.status ≡ 5 →
         IsCutShort (words_of words.now) (F.holds files.old) (F.faults files.old) (F.faults files.new)
-        e.written e.reports (S.taken out.old) (S.taken out.new)) }
+        e.written e.run_log e.reports (S.taken out.old) (S.taken out.new)) }
     // For want of memory, nothing was taken or a front of that text.
     ensures given_up { OnErr result
         (IsGivenUp (words_of words.now) (F.holds files.old) (F.faults files.old) (F.faults files.new)
         (S.taken out.old) (S.taken out.new)) }
+    // The run log is there exactly where neither a refusal nor a fault of reading came.
+    ensures logged { IfOk result (λ e. e.status ≢ 5 → (e.run_log ≡ None) ↔ ((e.status ≡ 1) ⊎ (e.status ≡ 4))) }
 
     // Each fault has its cause in this call, and is told where its count grew.
     ensures read_fault { IfOk result (λ e. e.status ≡ 4 → Rose (F.faults files.old) (F.faults files.new)) }
@@ -192,7 +225,8 @@ pub fn cilkp<R: Drop, F: Files, S: Sink, G: Gate + Sync>(
     };
     Ok(Ended {
         status,
-        written: written.count,
+        run_log: answer.run_log,
         reports: answer.reports,
+        written: written.count,
     })
 }

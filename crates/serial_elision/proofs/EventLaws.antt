@@ -1,7 +1,8 @@
 -- The columns and the accesses of the serial elision tell its events.
-use Rattle.std.proofs.Common.{◌≡◌, ◌∙◌, ap, refl, sym, ℕ, zero, suc, ◌+◌, ◌<◌, ◌≢◌, List, [], ◌∷◌, ◌++◌, append_assoc, Bool, true, false, take, drop, map, arith, add-one, cond, eqb}
+use Rattle.std.proofs.Common.{◌≡◌, ◌∙◌, ap, refl, sym, ℕ, zero, suc, ◌+◌, ◌<◌, ◌≢◌, List, [], ◌∷◌, ◌++◌, append_assoc, Bool, true, false, take, drop, map, length, ◌≤◌, arith, add-one}
 use Rattle.std.proofs.Common.{inl, inr, eq-eqb}
 use Rattle.std.proofs.lemmas.Bool.{ne_eqb}
+use Rattle.std.proofs.lemmas.List.{length-map}
 use Rattle.std.proofs.lemmas.Bool.Decides.{eqb_tells}
 use Rattle.pipe_model.specs.declared.access.Access.{Access}
 use Rattle.pipe_model.specs.declared.access.NodeAccess.{NodeAccess}
@@ -170,3 +171,20 @@ serial_traces_are_whole p (suc n) i before =
 -- the columns and the accesses of the serial elision tell its events
 pub events_are_serial : (p : Pipeline) → events_of 0 (serial_ended_columns p) (serial_accesses p) ≡ serial_events p
 events_are_serial p = traces_tell_events 0 (serial_traces p) (serial_traces_are_whole p (p.last_iteration + 1) 0 p.preamble)
+
+-- the serial elision has at most one iteration more than the last that is allowed
+unless_is_shorter : (b : Bool) (ts : List (List Action)) (n : ℕ) → length ts ≤ n → length (unless b ts) ≤ n
+unless_is_shorter true ts n w = omega arith
+unless_is_shorter false ts n w = w
+
+serial_traces_are_few : (p : Pipeline) (n i : ℕ) (before : List Access) → length (serial_traces_from p n i before) ≤ n
+serial_traces_are_few p zero i before = omega arith
+serial_traces_are_few p (suc n) i before =
+    let t : List Action = serial_trace p (p.behaviour i) before in
+    let h = unless_is_shorter (closes_loop t) _ n (serial_traces_are_few p n (i + 1) (before ++ accesses_in t)) in
+    omega (arith, h)
+
+pub serial_columns_are_few : (p : Pipeline) → length (serial_ended_columns p) ≤ p.last_iteration + 1
+serial_columns_are_few p =
+    let h = serial_traces_are_few p (p.last_iteration + 1) 0 p.preamble in
+    omega (arith, length-map (serial_traces p) ended_column, h)

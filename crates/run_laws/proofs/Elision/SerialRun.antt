@@ -4,12 +4,14 @@ use Rattle.std.proofs.Common.{◌+◌, false, arith, Bool, ◌<◌, suc, zero, r
 use Rattle.std.proofs.lemmas.Bool.{false≢true, cases_Bool}
 use Rattle.std.proofs.lemmas.List.{map-append, length_push}
 use Rattle.pipe_model.specs.Allowed.{ClosesLoop, ContinuesLoop}
-use Rattle.pipe_model.specs.Behaviour.{Action, column_of, closes_loop, nodes_in, is_closing, accesses_in}
+use Rattle.pipe_model.specs.Behaviour.{Action, column_of, closes_loop, nodes_in, is_closing, accesses_in, trace_end}
+use Rattle.pipe_model.specs.Outcome.{ended_column}
 use Rattle.pipe_model.specs.Pipeline.{Pipeline, IsWellFormed, AlwaysClosesLoop}
 use Rattle.pipe_model.specs.Run.{Run, EmptyRun}
+use Rattle.pipe_model.specs.RunLogs.{column_of_frame}
 use Rattle.pipe_model.specs.SerialElision.{trace_events_from, located_from, trace_events, located, unless, serial_traces_from, serial_trace}
 use Rattle.pipe_model.specs.SerialElision.{serial_traces, serial_accesses}
-use Rattle.pipe_model.specs.State.{Frame, frame_at, fresh_frame, accesses_of}
+use Rattle.pipe_model.specs.State.{Frame, frame_at, fresh_frame, accesses_of, end_of_status}
 use Rattle.pipe_model.specs.declared.access.Access.{Access as Cell_access}
 use Rattle.pipe_model.specs.declared.access.NodeAccess.{NodeAccess}
 use Rattle.pipe_model.specs.declared.event.Event.{Event}
@@ -19,7 +21,7 @@ use Rattle.run_laws.proofs.Elision.SerialIterations.{HasRunOn, run_as, run_itera
 use Rattle.run_laws.proofs.Elision.SerialSteps.{completed_state, completed_push, AllContinueLoop, then_begin, frame_at_last_cases}
 use Rattle.run_laws.proofs.Iterations.LocatedActions.{accesses_of-located}
 use Rattle.run_laws.proofs.Iterations.SerialTraces.{serial_trace_closes}
-use Rattle.run_laws.proofs.Iterations.TraceParts.{closes_loop_cases}
+use Rattle.run_laws.proofs.Iterations.TraceParts.{closes_loop_cases, trace_end_is}
 use Rattle.run_laws.proofs.RunStates.Completed.{AllCompleted}
 use Rattle.run_laws.proofs.RunStates.Frames.{frame_at_last}
 use Rattle.run_laws.specs.SerialLaws.{SerialElisionIsARun}
@@ -31,8 +33,16 @@ record HasRunAll (p : Pipeline) (limit : ℕ) (events : List Event) (fs : List F
   run : Run p limit (events ++ trace_events_from (length fs) traces)
       (completed_state frames (accesses ++ located_from (length fs) traces))
   columns : map (λ f. f.nodes) frames ≡ map (λ f. f.nodes) fs ++ map column_of traces
+  ended : map column_of_frame frames ≡ map column_of_frame fs ++ map ended_column traces
   over : AllCompleted frames
   shut : (i : ℕ) × (f : Frame) × (frame_at frames i ≡ Some f) × ClosesLoop f.status f.nodes
+
+-- the frame of an iteration that has run to its end is its column with its end
+frame_ends : (p : Pipeline) (limit : ℕ) (events : List Event) (fs : List Frame) (accesses : List NodeAccess) (actions : List Action)
+    → (w : HasRunOn p limit events fs fresh_frame accesses actions) → column_of_frame w.frame ≡ ended_column actions
+frame_ends p limit events fs accesses actions w =
+    let end : end_of_status w.frame.status ≡ trace_end actions = ap end_of_status w.over ∙ sym (trace_end_is actions w.end w.ended) in
+    λ i. record { nodes = w.nodes i; end = end i }
 
 -- an iteration that closes the loop is the last
 runs_last : (p : Pipeline) (limit : ℕ) (events : List Event) (fs : List Frame) (accesses : List NodeAccess)
@@ -53,6 +63,8 @@ runs_last p limit events fs accesses actions all w shut =
           (ap (λ l. accesses ++ l) (sym (append-nil (located (length fs) 0 actions)))) w.run;
       columns = map-append (λ (f : Frame). f.nodes) fs (w.frame ∷ [])
           ∙ ap (λ l. map (λ (f : Frame). f.nodes) fs ++ l ∷ []) w.nodes;
+      ended = map-append column_of_frame fs (w.frame ∷ [])
+          ∙ ap (λ c. map column_of_frame fs ++ c ∷ []) (frame_ends p limit _ fs accesses actions w);
       over = completed_push fs w.frame w.end all w.over;
       shut = (
         length fs,
@@ -91,6 +103,9 @@ runs_more p limit events fs accesses actions traces w h =
       columns = h.columns ∙ ap (λ l. l ++ map column_of traces) (map-append (λ (f : Frame). f.nodes) fs (w.frame ∷ [])
           ∙ ap (λ l. map (λ (f : Frame). f.nodes) fs ++ l ∷ []) w.nodes)
           ∙ append_assoc (map (λ (f : Frame). f.nodes) fs) (column_of actions ∷ []) (map column_of traces);
+      ended = h.ended ∙ ap (λ l. l ++ map ended_column traces) (map-append column_of_frame fs (w.frame ∷ [])
+          ∙ ap (λ c. map column_of_frame fs ++ c ∷ []) (frame_ends p limit _ fs accesses actions w))
+          ∙ append_assoc (map column_of_frame fs) (ended_column actions ∷ []) (map ended_column traces);
       over = h.over;
       shut = h.shut;
     }
@@ -189,5 +204,6 @@ serial_elision_is_a_run p limit proper room =
       run = r.run;
       finished = record { over = r.over; shut = r.shut; going = refl };
       columns = r.columns;
+      ended = r.ended;
       accesses = refl;
     }

@@ -29,5 +29,6 @@ returns-in-Failed-2-clause-answer g c =
 
 pub returns-clause-answer : goal.returns-clause-answer
 returns-clause-answer g c =
-    answer_of_run _ _ _ _ _ _ _ _ _ _ _ _ c.in-Some.ensures.some c.in_ok-program.ensures.keeps (rw c.in-Program.is at c.in_ok-program.ensures.cause)
-    (rw c.in-Empty.is at c.in_ok-load_input.ensures.cause) (rw c.in-Program.is at c.in_ok-program.ensures.told) (rw c.in-Empty.is at c.in_ok-load_input.ensures.told) c.in_ok-answer.ensures
+    rw c.in_ok-answer.ensures.log (answer_of_run _ _ _ _ _ _ _ _ _ _ _ _ c.in-Some.ensures.some c.in_ok-program.ensures.keeps
+    (rw c.in-Program.is at c.in_ok-program.ensures.cause) (rw c.in-Empty.is at c.in_ok-load_input.ensures.cause)
+    (rw c.in-Program.is at c.in_ok-program.ensures.told) (rw c.in-Empty.is at c.in_ok-load_input.ensures.told) c.in_ok-answer.ensures.outcome)

@@ -1,0 +1,162 @@
+-- The row of an accepted program meets the headline.
+use Rattle.std.proofs.Common.{◌≡◌, ◌≢◌, ◌≤◌, ◌∙◌, ◌⊎◌, ◌↔◌, ◌++◌, ◌+◌, ℕ, List, [], Option, Some, None, IfSome, length, map, refl, ap, sym, subst, inl, inr, arith, append-nil}
+use Rattle.pipe_model.specs.declared.event.Event.{Event}
+use Rattle.pipe_model.specs.declared.event.RunLog.{RunLog}
+use Rattle.pipe_model.specs.declared.report.Report.{Report}
+use Rattle.pipe_model.specs.declared.trap.TrapAt.{TrapAt}
+use Rattle.pipe_model.specs.FirstRaces.{AreFirstRaces}
+use Rattle.pipe_model.specs.Outcome.{serial_ended_columns}
+use Rattle.pipe_model.specs.Pipeline.{Pipeline}
+use Rattle.pipe_model.specs.Programs.{pipeline_of}
+use Rattle.pipe_model.specs.Reports.{AreRight}
+use Rattle.pipe_model.specs.Run.{Run, IsFinished}
+use Rattle.pipe_model.specs.RunLogs.{IsFinishedRun, accesses_after, column_of_frame, columns_after, state_after}
+use Rattle.pipe_model.specs.SerialElision.{serial_accesses, serial_columns, serial_events}
+use Rattle.pipe_model.specs.Spelling.{IsFirstForm}
+use Rattle.pipe_model.specs.State.{State, own_columns}
+use Rattle.pipe_model.specs.SyntaxTree.{SyntaxTree}
+use Rattle.pipe_model.specs.Texts.{trap_line, trap_lines}
+use Rattle.pipe_model.specs.Throttling.{IsThrottled}
+use Rattle.pipe_model.proofs.Members.{none_among}
+use Rattle.dag_build.proofs.FirstRaceLaws.{first_races_are_right, no_report_is_race_free}
+use Rattle.language_laws.proofs.WellFormed.{first_form_is_well_formed}
+use Rattle.run_laws.proofs.Elision.SerialRun.{serial_elision_is_a_run}
+use Rattle.run_laws.proofs.RunStates.FrontAndBack.{run_state_is}
+use Rattle.run_laws.proofs.RunStates.IterationCounts.{runs_keep_rules}
+use Rattle.run_laws.specs.RunLaws.{KeepsRules}
+use Rattle.run_laws.specs.SerialLaws.{HasSerialRun}
+use Rattle.cilkp_program.specs.Answers.{HasTaken, IsAnswer, OfRow, SourceFault, InputFault, IsPrinted}
+use Rattle.cilkp_program.specs.CellNames.{race_lines}
+use Rattle.cilkp_program.specs.Faults.{Rose}
+use Rattle.cilkp_program.specs.Headline.{AnswersRun, IsAccepted, MeetsHeadline}
+use Rattle.cilkp_program.specs.Reads.{Content}
+use Rattle.cilkp_program.specs.Rows.{HasNoRace, IsSourceOf, Outcome, Races, Finishes, Traps, Row, NoCommand, SourceRefused, InputRefused, Runs, accesses_of, columns_of, log_of, output_text, run_words, trap_of}
+use Rattle.cilkp_program.proofs.OneRow.{inputs_same, one_source, refused_not_built, refused_not_empty, sources_same}
+
+-- the log of the serial elision tells a finished run, and its own columns and accesses are those of the elision
+record IsSerialLog (tree : SyntaxTree) (limit : ℕ) : Type 0 where
+  run : IsFinishedRun (pipeline_of tree []) limit (log_of tree)
+  columns : columns_after (log_of tree).events ≡ columns_of tree
+  accesses : accesses_after (log_of tree).events ≡ accesses_of tree
+  throttled : IsThrottled limit (log_of tree).events
+
+-- so it is for every program of the first form and every limit of at least 1
+serial_log : (source : List ℕ) (tree : SyntaxTree) (limit : ℕ) → IsFirstForm source tree → 1 ≤ limit → IsSerialLog tree limit
+serial_log source tree limit form room =
+    let p : Pipeline = pipeline_of tree [] in
+    let h : HasSerialRun p limit = serial_elision_is_a_run p limit (first_form_is_well_formed source tree [] form) (omega arith) in
+    let e : h.state ≡ state_after (serial_events p) = run_state_is h.run in
+    let rules : KeepsRules limit (serial_events p) h.state = runs_keep_rules p limit (serial_events p) h.state h.run in
+    record {
+      run = record {
+        run = subst (λ t. Run p limit (serial_events p) t) e h.run;
+        finished = subst IsFinished e h.finished;
+        columns = sym h.ended ∙ ap (λ (t : State). map column_of_frame t.frames) e;
+      };
+      columns = sym (ap own_columns e) ∙ h.columns;
+      accesses = sym (ap (λ (t : State). t.accesses) e) ∙ h.accesses;
+      throttled = rules.throttled;
+    }
+
+-- reports that are right for the elision are right for the run of its log
+reports_are_right : (tree : SyntaxTree) (limit : ℕ) (reports : List Report) → IsSerialLog tree limit → AreRight (columns_of tree) (accesses_of tree) reports
+    → AreRight (columns_after (log_of tree).events) (accesses_after (log_of tree).events) reports
+reports_are_right tree limit reports h right = rw (h.columns, h.accesses) right
+
+-- where the elision has no race, no report is right
+none_are_right : (tree : SyntaxTree) → HasNoRace tree → AreRight (columns_of tree) (accesses_of tree) []
+none_are_right tree free = record {
+  name = λ r among. absurd (none_among r among);
+  all = λ a b race. absurd (free a b race);
+}
+
+-- what a program comes to, by its log
+outcome_meets : (source : List ℕ) (tree : SyntaxTree) (limit : ℕ) {status : ℕ} {text : List ℕ} {reports : List Report} → IsFirstForm source tree → 1 ≤ limit
+    → Outcome tree status text reports → MeetsHeadline tree limit (log_of tree) reports status text
+outcome_meets source tree limit form room (Races reports some first) =
+    let h = serial_log source tree limit form room in
+    record {
+      run = h.run;
+      reported = reports_are_right tree limit reports h (first_races_are_right (columns_of tree) (accesses_of tree) reports first);
+      silent = no_report_is_race_free (columns_of tree) (accesses_of tree) reports first;
+      racy = (λ e. some, λ e. refl);
+      races = λ e. refl;
+      otherwise = λ free. absurd (some free);
+      trapped = ((λ e. absurd (omega (arith, e))), λ free. absurd (some free.0));
+      finished = ((λ e. absurd (omega (arith, e))), λ free. absurd (some free.0));
+      throttled = h.throttled;
+    }
+outcome_meets source tree limit form room (Finishes free ends) =
+    let h = serial_log source tree limit form room in
+    record {
+      run = h.run;
+      reported = reports_are_right tree limit [] h (none_are_right tree free);
+      silent = (λ e. free, λ e. refl);
+      racy = ((λ e. absurd (omega (arith, e))), λ some. absurd (some free));
+      races = λ e. absurd (omega (arith, e));
+      otherwise = λ e. sym (append-nil (output_text tree)) ∙ ap (λ t. output_text tree ++ trap_lines t) (sym ends);
+      trapped = ((λ e. absurd (omega (arith, e))), λ some. absurd (some.1 ends));
+      finished = (λ e. (free, ends), λ e. refl);
+      throttled = h.throttled;
+    }
+outcome_meets source tree limit form room (Traps t free ends) =
+    let h = serial_log source tree limit form room in
+    record {
+      run = h.run;
+      reported = reports_are_right tree limit [] h (none_are_right tree free);
+      silent = (λ e. free, λ e. refl);
+      racy = ((λ e. absurd (omega (arith, e))), λ some. absurd (some free));
+      races = λ e. absurd (omega (arith, e));
+      otherwise = λ e. ap (λ t. output_text tree ++ trap_lines t) (sym ends);
+      trapped = (λ e. (free, traps ends), λ e. refl);
+      finished = ((λ e. absurd (omega (arith, e))), λ none. absurd (traps ends none.1));
+      throttled = h.throttled;
+    }
+  where
+    traps : {at : TrapAt} → trap_of tree ≡ Some at → trap_of tree ≢ None
+    traps {at} some none = let d : None ≡ Some at = sym none ∙ some in cc (d)
+
+-- the status of an outcome
+outcome_status : {tree : SyntaxTree} {status : ℕ} {text : List ℕ} {reports : List Report} → Outcome tree status text reports
+    → (status ≡ 0) ⊎ ((status ≡ 2) ⊎ (status ≡ 3))
+outcome_status (Races reports some first) = inr (inl refl)
+outcome_status (Finishes free ends) = inl refl
+outcome_status (Traps t free ends) = inr (inr refl)
+
+-- the row of an accepted program is that of its run
+record IsRunOf (tree : SyntaxTree) (status : ℕ) (text : List ℕ) (log : Option RunLog) (reports : List Report) : Type 0 where
+  logged : log ≡ Some (log_of tree)
+  outcome : Outcome tree status text reports
+
+accepted_row : {words : List (List ℕ)} {content : Content} {status : ℕ} {text : List ℕ} {log : Option RunLog} {reports : List Report} (tree : SyntaxTree)
+    → IsAccepted words content tree → Row words content status text log reports → IsRunOf tree status text log reports
+accepted_row tree a (NoCommand n) = absurd (n a.source a.input a.command)
+accepted_row tree a (SourceRefused s i w r) = absurd (refused_not_built tree r (rw (sources_same _ s a.source i a.input w a.command) a.program))
+accepted_row tree a (InputRefused s i other w o r) = absurd (refused_not_empty r (rw (inputs_same _ s a.source i a.input w a.command) a.empty))
+accepted_row tree a (Runs s i other w o e r) =
+    let same : other ≡ tree = one_source other tree o (rw (sources_same _ s a.source i a.input w a.command) a.program) in
+    record { logged = ap (λ t. Some (log_of t)) same; outcome = rw (← same) r }
+
+-- what a call answers for an accepted program, where no read failed
+answer_meets : {words : List (List ℕ)} {content : Content} {before now status : ℕ} {text : List ℕ} {log : Option RunLog} {reports : List Report} (tree : SyntaxTree)
+    → ¬ (Rose before now) → IsAccepted words content tree → IsAnswer words (Some content) before now status text log reports → IsRunOf tree status text log reports
+answer_meets tree calm a (OfRow same small row) = accepted_row tree a row
+answer_meets tree calm a (SourceFault s i grew rose w) = absurd (calm rose)
+answer_meets tree calm a (InputFault s i grew rose w of) = absurd (calm rose)
+
+-- the headline of a call whose text was taken whole
+pub printed_meets : (words : List (List ℕ)) (holds : Option Content) (before now status written : ℕ) (log : Option RunLog) (reports : List Report)
+    (taken_before taken_now : Option (List ℕ)) → ¬ (Rose before now) → IsPrinted words holds before now status written log reports taken_before taken_now
+    → IfSome holds (λ content. (tree : SyntaxTree) → IsAccepted words content tree → AnswersRun tree status written log reports taken_before taken_now)
+printed_meets words None before now status written log reports taken_before taken_now calm printed = tt
+printed_meets words (Some content) before now status written log reports taken_before taken_now calm printed = λ tree a. (
+    let h = answer_meets tree calm a printed.answer in
+    record {
+      log = log_of tree;
+      logged = h.logged;
+      text = printed.text;
+      whole = printed.whole;
+      taken = printed.taken;
+      complete = outcome_status h.outcome;
+      meets = λ limit room. outcome_meets a.program.bytes tree limit a.program.form room h.outcome;
+    })

@@ -1,0 +1,52 @@
+-- The headline: what a call promises of a program that it accepts, whatever the throttling limit.
+use Rattle.std.specs.Prelude.{◌≡◌, ◌≢◌, ◌≤◌, ◌⊎◌, ◌↔◌, ◌++◌, ℕ, List, [], length, Option, Some, None}
+use Rattle.pipe_model.specs.declared.event.RunLog.{RunLog}
+use Rattle.pipe_model.specs.declared.report.Report.{Report}
+use Rattle.pipe_model.specs.declared.trap.TrapAt.{TrapAt}
+use Rattle.pipe_model.specs.Programs.{pipeline_of}
+use Rattle.pipe_model.specs.Reports.{AreRight}
+use Rattle.pipe_model.specs.RunLogs.{IsFinishedRun, accesses_after, columns_after}
+use Rattle.pipe_model.specs.SyntaxTree.{SyntaxTree}
+use Rattle.pipe_model.specs.Texts.{trap_lines}
+use Rattle.pipe_model.specs.Throttling.{IsThrottled}
+use Rattle.cilkp_program.specs.Answers.{HasTaken}
+use Rattle.cilkp_program.specs.CellNames.{race_lines}
+use Rattle.cilkp_program.specs.Reads.{Content}
+use Rattle.cilkp_program.specs.Rows.{HasNoRace, IsSourceOf, output_text, run_words, trap_of}
+
+-- the words are a command whose source spells the program and whose input is empty
+pub record IsAccepted (words : List (List ℕ)) (content : Content) (tree : SyntaxTree) : Type 0 where
+  pub source : List ℕ
+  pub input : List ℕ
+  pub command : words ≡ run_words source input
+  pub program : IsSourceOf content source tree
+  pub empty : content input ≡ Some []
+
+-- a run of the program under the throttling limit, by its log, its reports, and the status and the text of the call
+pub record MeetsHeadline (tree : SyntaxTree) (limit : ℕ) (log : RunLog) (reports : List Report) (status : ℕ) (text : List ℕ) : Type 0 where
+  -- the log tells a finished run of the program on its input, with the run's own columns
+  pub run : IsFinishedRun (pipeline_of tree []) limit log
+  -- a cell is reported exactly when two conflicting accesses to it are parallel in the run's own dag
+  pub reported : AreRight (columns_after log.events) (accesses_after log.events) reports
+  -- no cell is reported exactly when the dag of the serial elision has no race
+  pub silent : (reports ≡ []) ↔ HasNoRace tree
+  -- status 2 comes exactly when the dag of the serial elision has a race, and the races are printed
+  pub racy : (status ≡ 2) ↔ (HasNoRace tree → ⊥)
+  pub races : status ≡ 2 → text ≡ race_lines tree.cells reports
+  -- otherwise the output and the trap of the serial elision are printed, with status 3 exactly when it has a trap
+  pub otherwise : HasNoRace tree → text ≡ output_text tree ++ trap_lines (trap_of tree)
+  pub trapped : (status ≡ 3) ↔ (HasNoRace tree × (trap_of tree ≢ None))
+  pub finished : (status ≡ 0) ↔ (HasNoRace tree × (trap_of tree ≡ None))
+  -- at most the throttling limit of iterations are alive at any event
+  pub throttled : IsThrottled limit log.events
+
+-- the call has answered with the log of a run that meets the headline, whatever the limit, and its text was taken whole.
+-- There is no other answer for an accepted program: the status is 0, 2 or 3
+pub record AnswersRun (tree : SyntaxTree) (status written : ℕ) (run_log : Option RunLog) (reports : List Report) (taken_before taken_now : Option (List ℕ)) : Type 0 where
+  pub log : RunLog
+  pub logged : run_log ≡ Some log
+  pub text : List ℕ
+  pub whole : written ≡ length text
+  pub taken : HasTaken written text taken_before taken_now
+  pub complete : (status ≡ 0) ⊎ ((status ≡ 2) ⊎ (status ≡ 3))
+  pub meets : (limit : ℕ) → 1 ≤ limit → MeetsHeadline tree limit log reports status text

@@ -1,0 +1,13 @@
+-- What a run prints, told by its reports of races, its output and its trap.
+use Rattle.std.specs.Prelude.{◌≡◌, ◌≢◌, ℕ, ℤ, List, [], ◌++◌, Option, Some, None}
+use Rattle.pipe_model.specs.declared.report.Report.{Report}
+use Rattle.pipe_model.specs.declared.trap.TrapAt.{TrapAt}
+use Rattle.pipe_model.specs.declared.tree.Declaration.{Declaration}
+use Rattle.pipe_model.specs.Texts.{output_lines, trap_line}
+use Rattle.cilkp_program.specs.CellNames.{race_lines}
+
+-- the status and the text of a run: its races where there are any, or else its output and its trap
+pub data IsPrintedAs (cells : List Declaration) (output : List ℤ) (trap : Option TrapAt) (reports : List Report) : ℕ → List ℕ → Type 0 where
+  WithRaces : reports ≢ [] → IsPrintedAs cells output trap reports 2 (race_lines cells reports)
+  ToItsEnd : reports ≡ [] → trap ≡ None → IsPrintedAs cells output trap reports 0 (output_lines output)
+  WithTrap : (t : TrapAt) → reports ≡ [] → trap ≡ Some t → IsPrintedAs cells output trap reports 3 (output_lines output ++ trap_line t)
