@@ -1,11 +1,18 @@
--- What stands in a sink that took no more.
+-- What stands in a sink that has taken a text, or that took no more.
 use Rattle.std.proofs.Common.{◌≡◌, ◌≢◌, ◌≤◌, ◌↔◌, ℕ, List, length, Option, inr, arith}
 use Rattle.pipe_model.specs.declared.event.RunLog.{RunLog}
 use Rattle.pipe_model.specs.declared.report.Report.{Report}
-use Rattle.cilkp_program.specs.Answers.{IsAnswer, OfRow, SourceFault, InputFault, IsCutShort, IsGivenUp, HasTaken}
+use Rattle.cilkp_program.specs.Answers.{IsAnswer, IsCutShort, IsGivenUp, IsPrinted, HasTaken}
 use Rattle.cilkp_program.specs.Reads.{Content}
 use Rattle.cilkp_program.specs.declared.whole.WriteEnd.{WriteEnd}
 use Rattle.cilkp_program.specs.declared.whole.WriteEnd.TheVariants as ends
+
+-- a text that was written whole was printed
+pub text_whole : (words : List (List ℕ)) (holds : Option Content) (before now status written : ℕ) (text : List ℕ) (log : Option RunLog) (reports : List Report)
+    (taken_before taken_now : Option (List ℕ)) → IsAnswer words holds before now status text log reports → written ≡ length text → HasTaken written text taken_before taken_now
+    → IsPrinted words holds before now status written log reports taken_before taken_now
+text_whole words holds before now status written text log reports taken_before taken_now answer whole taken =
+    record { text = text; answer = answer; whole = whole; taken = taken }
 
 -- a text that was not written whole was cut short
 pub text_cut_short : (words : List (List ℕ)) (holds : Option Content) (before now status written : ℕ) (text : List ℕ) (log : Option RunLog) (reports : List Report)
@@ -23,11 +30,3 @@ text_cut_short words holds before now status written text log reports taken_befo
 pub given_up_writing : (words : List (List ℕ)) (holds : Option Content) (before now written : ℕ) (log : Option RunLog) (reports : List Report)
     (taken_before taken_now : Option (List ℕ)) → IsCutShort words holds before now written log reports taken_before taken_now → IsGivenUp words holds before now taken_before taken_now
 given_up_writing words holds before now written log reports taken_before taken_now cut = inr (written, log, reports, cut)
-
--- no answer has the status of a fault of writing
-pub no_write_fault : {words : List (List ℕ)} {holds : Option Content} {before now status : ℕ} {text : List ℕ} {log : Option RunLog} {reports : List Report}
-    → IsAnswer words holds before now status text log reports
-    → status ≡ 5 → ⊥
-no_write_fault (OfRow same small row) five = omega (arith, small, five)
-no_write_fault (SourceFault source input grew rose w) five = absurd (omega (arith, five))
-no_write_fault (InputFault source input grew rose w of) five = absurd (omega (arith, five))

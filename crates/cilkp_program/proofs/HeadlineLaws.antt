@@ -30,8 +30,9 @@ use Rattle.cilkp_program.specs.CellNames.{race_lines}
 use Rattle.cilkp_program.specs.Faults.{Rose}
 use Rattle.cilkp_program.specs.Headline.{AnswersRun, IsAccepted, MeetsHeadline}
 use Rattle.cilkp_program.specs.Reads.{Content}
-use Rattle.cilkp_program.specs.Rows.{HasNoRace, IsSourceOf, Outcome, Races, Finishes, Traps, Row, NoCommand, SourceRefused, InputRefused, Runs, accesses_of, columns_of, log_of, output_text, run_words, trap_of}
-use Rattle.cilkp_program.proofs.OneRow.{inputs_same, one_source, refused_not_built, refused_not_empty, sources_same}
+use Rattle.cilkp_program.specs.Rows.{HasNoRace, Held, Outcome, Races, Finishes, Traps, Row, NoCommand, SourceRefused, InputRefused, Runs, accesses_of, columns_of, log_of, output_text, run_words, trap_of}
+use Rattle.cilkp_program.proofs.AnswerStatus.{outcome_status}
+use Rattle.cilkp_program.proofs.OneRow.{one_source, refused_not_built, refused_not_empty}
 
 -- the log of the serial elision tells a finished run, and its own columns and accesses are those of the elision
 record IsSerialLog (tree : SyntaxTree) (limit : ℕ) : Type 0 where
@@ -116,33 +117,28 @@ outcome_meets source tree limit form room (Traps t free ends) =
     traps : {at : TrapAt} → trap_of tree ≡ Some at → trap_of tree ≢ None
     traps {at} some none = let d : None ≡ Some at = sym none ∙ some in cc (d)
 
--- the status of an outcome
-outcome_status : {tree : SyntaxTree} {status : ℕ} {text : List ℕ} {reports : List Report} → Outcome tree status text reports
-    → (status ≡ 0) ⊎ ((status ≡ 2) ⊎ (status ≡ 3))
-outcome_status (Races reports some first) = inr (inl refl)
-outcome_status (Finishes free ends) = inl refl
-outcome_status (Traps t free ends) = inr (inr refl)
-
 -- the row of an accepted program is that of its run
 record IsRunOf (tree : SyntaxTree) (status : ℕ) (text : List ℕ) (log : Option RunLog) (reports : List Report) : Type 0 where
   logged : log ≡ Some (log_of tree)
   outcome : Outcome tree status text reports
 
-accepted_row : {words : List (List ℕ)} {content : Content} {status : ℕ} {text : List ℕ} {log : Option RunLog} {reports : List Report} (tree : SyntaxTree)
-    → IsAccepted words content tree → Row words content status text log reports → IsRunOf tree status text log reports
-accepted_row tree a (NoCommand n) = absurd (n a.source a.input a.command)
-accepted_row tree a (SourceRefused s i w r) = absurd (refused_not_built tree r (rw (sources_same _ s a.source i a.input w a.command) a.program))
-accepted_row tree a (InputRefused s i other w o r) = absurd (refused_not_empty r (rw (inputs_same _ s a.source i a.input w a.command) a.empty))
-accepted_row tree a (Runs s i other w o e r) =
-    let same : other ≡ tree = one_source other tree o (rw (sources_same _ s a.source i a.input w a.command) a.program) in
+accepted_row : {words : List (List ℕ)} {content : Content} {held : Held} {status : ℕ} {text : List ℕ} {log : Option RunLog} {reports : List Report} (tree : SyntaxTree)
+    → (a : IsAccepted words content tree) → content a.source ≡ held.source → content a.input ≡ held.input → Row words held status text log reports
+    → IsRunOf tree status text log reports
+accepted_row tree a s i (NoCommand n) = absurd (n a.source a.input a.command)
+accepted_row tree a s i (SourceRefused source input w r) = absurd (refused_not_built tree r (rw (← s) a.program))
+accepted_row tree a s i (InputRefused source input other w o r) = absurd (refused_not_empty r (sym i ∙ a.empty))
+accepted_row tree a s i (Runs source input other w o e r) =
+    let same : other ≡ tree = one_source other tree o (rw (← s) a.program) in
     record { logged = ap (λ t. Some (log_of t)) same; outcome = rw (← same) r }
 
 -- what a call answers for an accepted program, where no read failed
 answer_meets : {words : List (List ℕ)} {content : Content} {before now status : ℕ} {text : List ℕ} {log : Option RunLog} {reports : List Report} (tree : SyntaxTree)
     → ¬ (Rose before now) → IsAccepted words content tree → IsAnswer words (Some content) before now status text log reports → IsRunOf tree status text log reports
-answer_meets tree calm a (OfRow same small row) = accepted_row tree a row
+answer_meets tree calm a (OfRow same row) =
+    let both = row.told a.source a.input a.command in accepted_row tree a both.0 both.1 row.row
 answer_meets tree calm a (SourceFault s i grew rose w) = absurd (calm rose)
-answer_meets tree calm a (InputFault s i grew rose w of) = absurd (calm rose)
+answer_meets tree calm a (InputFault s i file other grew rose w told of) = absurd (calm rose)
 
 -- the headline of a call whose text was taken whole
 pub printed_meets : (words : List (List ℕ)) (holds : Option Content) (before now status written : ℕ) (log : Option RunLog) (reports : List Report)

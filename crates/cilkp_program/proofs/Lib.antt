@@ -8,3 +8,4 @@ pub mod RaceText
 pub mod RunTexts
 pub mod OneReports
 pub mod HeadlineLaws
+pub mod AnswerStatus

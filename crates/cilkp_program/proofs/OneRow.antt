@@ -7,8 +7,7 @@ use Rattle.pipe_model.specs.Texts.{trap_line}
 use Rattle.pipe_model.proofs.OneSpelling.{one_spelling}
 use Rattle.cilkp_program.proofs.OneReports.{one_first_races}
 use Rattle.cilkp_program.specs.CellNames.{race_lines}
-use Rattle.cilkp_program.specs.Reads.{Content}
-use Rattle.cilkp_program.specs.Rows.{run_words, IsSourceOf, SourceRefusal, SourceMissing, SourceNotBuilt, InputRefusal, InputMissing, InputNotEmpty, Outcome, Races, Finishes, Traps, columns_of, accesses_of, log_of, output_text, Row, NoCommand, SourceRefused, InputRefused, Runs}
+use Rattle.cilkp_program.specs.Rows.{Held, run_words, IsSourceOf, SourceRefusal, SourceMissing, SourceNotBuilt, InputRefusal, InputMissing, InputNotEmpty, Outcome, Races, Finishes, Traps, columns_of, accesses_of, log_of, output_text, Row, NoCommand, SourceRefused, InputRefused, Runs}
 
 -- a status, a text and reports are the same as others
 abbrev pub AreSame : (status other : ℕ) (text other_text : List ℕ) (reports other_reports : List Report) → Type 0
@@ -23,31 +22,31 @@ one_held : (file : Option (List ℕ)) (bytes others : List ℕ) → file ≡ Som
 one_held file bytes others h g = let e : Some bytes ≡ Some others = sym h ∙ g in cc (e)
 
 -- a source has one line of refusal
-one_source_refusal : {content : Content} {name text other : List ℕ} → SourceRefusal content name text → SourceRefusal content name other → text ≡ other
+one_source_refusal : {file : Option (List ℕ)} {name text other : List ℕ} → SourceRefusal name file text → SourceRefusal name file other → text ≡ other
 one_source_refusal (SourceMissing m) (SourceMissing m') = refl
 one_source_refusal (SourceMissing m) (SourceNotBuilt bytes h n) = absurd (missing_not_held _ bytes m h)
 one_source_refusal (SourceNotBuilt bytes h n) (SourceMissing m) = absurd (missing_not_held _ bytes m h)
 one_source_refusal (SourceNotBuilt bytes h n) (SourceNotBuilt bytes' h' n') = refl
 
 -- a source that is refused is no source of a program
-pub refused_not_built : {content : Content} {name text : List ℕ} (tree : SyntaxTree) → SourceRefusal content name text → IsSourceOf content name tree → ⊥
+pub refused_not_built : {file : Option (List ℕ)} {name text : List ℕ} (tree : SyntaxTree) → SourceRefusal name file text → IsSourceOf file tree → ⊥
 refused_not_built tree (SourceMissing m) s = missing_not_held _ s.bytes m s.held
 refused_not_built tree (SourceNotBuilt bytes h n) s = n tree (rw (one_held _ bytes s.bytes h s.held) s.form)
 
 -- an input has one line of refusal
-one_input_refusal : {content : Content} {name text other : List ℕ} → InputRefusal content name text → InputRefusal content name other → text ≡ other
+one_input_refusal : {file : Option (List ℕ)} {name text other : List ℕ} → InputRefusal name file text → InputRefusal name file other → text ≡ other
 one_input_refusal (InputMissing m) (InputMissing m') = refl
 one_input_refusal (InputMissing m) (InputNotEmpty bytes h n) = absurd (missing_not_held _ bytes m h)
 one_input_refusal (InputNotEmpty bytes h n) (InputMissing m) = absurd (missing_not_held _ bytes m h)
 one_input_refusal (InputNotEmpty bytes h n) (InputNotEmpty bytes' h' n') = refl
 
 -- an input that is refused is not the empty file
-pub refused_not_empty : {content : Content} {name text : List ℕ} → InputRefusal content name text → content name ≡ Some [] → ⊥
+pub refused_not_empty : {file : Option (List ℕ)} {name text : List ℕ} → InputRefusal name file text → file ≡ Some [] → ⊥
 refused_not_empty (InputMissing m) e = missing_not_held _ [] m e
 refused_not_empty (InputNotEmpty bytes h n) e = n (one_held _ bytes [] h e)
 
 -- a file is the source of one program
-pub one_source : {content : Content} {name : List ℕ} (tree other : SyntaxTree) → IsSourceOf content name tree → IsSourceOf content name other → tree ≡ other
+pub one_source : {file : Option (List ℕ)} (tree other : SyntaxTree) → IsSourceOf file tree → IsSourceOf file other → tree ≡ other
 one_source tree other s o =
     let same : o.bytes ≡ s.bytes = one_held _ o.bytes s.bytes o.held s.held in
     one_spelling s.bytes tree other s.form.spelled (rw same at o.form.spelled)
@@ -83,8 +82,8 @@ pub inputs_same : (words : List (List ℕ)) (source source' input input' : List 
 inputs_same words source source' input input' w w' = let e : run_words source input ≡ run_words source' input' = sym w ∙ w' in cc (e)
 
 -- two rows of a call are one
-pub one_row : {words : List (List ℕ)} {content : Content} {status other : ℕ} {text other_text : List ℕ} {log other_log : Option RunLog} {reports other_reports : List Report}
-    → Row words content status text log reports → Row words content other other_text other_log other_reports
+pub one_row : {words : List (List ℕ)} {held : Held} {status other : ℕ} {text other_text : List ℕ} {log other_log : Option RunLog} {reports other_reports : List Report}
+    → Row words held status text log reports → Row words held other other_text other_log other_reports
     → (status ≡ other) × (text ≡ other_text) × (log ≡ other_log) × (reports ≡ other_reports)
 one_row (NoCommand n) (NoCommand n') = (refl, refl, refl, refl)
 one_row (NoCommand n) (SourceRefused s i w r) = absurd (n s i w)
@@ -92,14 +91,14 @@ one_row (NoCommand n) (InputRefused s i tree w o r) = absurd (n s i w)
 one_row (NoCommand n) (Runs s i tree w o e r) = absurd (n s i w)
 one_row (SourceRefused s i w r) (NoCommand n) = absurd (n s i w)
 one_row (SourceRefused s i w r) (SourceRefused s' i' w' r') = (refl, one_source_refusal r (rw (sources_same _ s s' i i' w w') r'), refl, refl)
-one_row (SourceRefused s i w r) (InputRefused s' i' tree w' o r') = absurd (refused_not_built tree r (rw (sources_same _ s s' i i' w w') o))
-one_row (SourceRefused s i w r) (Runs s' i' tree w' o e r') = absurd (refused_not_built tree r (rw (sources_same _ s s' i i' w w') o))
+one_row (SourceRefused s i w r) (InputRefused s' i' tree w' o r') = absurd (refused_not_built tree r o)
+one_row (SourceRefused s i w r) (Runs s' i' tree w' o e r') = absurd (refused_not_built tree r o)
 one_row (InputRefused s i tree w o r) (NoCommand n) = absurd (n s i w)
-one_row (InputRefused s i tree w o r) (SourceRefused s' i' w' r') = absurd (refused_not_built tree r' (rw (sources_same _ s' s i' i w' w) o))
+one_row (InputRefused s i tree w o r) (SourceRefused s' i' w' r') = absurd (refused_not_built tree r' o)
 one_row (InputRefused s i tree w o r) (InputRefused s' i' tree' w' o' r') = (refl, one_input_refusal r (rw (inputs_same _ s s' i i' w w') r'), refl, refl)
-one_row (InputRefused s i tree w o r) (Runs s' i' tree' w' o' e r') = absurd (refused_not_empty r (rw (inputs_same _ s s' i i' w w') e))
+one_row (InputRefused s i tree w o r) (Runs s' i' tree' w' o' e r') = absurd (refused_not_empty r e)
 one_row (Runs s i tree w o e r) (NoCommand n) = absurd (n s i w)
-one_row (Runs s i tree w o e r) (SourceRefused s' i' w' r') = absurd (refused_not_built tree r' (rw (sources_same _ s' s i' i w' w) o))
-one_row (Runs s i tree w o e r) (InputRefused s' i' tree' w' o' r') = absurd (refused_not_empty r' (rw (inputs_same _ s' s i' i w' w) e))
+one_row (Runs s i tree w o e r) (SourceRefused s' i' w' r') = absurd (refused_not_built tree r' o)
+one_row (Runs s i tree w o e r) (InputRefused s' i' tree' w' o' r') = absurd (refused_not_empty r' e)
 one_row (Runs s i tree w o e r) (Runs s' i' tree' w' o' e' r') =
-    one_run (one_source tree tree' o (rw (sources_same _ s s' i i' w w') o')) r r'
+    one_run (one_source tree tree' o o') r r'

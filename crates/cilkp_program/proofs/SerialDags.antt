@@ -1,6 +1,8 @@
 -- The dag of a program's serial elision, as it is built from what the elision tells.
 use Rattle.std.proofs.Common.{◌≡◌, ◌∙◌, ◌<◌, ◌≤◌, ◌^◌, ℕ, ℤ, pos, negsuc, IsTrue, zero, suc, All, List, [], ◌∷◌, Option, length, map, refl, sym, ap, subst, arith}
+use Rattle.std.specs.Prelude.{not, int_lt}
 use Rattle.std.proofs.lemmas.Bool.{and_parts}
+use Rattle.std.proofs.lemmas.Bool.Decides.{nat_tests}
 use Rattle.pipe_model.specs.declared.access.NodeAccess.{NodeAccess}
 use Rattle.pipe_model.specs.declared.column.Column.{Column}
 use Rattle.pipe_model.specs.declared.event.Event.{Event}
@@ -98,7 +100,8 @@ outcome_of_run tree dag columns accesses output trap reports d e a o t r (WithTr
 
 -- a number that is in the range of iterations
 few_iterations : (n : ℤ) → IsTrue (is_between (pos 1) (pos 65536) n) → natural n ≤ 65536
-few_iterations (pos n) h = ?
+few_iterations (pos n) h =
+    let w = (and_parts (not (int_lt (pos n) (pos 1))) (not (int_lt (pos 65536) (pos n))) h).1 in grind (arith, nat_tests)
 few_iterations (negsuc n) h = omega arith
 
 -- the elision has few enough columns for its events to be told

@@ -19,7 +19,7 @@ pub record IsAccepted (words : List (List ℕ)) (content : Content) (tree : Synt
   pub source : List ℕ
   pub input : List ℕ
   pub command : words ≡ run_words source input
-  pub program : IsSourceOf content source tree
+  pub program : IsSourceOf (content source) tree
   pub empty : content input ≡ Some []
 
 -- a run of the program under the throttling limit, by its log, its reports, and the status and the text of the call

@@ -1,6 +1,5 @@
 -- What the loading of a source and of an input answers.
-use Rattle.std.specs.Prelude.{◌≡◌, ℕ, List, [], Some, Bool, true, false}
-use Rattle.pipe_model.specs.Spelling.{IsFirstForm}
+use Rattle.std.specs.Prelude.{◌≡◌, ℕ, List, [], Option, Some, IfSome, Bool, true, false}
 use Rattle.pipe_model.specs.SyntaxTree.{tree_of}
 use Rattle.cilkp_program.specs.declared.load.Source.{Source}
 use Rattle.cilkp_program.specs.declared.load.Source.TheVariants as sources
@@ -15,17 +14,17 @@ is_source_fault (sources.Program program) = false
 is_source_fault (sources.Refused line) = false
 is_source_fault sources.Failed = true
 
--- a program that was loaded is that of some source
-abbrev pub IsOfSomeSource : Source → Type 0
-IsOfSomeSource (sources.Program program) = (bytes : List ℕ) × IsFirstForm bytes (tree_of program)
-IsOfSomeSource (sources.Refused line) = Unit {0}
-IsOfSomeSource sources.Failed = Unit {0}
+-- the file gave this answer: its program, or the line that refuses it
+abbrev pub GaveSource : List ℕ → Option (List ℕ) → Source → Type 0
+GaveSource name file (sources.Program program) = IsSourceOf file (tree_of program)
+GaveSource name file (sources.Refused line) = SourceRefusal name file line
+GaveSource name file sources.Failed = Unit {0}
 
--- the program is that of the file, or the line refuses it
-abbrev pub IsSourceAnswer : Content → List ℕ → Source → Type 0
-IsSourceAnswer content name (sources.Program program) = IsSourceOf content name (tree_of program)
-IsSourceAnswer content name (sources.Refused line) = SourceRefusal content name line
-IsSourceAnswer content name sources.Failed = Unit {0}
+-- the answer is what a file of this name gave, which held what the files tell, where they tell
+pub record IsSourceAnswer (holds : Option Content) (name : List ℕ) (source : Source) : Type 0 where
+  pub file : Option (List ℕ)
+  pub told : IfSome holds (λ content. content name ≡ file)
+  pub gave : GaveSource name file source
 
 -- whether the loading of an input failed
 abbrev pub is_input_fault : Input → Bool
@@ -33,8 +32,14 @@ is_input_fault inputs.Empty = false
 is_input_fault (inputs.Refused line) = false
 is_input_fault inputs.Failed = true
 
--- the input is empty, or the line refuses it
-abbrev pub IsInputAnswer : Content → List ℕ → Input → Type 0
-IsInputAnswer content name inputs.Empty = content name ≡ Some []
-IsInputAnswer content name (inputs.Refused line) = InputRefusal content name line
-IsInputAnswer content name inputs.Failed = Unit {0}
+-- the file gave this answer: it is empty, or the line refuses it
+abbrev pub GaveInput : List ℕ → Option (List ℕ) → Input → Type 0
+GaveInput name file inputs.Empty = file ≡ Some []
+GaveInput name file (inputs.Refused line) = InputRefusal name file line
+GaveInput name file inputs.Failed = Unit {0}
+
+-- the answer is what a file of this name gave, which held what the files tell, where they tell
+pub record IsInputAnswer (holds : Option Content) (name : List ℕ) (input : Input) : Type 0 where
+  pub file : Option (List ℕ)
+  pub told : IfSome holds (λ content. content name ≡ file)
+  pub gave : GaveInput name file input

@@ -2,12 +2,11 @@
 use Rattle.std.specs.Prelude.{◌≡◌, ℕ, List, Option}
 use Rattle.pipe_model.specs.declared.event.RunLog.{RunLog}
 use Rattle.pipe_model.specs.declared.report.Report.{Report}
-use Rattle.cilkp_program.specs.Reads.{Content}
-use Rattle.cilkp_program.specs.Rows.{Row}
+use Rattle.cilkp_program.specs.Rows.{Held, Row}
 
--- two rows of the same words and files have one status, one text, one run log and the same reports
+-- two rows of the same words and the same files have one status, one text, one run log and the same reports
 abbrev pub CallsHaveOneRow : Type 0
-CallsHaveOneRow = (words : List (List ℕ)) (content : Content) (status other_status : ℕ) (text other_text : List ℕ) (log other_log : Option RunLog)
+CallsHaveOneRow = (words : List (List ℕ)) (held : Held) (status other_status : ℕ) (text other_text : List ℕ) (log other_log : Option RunLog)
     (reports other_reports : List Report)
-    → Row words content status text log reports → Row words content other_status other_text other_log other_reports
+    → Row words held status text log reports → Row words held other_status other_text other_log other_reports
     → (status ≡ other_status) × (text ≡ other_text) × (log ≡ other_log) × (reports ≡ other_reports)

@@ -25,21 +25,31 @@ words_of words = map string_bytes words
 abbrev pub run_words : (source input : List ℕ) → List (List ℕ)
 run_words source input = codes "run" ∷ source ∷ input ∷ []
 
--- the file of this name holds the source of the program
-pub record IsSourceOf (content : Content) (name : List ℕ) (tree : SyntaxTree) : Type 0 where
+-- what the two files of a command hold, each by its bytes where there is such a file
+pub record Held : Type 0 where
+  pub source : Option (List ℕ)
+  pub input : Option (List ℕ)
+
+-- the files of the command hold what these files tell
+abbrev pub AreHeldBy : Content → List (List ℕ) → Held → Type 0
+AreHeldBy content words held =
+    (source input : List ℕ) → words ≡ run_words source input → (content source ≡ held.source) × (content input ≡ held.input)
+
+-- the file holds the source of the program
+pub record IsSourceOf (file : Option (List ℕ)) (tree : SyntaxTree) : Type 0 where
   pub bytes : List ℕ
-  pub held : content name ≡ Some bytes
+  pub held : file ≡ Some bytes
   pub form : IsFirstForm bytes tree
 
--- the line that refuses a source: it is not held, or it is the source of no program
-pub data SourceRefusal (content : Content) (name : List ℕ) : List ℕ → Type 0 where
-  SourceMissing : content name ≡ None → SourceRefusal content name (refused_missing name)
-  SourceNotBuilt : (bytes : List ℕ) → content name ≡ Some bytes → ((tree : SyntaxTree) → IsFirstForm bytes tree → ⊥) → SourceRefusal content name refused_source
+-- the line that refuses a source of this name: there is no such file, or it is the source of no program
+pub data SourceRefusal (name : List ℕ) (file : Option (List ℕ)) : List ℕ → Type 0 where
+  SourceMissing : file ≡ None → SourceRefusal name file (refused_missing name)
+  SourceNotBuilt : (bytes : List ℕ) → file ≡ Some bytes → ((tree : SyntaxTree) → IsFirstForm bytes tree → ⊥) → SourceRefusal name file refused_source
 
--- the line that refuses an input: it is not held, or it is not empty
-pub data InputRefusal (content : Content) (name : List ℕ) : List ℕ → Type 0 where
-  InputMissing : content name ≡ None → InputRefusal content name (refused_missing name)
-  InputNotEmpty : (bytes : List ℕ) → content name ≡ Some bytes → bytes ≢ [] → InputRefusal content name refused_input
+-- the line that refuses an input of this name: there is no such file, or it is not empty
+pub data InputRefusal (name : List ℕ) (file : Option (List ℕ)) : List ℕ → Type 0 where
+  InputMissing : file ≡ None → InputRefusal name file (refused_missing name)
+  InputNotEmpty : (bytes : List ℕ) → file ≡ Some bytes → bytes ≢ [] → InputRefusal name file refused_input
 
 -- the output of the program's serial elision, with an empty input
 abbrev pub output_text : SyntaxTree → List ℕ
@@ -72,12 +82,13 @@ pub data Outcome (tree : SyntaxTree) : ℕ → List ℕ → List Report → Type
   Finishes : HasNoRace tree → trap_of tree ≡ None → Outcome tree 0 (output_text tree) []
   Traps : (t : TrapAt) → HasNoRace tree → trap_of tree ≡ Some t → Outcome tree 3 (output_text tree ++ trap_line t) []
 
--- the row of a call by its words and the files: its status, its text, its run log where the program is run, and its reports.
+-- the row of a call by its words and its files: its status, its text, its run log where the program is run, and its reports.
 -- The first refusal in this order counts: the words, the source, the input
-pub data Row (words : List (List ℕ)) (content : Content) : ℕ → List ℕ → Option RunLog → List Report → Type 0 where
-  NoCommand : ((source input : List ℕ) → words ≢ run_words source input) → Row words content 1 refused_usage None []
-  SourceRefused : (source input : List ℕ) {text : List ℕ} → words ≡ run_words source input → SourceRefusal content source text → Row words content 1 text None []
-  InputRefused : (source input : List ℕ) {text : List ℕ} (tree : SyntaxTree) → words ≡ run_words source input → IsSourceOf content source tree
-      → InputRefusal content input text → Row words content 1 text None []
+pub data Row (words : List (List ℕ)) (held : Held) : ℕ → List ℕ → Option RunLog → List Report → Type 0 where
+  NoCommand : ((source input : List ℕ) → words ≢ run_words source input) → Row words held 1 refused_usage None []
+  SourceRefused : (source input : List ℕ) {text : List ℕ} → words ≡ run_words source input → SourceRefusal source held.source text
+      → Row words held 1 text None []
+  InputRefused : (source input : List ℕ) {text : List ℕ} (tree : SyntaxTree) → words ≡ run_words source input → IsSourceOf held.source tree
+      → InputRefusal input held.input text → Row words held 1 text None []
   Runs : (source input : List ℕ) {status : ℕ} {text : List ℕ} {reports : List Report} (tree : SyntaxTree) → words ≡ run_words source input
-      → IsSourceOf content source tree → content input ≡ Some [] → Outcome tree status text reports → Row words content status text (Some (log_of tree)) reports
+      → IsSourceOf held.source tree → held.input ≡ Some [] → Outcome tree status text reports → Row words held status text (Some (log_of tree)) reports

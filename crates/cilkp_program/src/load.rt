@@ -4,7 +4,7 @@ ghost use Rattle.std.specs.Prelude.{◌≡◌, List, IfOk, IfSome, IfNone, OnErr
 ghost use Rattle.pipe_model.specs.Spelling.{IsFirstForm};
 ghost use Rattle.pipe_model.specs.SyntaxTree.{SyntaxTree, tree_of};
 ghost use Rattle.cilkp_program.specs.Faults.{CountsFault};
-ghost use Rattle.cilkp_program.specs.Loads.{is_source_fault, IsOfSomeSource, IsSourceAnswer, is_input_fault, IsInputAnswer};
+ghost use Rattle.cilkp_program.specs.Loads.{is_source_fault, IsSourceAnswer, is_input_fault, IsInputAnswer};
 
 use crate::files::Files;
 use crate::text::{line, named_line};
@@ -40,8 +40,7 @@ pub fn load_source<F: Files>(alloc: Global, files: &mut F, name: &str) -> Result
     ensures keeps { F.holds files.new ≡ F.holds files.old }
     ensures cause { IfOk result (λ source. CountsFault (is_source_fault source) (F.faults files.old) (F.faults files.new)) }
     ensures memory { OnErr result (F.faults files.new ≡ F.faults files.old) }
-    ensures program { IfOk result IsOfSomeSource }
-    ensures told { IfOk result (λ source. IfSome (F.holds files.old) (λ content. IsSourceAnswer content name.now source)) }
+    ensures answer { IfOk result (λ source. IsSourceAnswer (F.holds files.old) name.now source) }
 {
     let bytes = match read_whole(alloc, files, name, SOURCE_LIMIT)? {
         Whole::Missing => return Ok(Source::Refused(named_line(alloc, MISSING, name)?)),
@@ -83,7 +82,7 @@ pub fn load_input<F: Files>(alloc: Global, files: &mut F, name: &str) -> Result<
     ensures keeps { F.holds files.new ≡ F.holds files.old }
     ensures cause { IfOk result (λ input. CountsFault (is_input_fault input) (F.faults files.old) (F.faults files.new)) }
     ensures memory { OnErr result (F.faults files.new ≡ F.faults files.old) }
-    ensures told { IfOk result (λ input. IfSome (F.holds files.old) (λ content. IsInputAnswer content name.now input)) }
+    ensures answer { IfOk result (λ input. IsInputAnswer (F.holds files.old) name.now input) }
 {
     match read_whole(alloc, files, name, 0)? {
         Whole::Missing => return Ok(Input::Refused(named_line(alloc, MISSING, name)?)),

@@ -1,5 +1,7 @@
-use Rattle.std.proofs.Common.{◌∙◌, sym}
-use Rattle.cilkp_program.proofs.GivenUp.{text_cut_short, given_up_writing, no_write_fault}
+use Rattle.std.proofs.Common.{◌≡◌, ◌∙◌, sym, arith}
+use Rattle.cilkp_program.proofs.AnswerStatus.{answer_has_cause, answer_is_logged, answer_is_small, no_write_fault}
+use Rattle.cilkp_program.proofs.GivenUp.{text_cut_short, text_whole, given_up_writing}
+use Rattle.cilkp_program.proofs.HeadlineLaws.{printed_meets}
 use Rattle.cilkp_program.proofs.call.cilkp.Goals.{in-Whole, in-Failed}
 use Rattle.cilkp_program.proofs.call.cilkp.Goals as goal
 
@@ -16,4 +18,41 @@ returns-clause-cut_short g c = λ five.
       | in-Whole b ↦ absurd (no_write_fault c.in_ok-answer.ensures.answer (sym b.status-is ∙ five))
       | in-Failed b ↦ text_cut_short _ _ _ _ _ _ _ _ _ _ _ _ c.in_ok-answer.ensures.answer (rw c.as_slice.ensures at w.count) (rw c.as_slice.ensures at w.whole)
           (λ e. let f = b.in-Failed.is in cc (e, f)) (rw c.as_slice.ensures at w.taken)
+    ]
+
+pub returns-clause-headline : goal.returns-clause-headline
+returns-clause-headline g c = λ calm_files calm_out.
+    let w = c.write_text-written.ensures in
+    elim c.match-written.branch [
+      | in-Whole b ↦ rw b.status-is (printed_meets _ _ _ _ _ _ _ _ _ _ calm_files (text_whole _ _ _ _ _ _ _ _ _ _ _ c.in_ok-answer.ensures.answer
+          ((rw c.as_slice.ensures at w.whole).0 b.in-Whole.is) (rw c.as_slice.ensures at w.taken)))
+      | in-Failed b ↦ (let cause = rw b.in-Failed.is at w.cause in absurd (calm_out cause.1))
+    ]
+
+pub returns-clause-logged : goal.returns-clause-logged
+returns-clause-logged g c = λ other.
+    elim c.match-written.branch [
+      | in-Whole b ↦ rw b.status-is (answer_is_logged c.in_ok-answer.ensures.answer)
+      | in-Failed b ↦ absurd (other b.status-is)
+    ]
+
+pub returns-clause-read_fault : goal.returns-clause-read_fault
+returns-clause-read_fault g c = λ four.
+    elim c.match-written.branch [
+      | in-Whole b ↦ answer_has_cause c.in_ok-answer.ensures.answer (sym b.status-is ∙ four)
+      | in-Failed b ↦ (let five = b.status-is in absurd (omega (arith, five, four)))
+    ]
+
+pub returns-clause-write_fault : goal.returns-clause-write_fault
+returns-clause-write_fault g c = λ five.
+    elim c.match-written.branch [
+      | in-Whole b ↦ absurd (no_write_fault c.in_ok-answer.ensures.answer (sym b.status-is ∙ five))
+      | in-Failed b ↦ (let cause = rw b.in-Failed.is at c.write_text-written.ensures.cause in cause.1)
+    ]
+
+pub returns-clause-statuses : goal.returns-clause-statuses
+returns-clause-statuses g c =
+    elim c.match-written.branch [
+      | in-Whole b ↦ (let same = b.status-is in let small = answer_is_small c.in_ok-answer.ensures.answer in omega (arith, same, small))
+      | in-Failed b ↦ (let five = b.status-is in omega (arith, five))
     ]

@@ -1,5 +1,6 @@
 use Rattle.std.proofs.Common.{ap, Some}
 use Rattle.serial_elision.proofs.FirstForm.{first_form_is_runnable}
+use Rattle.pipe_model.specs.SyntaxTree.{tree_of}
 use Rattle.cilkp_program.proofs.SerialDags.{outcome_of_run, told_accesses_inside, told_columns_are_few, told_columns_rise, told_log}
 use Rattle.cilkp_program.proofs.call.run_program.Goals as goal
 
@@ -25,4 +26,4 @@ returns-clause-outcome c =
 
 pub returns-clause-log : goal.returns-clause-log
 returns-clause-log c =
-    ap Some (told_log _ _ _ _ (rw c.new.ensures at c.in_ok-output.ensures.columns) (rw c.new.ensures at c.in_ok-output.ensures.accesses) c.in_ok-events.ensures)
+    ap Some (told_log (tree_of c.args.program.now) _ _ _ (rw c.new.ensures at c.in_ok-output.ensures.columns) (rw c.new.ensures at c.in_ok-output.ensures.accesses) c.in_ok-events.ensures)
