@@ -328,7 +328,7 @@ fn pipelines(alloc: Global) -> Result<(), Fail> {
             0,
             "2\n4\n",
         ),
-        // Two waits, and the only path from 0/1 to 2/2 goes through both.
+        // The only path from 0/2 to 2/2 goes through two waits.
         (
             [4, 4, 50, 4],
             "cell n = 0; cell s = 0; pipe_while (n < 3) { n = n + 1; let t = n; pipe_wait(1); pipe_wait(2); s = s + t; emit s; }",
@@ -355,7 +355,7 @@ fn pipelines(alloc: Global) -> Result<(), Fail> {
             3,
             "1\n2\ntrap Overflow at 0/1\n",
         ),
-        // The left column ended in its instance 0, so that the waiting stage of the next follows that.
+        // The left column ended early, by a trap in stage 2, so stage 4 of the next follows that.
         (
             [3, 3, 50, 4],
             "cell n = 0; cell m = 1; pipe_while (n < 2) { n = n + 1; let t = n; let u = t + t; pipe_wait(u); emit t; pipe_wait(u); }",
