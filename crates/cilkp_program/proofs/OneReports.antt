@@ -4,9 +4,9 @@ use Rattle.std.proofs.lemmas.Bool.{cases_lt}
 use Rattle.pipe_model.specs.declared.access.NodeAccess.{NodeAccess}
 use Rattle.pipe_model.specs.declared.node.Node.{Node}
 use Rattle.pipe_model.specs.declared.report.Report.{Report}
-use Rattle.pipe_model.specs.AccessHistory.{NotedAccess, access_at, accesses_to}
+use Rattle.pipe_model.specs.CellRaces.{NotedAccess, access_at, accesses_to}
+use Rattle.pipe_model.specs.Reports.{report_of}
 use Rattle.pipe_model.specs.FirstRaces.{AreFirstRaces, IsFirstRace, IsFirstRaceOfCell}
-use Rattle.pipe_model.specs.HistoryReports.{report_of}
 use Rattle.pipe_model.specs.Races.{Among, Here, Later}
 use Rattle.pipe_model.proofs.Members.{none_among}
 

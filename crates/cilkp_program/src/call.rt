@@ -213,7 +213,8 @@ pub fn cilkp<R: Drop, F: Files, S: Sink, G: Gate + Sync>(
     ensures sink_grew { IfOk result (λ e. Grew (S.faults out.old) (S.faults out.new) → e.status ≡ 5) }
     ensures statuses { IfOk result (λ e. e.status ≤ 5) }
 
-    // The files stay as they were.
+    // The files stay as they were, and no count of faults falls.
+    ensures counts { (F.faults files.old ≤ F.faults files.new) × (S.faults out.old ≤ S.faults out.new) }
     ensures keeps { F.holds files.new ≡ F.holds files.old }
 {
     let answer = answer_for(alloc, words, files)?;

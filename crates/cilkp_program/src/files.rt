@@ -24,8 +24,8 @@ pub trait Files {
     /// How many faults of reading there were.
     ghost faults: { Self → ℕ };
 
-    /// Reads what stands at a place, counted in bytes from 0, of the file of a name. Fails only where the count of
-    /// faults rises. What stands in `part` behind the bytes read is left open.
+    /// Reads what stands at a place, counted in bytes from 0, of the file of a name, into a part that is not empty. Fails
+    /// only where the count of faults rises. What stands in `part` behind the bytes read is left open.
     fn read_part(&mut self, name: &str, place: u64, part: &mut [u8]) -> ReadPart
         requires { 0 < length part.old }
         ensures keeps { holds self.new ≡ holds self.old }

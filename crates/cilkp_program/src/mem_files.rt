@@ -1,6 +1,6 @@
 //! Files in memory, which serve only so many bytes a call, and may fail at chosen calls.
 
-ghost use Rattle.std.specs.Prelude.{◌≡◌, ◌<◌, length, IfSome, IfNone, Some, None, if◌then◌else◌};
+ghost use Rattle.std.specs.Prelude.{◌≡◌, ◌<◌, length, IfSome, IfNone, Some, None, if◌then◌else◌, false};
 ghost use Rattle.cilkp_program.specs.Faults.{CountsFault};
 ghost use Rattle.cilkp_program.specs.FaultPlan.{first_plan, fails_next, after_call};
 ghost use Rattle.cilkp_program.specs.Reads.{is_read_fault, IsWithin, ReadsFrom, IsPartAt};
@@ -30,7 +30,7 @@ impl Model for CleanFiles {
 }
 
 impl CleanFiles {
-    /// The files of these names; of two with one name the first serves. A call reads at most `most` bytes.
+    /// The files of these names; of two with one name the first serves. A call reads at most `most` bytes, at least 1.
     pub fn new(files: Vec<(String, Bytes)>, most: u32) -> Self
         requires { 0 < most }
         ensures { result ≡ record { files = named_bytes files.items; most = most } }
@@ -38,7 +38,8 @@ impl CleanFiles {
         CleanFiles { files, most }
     }
 
-    /// Reads as many bytes as there are at the place, but no more than there is room for and than a call serves.
+    /// Reads as many bytes as there are at the place, but no more than there is room for and than a call serves. The part
+    /// is not empty.
     pub fn serve(&self, name: &str, place: u64, part: &mut [u8]) -> ReadPart
         requires { 0 < length part.old }
         ensures answer { result ≡ served (content_of self.now.files name.now) place (length part.old) self.now.most }
@@ -90,7 +91,14 @@ impl Files for CleanFiles {
 
     ghost faults = { λ _. 0 };
 
-    fn read_part(&mut self, name: &str, place: u64, part: &mut [u8]) -> ReadPart {
+    fn read_part(&mut self, name: &str, place: u64, part: &mut [u8]) -> ReadPart
+        requires { 0 < length part.old }
+        ensures keeps { self.new ≡ self.old }
+        ensures never { is_read_fault result ≡ false }
+        ensures within { IsWithin result part.new }
+        ensures told { ReadsFrom (content_of self.old.files name.now) place result part.new }
+        ensures answer { result ≡ served (content_of self.old.files name.now) place (length part.old) self.old.most }
+    {
         self.serve(name, place, part)
     }
 }
@@ -105,8 +113,8 @@ pub struct MemFiles {
 }
 
 impl MemFiles {
-    /// The files of these names; of two with one name the first serves. A call reads at most `most` bytes, and the
-    /// calls whose numbers, counted from 0, are listed in `fail_at` fail.
+    /// The files of these names; of two with one name the first serves. A call reads at most `most` bytes, at least 1, and
+    /// the calls whose numbers, counted from 0, are listed in `fail_at` fail.
     pub fn new(files: Vec<(String, Bytes)>, most: u32, fail_at: Vec<u32>) -> Self
         requires { 0 < most }
         ensures files { result.files ≡ record { files = named_bytes files.items; most = most } }

@@ -1,6 +1,6 @@
 //! Sinks in memory, which take only so many bytes a call, and may fail at chosen calls.
 
-ghost use Rattle.std.specs.Prelude.{◌≡◌, ◌≢◌, ◌<◌, ◌↔◌, [], length, min, true};
+ghost use Rattle.std.specs.Prelude.{◌≡◌, ◌≢◌, ◌<◌, ◌↔◌, [], length, min, true, false};
 ghost use Rattle.cilkp_program.specs.Faults.{CountsFault};
 ghost use Rattle.cilkp_program.specs.FaultPlan.{first_plan, fails_next, after_call};
 ghost use Rattle.cilkp_program.specs.Writes.{is_write_fault, TakesSome, taken_after};
@@ -32,7 +32,7 @@ impl Model for CleanSink {
 }
 
 impl CleanSink {
-    /// A sink that has taken nothing. A call takes at most `most` bytes.
+    /// A sink that has taken nothing. A call takes at most `most` bytes, at least 1.
     pub fn new(alloc: Global, most: u32) -> Self
         requires { 0 < most }
         ensures { result ≡ record { taken = []; most = most } }
@@ -51,7 +51,7 @@ impl CleanSink {
         &self.taken
     }
 
-    /// Takes as many bytes of a part as a call may; where memory is refused it takes none.
+    /// Takes as many bytes of a part, which is not empty, as a call may; where memory is refused it takes none.
     pub fn take(&mut self, part: &[u8]) -> WritePart
         requires { 0 < length part.now }
         ensures answer { result ≢ WritePart.NoMemory → result ≡ WritePart.Took (min (length part.now) self.old.most) }
@@ -76,7 +76,13 @@ impl Sink for CleanSink {
 
     ghost faults = { λ _. 0 };
 
-    fn write_part(&mut self, part: &[u8]) -> WritePart {
+    fn write_part(&mut self, part: &[u8]) -> WritePart
+        requires { 0 < length part.now }
+        ensures never { is_write_fault result ≡ false }
+        ensures some { TakesSome result part.now }
+        ensures taken { self.new ≡ record self.old { taken = taken_after result part.now self.old.taken } }
+        ensures answer { result ≢ WritePart.NoMemory → result ≡ WritePart.Took (min (length part.now) self.old.most) }
+    {
         self.take(part)
     }
 }
@@ -91,8 +97,8 @@ pub struct MemSink {
 }
 
 impl MemSink {
-    /// A sink that has taken nothing. A call takes at most `most` bytes, and the calls whose numbers, counted from
-    /// 0, are listed in `fail_at` fail.
+    /// A sink that has taken nothing. A call takes at most `most` bytes, at least 1, and the calls whose numbers, counted
+    /// from 0, are listed in `fail_at` fail.
     pub fn new(alloc: Global, most: u32, fail_at: Vec<u32>) -> Self
         requires { 0 < most }
         ensures sink { result.sink ≡ record { taken = []; most = most } }
@@ -126,6 +132,8 @@ impl Sink for MemSink {
         ensures taken { self.new.sink ≡ record self.old.sink { taken = taken_after result part.now self.old.sink.taken } }
         ensures plan { self.new.plan ≡ after_call self.old.plan }
         ensures fails { (result ≡ WritePart.Failed) ↔ (fails_next self.old.plan ≡ true) }
+        ensures answer { result ≢ WritePart.Failed → result ≢ WritePart.NoMemory
+            → result ≡ WritePart.Took (min (length part.now) self.old.sink.most) }
     {
         if self.plan.next_fails() {
             return WritePart::Failed;

@@ -4,8 +4,12 @@ use crate::call::{Ended, cilkp};
 use crate::gate::OpenGate;
 use crate::mem_files::MemFiles;
 use crate::mem_sink::MemSink;
+use pipe_model::access::{Access, AccessKind, CellId};
+use pipe_model::column::ColumnEnd;
+use pipe_model::event::Event;
 use pipe_model::list::Bytes;
 use pipe_model::memory::NoMemory;
+use pipe_model::node::Kind;
 use std::alloc::Global;
 use std::test::Fail;
 
@@ -14,7 +18,17 @@ const COUNT_TO_TWO: &str =
 
 const LET_AND_SET: &str = "cell n = 0; pipe_while (n < 1) { let m = 1; n = m; }";
 
+const LET_ALONE: &str = "cell n = 0; pipe_while (n < 1) { let m = 1; }";
+
 const COUNT_UP: &str = "cell n = 0; pipe_while (n < 2) { n = n + 1; emit n; }";
+
+const PREFIX_SUMS: &str =
+    "cell n = 0; cell s = 0; pipe_while (n < 3) { n = n + 1; let t = n; pipe_wait(1); s = s + t; emit s; }";
+
+const RACING_SUMS: &str =
+    "cell n = 0; cell s = 0; pipe_while (n < 3) { n = n + 1; let t = n; pipe_continue(1); s = s + t; emit s; }";
+
+const RACING_LINES: &str = "race output write 0/1 read 1/1\nrace s write 0/1 read 1/1\n";
 
 const NOT_BUILT: &str = "refused source NotYetBuilt\n";
 
@@ -65,14 +79,21 @@ impl<'a> Case<'a> {
         }
     }
 
+    // The call, before it is made.
+    fn set_up(self, alloc: Global) -> Result<Call, NoMemory> {
+        let fails = numbers(alloc, self.read_fails)?;
+        Ok(Call {
+            words: words(alloc, self.words)?,
+            files: MemFiles::new(files(alloc, self.source, self.input)?, 7, fails),
+            sink: MemSink::new(alloc, 2, numbers(alloc, self.write_fails)?),
+        })
+    }
+
     // How the call ends, and what the sink has taken.
     fn run(self, alloc: Global) -> Result<(Ended, Vec<u8>), NoMemory> {
-        let words = words(alloc, self.words)?;
-        let fails = numbers(alloc, self.read_fails)?;
-        let mut mem = MemFiles::new(files(alloc, self.source, self.input)?, 7, fails);
-        let mut sink = MemSink::new(alloc, 2, numbers(alloc, self.write_fails)?);
-        let ended = cilkp((), alloc, words.as_slice(), &mut mem, &mut sink, &OpenGate)?;
-        Ok((ended, sink.taken().as_slice().to_vec(alloc)?))
+        let mut call = self.set_up(alloc)?;
+        let ended = call.make(alloc)?;
+        Ok((ended, call.sink.taken().as_slice().to_vec(alloc)?))
     }
 
     // Fails the test where the call ends otherwise, or another text was taken.
@@ -88,6 +109,27 @@ impl<'a> Case<'a> {
             )));
         }
         Ok(())
+    }
+}
+
+// A call with what it is made of.
+#[derive(Drop)]
+struct Call {
+    words: Vec<String>,
+    files: MemFiles,
+    sink: MemSink,
+}
+
+impl Call {
+    fn make(&mut self, alloc: Global) -> Result<Ended, NoMemory> {
+        cilkp(
+            (),
+            alloc,
+            self.words.as_slice(),
+            &mut self.files,
+            &mut self.sink,
+            &OpenGate,
+        )
     }
 }
 
@@ -134,6 +176,9 @@ fn runs(alloc: Global) -> Result<(), Fail> {
         ([1, 1, 8, 0], LET_AND_SET, 0, ""),
         ([1, 1, 7, 0], LET_AND_SET, 3, "trap Budget at 0/0\n"),
         ([1, 1, 5, 0], LET_AND_SET, 3, "trap Budget at 0/0\n"),
+        // The `let` takes the last step, or one too many.
+        ([1, 1, 6, 0], LET_ALONE, 3, "trap IterLimit at 1/0\n"),
+        ([1, 1, 5, 0], LET_ALONE, 3, "trap Budget at 0/0\n"),
         // The second emit is one too many, and its number is not printed.
         ([2, 1, 50, 1], COUNT_UP, 3, "1\ntrap OutputLimit at 1/0\n"),
         ([2, 1, 50, 0], COUNT_UP, 3, "trap OutputLimit at 0/0\n"),
@@ -263,19 +308,9 @@ fn faults(alloc: Global) -> Result<(), Fail> {
 fn pipelines(alloc: Global) -> Result<(), Fail> {
     let rows = [
         // A last stage in order of the iterations.
-        (
-            [8, 4, 100, 8],
-            "cell n = 0; cell s = 0; pipe_while (n < 3) { n = n + 1; let t = n; pipe_wait(1); s = s + t; emit s; }",
-            0,
-            "1\n3\n6\n",
-        ),
+        ([8, 4, 100, 8], PREFIX_SUMS, 0, "1\n3\n6\n"),
         // Without the wait both what is summed and the output race.
-        (
-            [8, 4, 100, 8],
-            "cell n = 0; cell s = 0; pipe_while (n < 3) { n = n + 1; let t = n; pipe_continue(1); s = s + t; emit s; }",
-            2,
-            "race output write 0/1 read 1/1\nrace s write 0/1 read 1/1\n",
-        ),
+        ([8, 4, 100, 8], RACING_SUMS, 2, RACING_LINES),
         // The next iteration counts on before the last stage reads.
         (
             [8, 4, 100, 8],
@@ -362,6 +397,13 @@ fn pipelines(alloc: Global) -> Result<(), Fail> {
             3,
             "1\n2\ntrap StageOrder at 0/2\n",
         ),
+        // Stages 6 and 7 both follow the left stage 5, so the edge to 7 is redundant, and 7 is parallel to the left 9.
+        (
+            [2, 3, 50, 4],
+            "cell n = 0; cell a = 5; cell b = 9; cell m = -2; cell s = 0; pipe_while (n < 2) { n = n + 1; let t = a; let u = b; a = a + 1; b = b + m; pipe_wait(t); s = s + t; pipe_wait(u); emit t; }",
+            2,
+            "race output write 0/9 read 1/7\n",
+        ),
         // A race in a program that also traps: its output and trap are not printed.
         (
             [3, 3, 50, 4],
@@ -377,10 +419,73 @@ fn pipelines(alloc: Global) -> Result<(), Fail> {
     Ok(())
 }
 
+// The events of a small pipeline, in the order in which they happen.
+fn events(alloc: Global) -> Result<(), Fail> {
+    let rest = "cell n = 0; pipe_while (n < 1) { n = 1; pipe_wait(1); emit n; }";
+    let source = source(alloc, [1, 2, 50, 1], rest)?;
+    let (ended, _) = Case::of(source.as_bytes()).run(alloc)?;
+    let Some(log) = ended.run_log else {
+        return Err(Fail::new(format_args!("there is no run log")));
+    };
+    let expected = [
+        Event::Begin(0),
+        Event::Access(0, access(2, AccessKind::Read, 0)),
+        Event::Access(0, access(2, AccessKind::Write, 1)),
+        Event::Advance(0, Kind::Wait, 1),
+        Event::Enter(0),
+        Event::Access(0, access(2, AccessKind::Read, 1)),
+        Event::Access(0, access(1, AccessKind::Read, 0)),
+        Event::Access(0, access(1, AccessKind::Write, 1)),
+        Event::Finish(0, ColumnEnd::End),
+        Event::Begin(1),
+        Event::Access(1, access(2, AccessKind::Read, 1)),
+        Event::Finish(1, ColumnEnd::Closed),
+    ];
+    if log.events.as_slice() != expected.as_slice() || log.columns.len() != 2 {
+        return Err(Fail::new(format_args!("{} other events", log.events.len())));
+    }
+    Ok(())
+}
+
+fn access(cell: u32, kind: AccessKind, value: i64) -> Access {
+    Access {
+        cell: CellId(cell),
+        kind,
+        value,
+    }
+}
+
+// Where memory is refused to the call it says so, and a front of its text was taken; else all is as ever. What is refused
+// before the call says nothing.
+fn front_or_all(alloc: Global, rest: &str, status: u8, text: &str) -> Result<(), Fail> {
+    let Ok(source) = source(alloc, [8, 4, 100, 8], rest) else {
+        return Ok(());
+    };
+    let Ok(mut call) = Case::of(source.as_bytes()).set_up(alloc) else {
+        return Ok(());
+    };
+    let as_ever = match call.make(alloc) {
+        Ok(ended) => ended.status == status && call.sink.taken().as_slice() == text.as_bytes(),
+        Err(NoMemory) => text.as_bytes().starts_with(call.sink.taken().as_slice()),
+    };
+    if !as_ever {
+        return Err(Fail::new(format_args!("{rest}: another answer")));
+    }
+    Ok(())
+}
+
+// Two calls for `bench/refused_memory`, which refuses one allocation after the other.
+#[test]
+fn memory_may_be_refused(rt: HostRuntime) -> Result<(), Fail> {
+    front_or_all(rt.alloc(), PREFIX_SUMS, 0, "1\n3\n6\n")?;
+    front_or_all(rt.alloc(), RACING_SUMS, 2, RACING_LINES)
+}
+
 #[test]
 fn rows_of_the_call(rt: HostRuntime) -> Result<(), Fail> {
     runs(rt.alloc())?;
     pipelines(rt.alloc())?;
+    events(rt.alloc())?;
     sources_refused(rt.alloc())?;
     calls_refused(rt.alloc())?;
     faults(rt.alloc())

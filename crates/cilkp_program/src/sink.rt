@@ -25,7 +25,7 @@ pub trait Sink {
     /// How many faults of writing there were.
     ghost faults: { Self → ℕ };
 
-    /// Takes bytes at the front of a part. Fails only where the count of faults rises.
+    /// Takes bytes at the front of a part, which is not empty. Fails only where the count of faults rises.
     fn write_part(&mut self, part: &[u8]) -> WritePart
         requires { 0 < length part.now }
         ensures cause { CountsFault (is_write_fault result) (faults self.old) (faults self.new) }

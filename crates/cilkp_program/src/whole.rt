@@ -28,7 +28,18 @@ pub enum Whole {
 // How many bytes are asked for at once.
 const PART: usize = 4096;
 
-/// Reads a file of at most `limit` bytes, part after part, and no further than one byte past the limit.
+// How many bytes the next part has room for, with so many read already: no more than up to one byte past the limit.
+fn next_room(limit: usize, read: usize) -> usize
+    requires { read ≤ limit }
+    ensures some { 0 < result }
+    ensures fits { result ≤ 4096 }
+    ensures within { read + result ≤ limit + 1 }
+{
+    (limit - read).min(PART - 1) + 1
+}
+
+/// Reads a file of at most `limit` bytes, part after part, and no further than one byte past the limit. Fails for want of
+/// memory alone; that a read failed is told by the answer.
 pub fn read_whole<F: Files>(
     alloc: Global,
     files: &mut F,
@@ -45,7 +56,7 @@ pub fn read_whole<F: Files>(
     let mut bytes = Vec::new(alloc);
     let mut part = [0; PART];
     while bytes.len() <= limit {
-        let room = (limit - bytes.len()).min(PART - 1) + 1;
+        let room = next_room(limit, bytes.len());
         match read_more(files, name, &mut bytes, &mut part[..room])? {
             ReadPart::Missing => return Ok(Whole::Missing),
             ReadPart::Failed => return Ok(Whole::Failed),

@@ -13,8 +13,7 @@ use Rattle.std.specs.List.Sorted.{IsNonDecreasingBy}
 use Rattle.pipe_model.specs.declared.access.NodeAccess.{NodeAccess}
 use Rattle.pipe_model.specs.declared.node.Node.{Node}
 use Rattle.pipe_model.specs.declared.report.Report.{Report}
-use Rattle.pipe_model.specs.AccessHistory.{NotedAccess, accesses_to}
-use Rattle.pipe_model.specs.HistoryRaces.{RacesAt}
+use Rattle.pipe_model.specs.CellRaces.{NotedAccess, accesses_to, RacesAt}
 use Rattle.pipe_model.specs.Races.{Among, Here}
 use Rattle.pipe_model.proofs.Members.{among_at, among_either, among_left, among_right, only_one}
 use Rattle.pipe_model.specs.FirstRaces.{HasReport, IsFirstRaceOfCell, TellsFirstRace}

@@ -4,12 +4,10 @@ use Rattle.std.proofs.Common.{◌≡◌, List, [], ◌∷◌, ◌++◌, refl, sy
 use Rattle.pipe_model.specs.declared.access.NodeAccess.{NodeAccess}
 use Rattle.pipe_model.specs.declared.node.Node.{Node}
 use Rattle.pipe_model.specs.declared.report.Report.{Report}
-use Rattle.pipe_model.specs.AccessHistory.{NotedAccess, access_at, accesses_to}
+use Rattle.pipe_model.specs.CellRaces.{NotedAccess, access_at, accesses_to, KindsConflict}
 use Rattle.pipe_model.specs.Dag.{AreParallel}
-use Rattle.pipe_model.specs.HistoryRaces.{KindsConflict}
-use Rattle.pipe_model.specs.HistoryReports.{report_of}
 use Rattle.pipe_model.specs.Races.{Among, Here, Later, IsDeterminacyRace, IsRaceFree}
-use Rattle.pipe_model.specs.Reports.{AreRight, NamesRace}
+use Rattle.pipe_model.specs.Reports.{AreRight, NamesRace, report_of}
 use Rattle.pipe_model.proofs.CellAccesses.{ArePlacedAccesses, cell_id, noted_of, two_places}
 use Rattle.pipe_model.proofs.CellRaces.{race_at}
 use Rattle.pipe_model.proofs.Members.{among_right}

@@ -6,7 +6,7 @@ use Rattle.pipe_model.specs.declared.access.AccessKind.TheVariants.{Read, Write}
 use Rattle.pipe_model.specs.declared.access.NodeAccess.{NodeAccess}
 use Rattle.pipe_model.specs.declared.node.Node.{Node}
 use Rattle.pipe_model.specs.declared.node.NodeId.{NodeId}
-use Rattle.pipe_model.specs.AccessHistory.{NotedAccess, access_at}
+use Rattle.pipe_model.specs.CellRaces.{NotedAccess, access_at}
 use Rattle.dag_build.specs.AccessFronts.{AreFronts, LeadsFrom, joined_fronts}
 use Rattle.dag_build.specs.Landings.{MovesTo}
 use Rattle.dag_build.specs.declared.fronts.Fronts.{Fronts}

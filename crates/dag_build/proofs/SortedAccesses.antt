@@ -8,8 +8,7 @@ use Rattle.pipe_model.specs.declared.access.AccessKind.TheVariants.{Read}
 use Rattle.pipe_model.specs.declared.access.NodeAccess.{NodeAccess}
 use Rattle.pipe_model.specs.declared.node.Node.{Node}
 use Rattle.pipe_model.specs.declared.report.Report.{Report}
-use Rattle.pipe_model.specs.AccessHistory.{NotedAccess, accesses_to}
-use Rattle.pipe_model.specs.HistoryRaces.{RacesAt}
+use Rattle.pipe_model.specs.CellRaces.{NotedAccess, accesses_to, RacesAt}
 use Rattle.pipe_model.specs.FirstRaces.{AreFirstRaces, TellsFirstRace}
 use Rattle.dag_build.specs.CellRaces.{noted_all}
 use Rattle.dag_build.proofs.CellGroups.{cell_of}

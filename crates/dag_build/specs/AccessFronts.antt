@@ -5,7 +5,7 @@ use Rattle.pipe_model.specs.declared.access.AccessKind.{AccessKind}
 use Rattle.pipe_model.specs.declared.access.AccessKind.TheVariants.{Read, Write}
 use Rattle.pipe_model.specs.declared.node.Node.{Node}
 use Rattle.pipe_model.specs.declared.node.NodeId.{NodeId}
-use Rattle.pipe_model.specs.AccessHistory.{NotedAccess, access_at}
+use Rattle.pipe_model.specs.CellRaces.{NotedAccess, access_at}
 use Rattle.pipe_model.specs.Columns.{nodes_at, at}
 use Rattle.pipe_model.specs.Dag.{Precedes}
 use Rattle.dag_build.specs.declared.fronts.Fronts.{Fronts}

@@ -2,10 +2,9 @@
 use Rattle.std.specs.Prelude.{ℕ, List, map}
 use Rattle.pipe_model.specs.declared.access.NodeAccess.{NodeAccess}
 use Rattle.pipe_model.specs.declared.node.Node.{Node}
-use Rattle.pipe_model.specs.AccessHistory.{NotedAccess, noted_access}
+use Rattle.pipe_model.specs.CellRaces.{NotedAccess, noted_access, KindsConflict}
 use Rattle.pipe_model.specs.Dag.{AreParallel}
 use Rattle.pipe_model.specs.FirstRaces.{RacesWithNone}
-use Rattle.pipe_model.specs.HistoryRaces.{KindsConflict}
 
 -- the accesses without cell and value
 abbrev pub noted_all : List NodeAccess → List NotedAccess

@@ -4,12 +4,10 @@ ghost use Rattle.std.specs.Prelude.{◌≡◌, ◌<◌, ◌==◌, All, IfOk, IfN
 ghost use Rattle.std.specs.Bool.{OnFalse, OnTrue};
 ghost use Rattle.std.specs.List.Sorted.{IsNonDecreasingBy};
 ghost use Rattle.std.specs.List.{prefix_len};
-ghost use Rattle.pipe_model.specs.AccessHistory.{noted_access};
+ghost use Rattle.pipe_model.specs.CellRaces.{noted_access, KindsConflict, RacesAt};
 ghost use Rattle.pipe_model.specs.Dag.{AreParallel};
 ghost use Rattle.pipe_model.specs.Columns.{IsNodeOf};
-ghost use Rattle.pipe_model.specs.HistoryRaces.{KindsConflict, RacesAt};
-ghost use Rattle.pipe_model.specs.HistoryReports.{report_of};
-ghost use Rattle.pipe_model.specs.Reports.{number_at};
+ghost use Rattle.pipe_model.specs.Reports.{number_at, report_of};
 ghost use Rattle.dag_build.specs.AccessFronts.{AreFronts};
 ghost use Rattle.pipe_model.specs.FirstRaces.{AreFirstRaces, IsFirstRace, RacesWithNone};
 ghost use Rattle.dag_build.specs.CellRaces.{AreRacing, HasNoRace};

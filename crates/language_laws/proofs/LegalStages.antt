@@ -1,6 +1,7 @@
 -- Stage numbers rise along the tree of an iteration.
 use Rattle.std.proofs.Common.{◌≡◌, ◌≢◌, ℕ, zero, suc, ℤ, pos, negsuc, Bool, true, false, List, Option, Some, None, if◌then◌else◌, nat_lt, ◌<ℤ◌, ◌+ℤ◌, refl, ap, sym, rules, arith}
 use Rattle.std.specs.Prelude.{int_lt}
+use Rattle.std.specs.Ordering.{int_eq}
 use Rattle.std.proofs.lemmas.Int.{ints}
 use Rattle.pipe_model.specs.declared.node.Kind.{Kind}
 use Rattle.pipe_model.specs.declared.node.Kind.TheVariants.{Zero}
@@ -76,8 +77,8 @@ rises-assign env (Some old) range x v first n at = RisesReturn at
 rises-assign env None (Some range) x v first n at = RisesSet _ _ (RisesReturn at)
 rises-assign env None None x v first n at = RisesRaise _
 
-straight-emit : (limit v : ℤ) → IsStraight Anything (emit limit v)
-straight-emit limit v = Gets 1 (λ count. straight_either Anything (int_lt count limit) _ _ (Sets 1 v (Returns tt)) (Raises _))
+straight-emit : (limit : ℕ) (v : ℤ) → IsStraight Anything (emit limit v)
+straight-emit limit v = Gets 1 (λ count. straight_either Anything (int_eq count (pos limit)) _ _ (Raises _) (Sets 1 v (Returns tt)))
 
 -- the turns of a loop, by its body
 rises-turns : (turns : ℕ) (test : Environment → Interaction ℤ) (body : Environment → Interaction Environment) (env : Environment) (first : Bool) (n : ℤ)

@@ -1,9 +1,8 @@
 -- The races of a run are those of the accesses to its cells.
 use Rattle.std.proofs.Common.{ℕ, List, ◌≡◌, length, ◌<◌, arith, subst, sym, ap, ◌∙◌, inl, inr}
 use Rattle.std.proofs.lemmas.Bool.{cases_lt}
-use Rattle.pipe_model.specs.AccessHistory.{NotedAccess, access_at, accesses_to}
+use Rattle.pipe_model.specs.CellRaces.{NotedAccess, access_at, accesses_to, KindsConflict, RacesAt}
 use Rattle.pipe_model.specs.Dag.{AreParallel}
-use Rattle.pipe_model.specs.HistoryRaces.{KindsConflict, RacesAt}
 use Rattle.pipe_model.specs.Races.{IsDeterminacyRace}
 use Rattle.pipe_model.specs.declared.access.AccessKind.{AccessKind}
 use Rattle.pipe_model.specs.declared.access.CellId.{CellId}

@@ -28,7 +28,7 @@ pub record World : Type 0 where
   pub iteration : ℕ
   pub iterations : ℤ
   pub stages : ℕ
-  pub emits : ℤ
+  pub emits : ℕ
 
 -- where a part of a program runs: its declared names, a bound on the turns of one loop, and the rest of the world
 pub record Setting : Type 0 where
@@ -146,9 +146,9 @@ assign env (Some old) range x v = Return (record env { locals = with_local env.l
 assign env None (Some range) x v = Set range.first v (Return env)
 assign env None None x v = Raise traps.Index
 
--- the output is read, and written where it has had fewer numbers than its limit
-abbrev pub emit : ℤ → ℤ → Interaction (Unit {0})
-emit limit v = Get 1 (λ count. if int_lt count limit then Set 1 v (Return tt) else Raise traps.OutputLimit)
+-- the output is read, and written unless it has had as many numbers as its limit allows
+abbrev pub emit : ℕ → ℤ → Interaction (Unit {0})
+emit limit v = Get 1 (λ count. if int_eq count (pos limit) then Raise traps.OutputLimit else Set 1 v (Return tt))
 
 -- the instance ends and the next stage is named: its number is above the current one, and there is room for an instance
 abbrev pub go_to_stage : ℕ → Kind → StagePosition → ℤ → Interaction StagePosition

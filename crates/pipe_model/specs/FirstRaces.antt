@@ -3,9 +3,8 @@ use Rattle.std.specs.Prelude.{◌≡◌, ℕ, List, ◌<◌, AllPairs}
 use Rattle.pipe_model.specs.declared.access.NodeAccess.{NodeAccess}
 use Rattle.pipe_model.specs.declared.node.Node.{Node}
 use Rattle.pipe_model.specs.declared.report.Report.{Report}
-use Rattle.pipe_model.specs.AccessHistory.{NotedAccess, access_at, accesses_to}
-use Rattle.pipe_model.specs.HistoryRaces.{RacesAt}
-use Rattle.pipe_model.specs.HistoryReports.{report_of}
+use Rattle.pipe_model.specs.CellRaces.{NotedAccess, access_at, accesses_to, RacesAt}
+use Rattle.pipe_model.specs.Reports.{report_of}
 use Rattle.pipe_model.specs.Races.{Among}
 
 -- access `later` races with none before access `earlier`

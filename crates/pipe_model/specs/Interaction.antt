@@ -41,18 +41,18 @@ with_budget budget left (Get c go) = Reading c (λ v. with_budget budget left (g
 with_budget budget left (Set c v d) = Writing c v (with_budget budget left d)
 with_budget budget left (Stage k n d) = Staging k n (with_budget budget budget d)
 
--- what an interpreter keeps in an iteration: the actions so far, and the steps that are left
+-- how far an interpreter has come in an iteration: the actions so far, and the steps that are left
 pub record Progress : Type 0 where
   pub actions : List Action
   pub left : ℕ
 
--- how a tree ends for an interpreter, with what was kept
-pub data Outcome (A : Type 0) : Type 0 where
-  Returned : A → Progress → Outcome A
-  Raised : Trap → Progress → Outcome A
+-- how a tree ends for an interpreter, with the state that it leaves
+pub data Outcome (S A : Type 0) : Type 0 where
+  Returned : A → S → Outcome S A
+  Raised : Trap → S → Outcome S A
 
 -- what comes after an outcome; nothing after a trap
-abbrev pub outcome_bind : {A B : Type 0} → Outcome A → (A → Progress → Outcome B) → Outcome B
+abbrev pub outcome_bind : {S A B : Type 0} → Outcome S A → (A → S → Outcome S B) → Outcome S B
 outcome_bind (Returned a k) f = f a k
 outcome_bind (Raised t k) f = Raised t k
 
@@ -70,7 +70,7 @@ abbrev pub value_seen : Pipeline → List Access → Progress → ℕ → ℤ
 value_seen p base k c = value_after p (base ++ accesses_in k.actions) c
 
 -- what an interpreter does with a tree
-abbrev pub interpret : {A : Type 0} → Pipeline → List Access → ℕ → Interaction A → Progress → Outcome A
+abbrev pub interpret : {A : Type 0} → Pipeline → List Access → ℕ → Interaction A → Progress → Outcome Progress A
 interpret p base budget (Return a) k = Returned a k
 interpret p base budget (Raise t) k = Raised t k
 interpret p base budget (Step d) k = spend_step k.left (Raised Budget k) (λ n. interpret p base budget d (record k { left = n }))
@@ -79,7 +79,7 @@ interpret p base budget (Set c v d) k = interpret p base budget d (progress_with
 interpret p base budget (Stage kind n d) k = interpret p base budget d (record { actions = k.actions ++ Staged kind n ∷ []; left = budget })
 
 -- the trace of an iteration that was interpreted to its end
-abbrev pub outcome_actions : Outcome ColumnEnd → List Action
+abbrev pub outcome_actions : Outcome Progress ColumnEnd → List Action
 outcome_actions (Returned e k) = k.actions ++ Ended e ∷ []
 outcome_actions (Raised t k) = k.actions ++ Ended (ends.Trapped t) ∷ []
 

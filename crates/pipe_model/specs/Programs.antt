@@ -37,7 +37,7 @@ setting_of tree input i = record {
     iteration = i;
     iterations = tree.limits.iterations;
     stages = natural tree.limits.stages;
-    emits = tree.limits.emits;
+    emits = natural tree.limits.emits;
   };
 }
 

@@ -18,7 +18,7 @@ use Rattle.pipe_model.specs.Allowed.{HasPassed}
 use Rattle.pipe_model.specs.LeftParent.{left_parent}
 use Rattle.pipe_model.specs.OrderList.{list_of_log}
 use Rattle.pipe_model.specs.TwoOrders.{down_first_log, right_first_log, down_element, right_element}
-use Rattle.pipe_model.specs.AccessHistory.{noted_access}
+use Rattle.pipe_model.specs.CellRaces.{noted_access}
 use Rattle.pipe_model.specs.HistoryRaces.{first_race_of}
 
 -- a column with stages 0, 1 and 3, and one to its right that waits in stage 2, which the first one skips

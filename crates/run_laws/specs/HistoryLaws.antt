@@ -1,7 +1,7 @@
 -- Laws of the access histories of a run (Xu, Lee, Agrawal 2018): three kept instances a cell are enough to find its
 -- first race.
 use Rattle.std.specs.Prelude.{ℕ, List, None, ◌≡◌, ◌↔◌, ◌<◌}
-use Rattle.pipe_model.specs.AccessHistory.{accesses_to}
+use Rattle.pipe_model.specs.CellRaces.{accesses_to}
 use Rattle.pipe_model.specs.HistoryRaces.{IsRightVerdict, first_race_of}
 use Rattle.pipe_model.specs.HistoryReports.{reports_below}
 use Rattle.pipe_model.specs.Pipeline.{Pipeline, AlwaysClosesLoop, IsWellFormed}

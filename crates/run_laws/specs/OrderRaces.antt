@@ -2,8 +2,8 @@
 use Rattle.std.specs.Prelude.{ℕ, ◌≡◌, ◌<◌, ◌⊎◌, List, length}
 use Rattle.std.specs.declared.option.Option.{Option}
 use Rattle.std.specs.declared.option.Option.TheVariants.{None, Some}
-use Rattle.pipe_model.specs.AccessHistory.{NotedAccess, access_at, FirstRace, first_race}
-use Rattle.pipe_model.specs.HistoryRaces.{KindsConflict}
+use Rattle.pipe_model.specs.AccessHistory.{FirstRace, first_race}
+use Rattle.pipe_model.specs.CellRaces.{NotedAccess, access_at, KindsConflict}
 use Rattle.pipe_model.specs.declared.node.NodeId.{NodeId}
 
 -- y is x, or stands before it in both orders

@@ -10,7 +10,7 @@ use Rattle.pipe_model.specs.State.{accesses_of}
 use Rattle.pipe_model.specs.Store.{written, wrote, wrote_as, last_or, value_after}
 use Rattle.serial_elision.specs.Caching.{AreLastWritten, IsConsistent}
 use Rattle.serial_elision.specs.declared.store.Store.TheInside.{Inside}
-use Rattle.serial_elision.specs.Kept.{cells_of}
+use Rattle.serial_elision.specs.ElisionState.{cells_of}
 
 -- what two lists of accesses write, one after the other
 pub written-append : (c : ℕ) (xs ys : List Access) → written c (xs ++ ys) ≡ written c xs ++ written c ys

@@ -24,7 +24,7 @@ use Rattle.pipe_model.specs.Store.{value_after}
 use Rattle.pipe_model.specs.SyntaxTree.{SyntaxTree}
 use Rattle.serial_elision.specs.Answers.{basis_of}
 use Rattle.serial_elision.specs.Elided.{AreElided, IsEnd, is_last, trap_in}
-use Rattle.serial_elision.specs.Kept.{Basis, Kept, cells_of, first_node, perform}
+use Rattle.serial_elision.specs.ElisionState.{Basis, ElisionState, cells_of, first_node, perform}
 use Rattle.serial_elision.proofs.Traces.{IsTraced, closes_after, leads_to_end}
 
 -- the accesses of a trace, with their instances and without
@@ -57,7 +57,7 @@ same_trace p q (Staging kind n d) before e f = ap (λ t. Staged kind n ∷ t) (s
 same_trace p q (Ending e') before e f = refl
 
 -- what is kept at the end of iteration i, told by its trace t
-pub record IsIteration (i : ℕ) (before : List NodeAccess) (t : List Action) (e : ColumnEnd) (k : Kept) : Type 0 where
+pub record IsIteration (i : ℕ) (before : List NodeAccess) (t : List Action) (e : ColumnEnd) (k : ElisionState) : Type 0 where
   pub accesses : k.accesses ≡ before ++ located i 0 t
   pub iteration : k.iteration ≡ i
   pub nodes : k.nodes ≡ column_of t
@@ -87,7 +87,7 @@ closes_by_nodes (n ∷ ns) ends.Closed = two_are_not_one n ns
 closes_by_nodes (n ∷ ns) (ends.Trapped t) = two_are_not_one n ns
 
 -- an iteration of a program, from its first instance to its end
-pub is_iteration : (tree : SyntaxTree) (input : List ℤ) (i : ℕ) (k j : Kept) (e : ColumnEnd) → k.basis ≡ basis_of tree → k.iteration ≡ i
+pub is_iteration : (tree : SyntaxTree) (input : List ℤ) (i : ℕ) (k j : ElisionState) (e : ColumnEnd) → k.basis ≡ basis_of tree → k.iteration ≡ i
     → k.nodes ≡ first_node ∷ [] → k.left ≡ k.basis.budget
     → IsEnd e j (perform (run_iteration (setting_of tree input i) tree.test tree.body) k)
     → IsIteration i k.accesses (serial_trace (pipeline_of tree input) ((pipeline_of tree input).behaviour i) (accesses_of k.accesses)) e j
@@ -107,11 +107,11 @@ is_iteration tree input i k j e basis iteration nodes left h =
     here in
     let one : IsTraced t k.basis i k.accesses (first_node ∷ []) (perform d k) = subst (λ (x : List Node). IsTraced t k.basis i k.accesses x (perform d k))
     nodes from in
-    let column : j.nodes ≡ column_of t = sym (ap (λ (x : Kept). x.nodes) h.kept) ∙ one.nodes in
+    let column : j.nodes ≡ column_of t = sym (ap (λ (x : ElisionState). x.nodes) h.kept) ∙ one.nodes in
     let ended : trace_end t ≡ Some e = one.ended ∙ ap Some h.ended in
     record {
-      accesses = sym (ap (λ (x : Kept). x.accesses) h.kept) ∙ one.accesses;
-      iteration = sym (ap (λ (x : Kept). x.iteration) h.kept) ∙ one.iteration;
+      accesses = sym (ap (λ (x : ElisionState). x.accesses) h.kept) ∙ one.accesses;
+      iteration = sym (ap (λ (x : ElisionState). x.iteration) h.kept) ∙ one.iteration;
       nodes = column;
       ended = ended;
       trap = ap (λ n. trap_in i n e) column ∙ trap_of_trace i t e ∙ ap (trap_at_end i t) (sym ended);
@@ -126,7 +126,7 @@ rest_after p n m i t before after true e closed open' same = rw (e, closed refl)
 rest_after p n m i t before after false e closed open' same = rw (e, open' refl, same)
 
 -- one iteration more
-pub elided_more : (p : Pipeline) (n m i : ℕ) (columns : List Column) (trap : Option TrapAt) (before : List NodeAccess) (e : ColumnEnd) (k : Kept)
+pub elided_more : (p : Pipeline) (n m i : ℕ) (columns : List Column) (trap : Option TrapAt) (before : List NodeAccess) (e : ColumnEnd) (k : ElisionState)
     → AreElided p (suc n) i columns trap before → IsIteration i before (serial_trace p (p.behaviour i) (accesses_of before)) e k
     → (is_last k.nodes e ≡ true → m ≡ zero) → (is_last k.nodes e ≡ false → m ≡ n)
     → AreElided p m (i + 1) (columns ++ record { nodes = k.nodes; end = Some e } ∷ []) (first_of_both trap (trap_in i k.nodes e)) k.accesses
@@ -158,7 +158,7 @@ or_is_first None b = refl
 or_is_first (Some t) b = refl
 
 -- one iteration more, as the loop keeps it
-pub elided_push : (p : Pipeline) (n m i : ℕ) (columns pushed : List Column) (trap now : Option TrapAt) (before : List NodeAccess) (e : ColumnEnd) (k : Kept)
+pub elided_push : (p : Pipeline) (n m i : ℕ) (columns pushed : List Column) (trap now : Option TrapAt) (before : List NodeAccess) (e : ColumnEnd) (k : ElisionState)
     (nodes : List Node)
     → AreElided p (suc n) i columns trap before → IsIteration i before (serial_trace p (p.behaviour i) (accesses_of before)) e k
     → (is_last k.nodes e ≡ true → m ≡ zero) → (is_last k.nodes e ≡ false → m ≡ n)

@@ -164,9 +164,10 @@ unless_is_whole false ts w = w
 serial_traces_are_whole : (p : Pipeline) (n i : ℕ) (before : List Access) → AreWhole (serial_traces_from p n i before)
 serial_traces_are_whole p zero i before = tt
 serial_traces_are_whole p (suc n) i before =
-    let t : List Action = serial_trace p (p.behaviour i) before in
-    (serial_trace_is_whole p (p.behaviour i) before,
-    unless_is_whole (closes_loop t) _ (serial_traces_are_whole p n (i + 1) (before ++ accesses_in t)))
+    let t : List Action = serial_trace p (p.behaviour i) before in (
+      serial_trace_is_whole p (p.behaviour i) before,
+      unless_is_whole (closes_loop t) _ (serial_traces_are_whole p n (i + 1) (before ++ accesses_in t)),
+    )
 
 -- the columns and the accesses of the serial elision tell its events
 pub events_are_serial : (p : Pipeline) → events_of 0 (serial_ended_columns p) (serial_accesses p) ≡ serial_events p

@@ -4,12 +4,12 @@ use Rattle.pipe_model.specs.declared.column.ColumnEnd.{ColumnEnd}
 use Rattle.pipe_model.specs.declared.column.ColumnEnd.TheVariants.{End}
 use Rattle.pipe_model.specs.declared.node.Node.{Node}
 use Rattle.pipe_model.specs.Evaluation.{Environment, Local, Setting, after_test, evaluate, execute_all, first_environment, run_iteration}
-use Rattle.pipe_model.specs.Interaction.{Interaction, Return, Step, bind}
+use Rattle.pipe_model.specs.Interaction.{Interaction, Return, Step, bind, Returned, outcome_bind}
 use Rattle.pipe_model.specs.SyntaxTree.{Expression, Statements}
 use Rattle.serial_elision.specs.declared.halt.Halt.{Halt}
 use Rattle.serial_elision.specs.declared.halt.Halt.TheVariants as halts
 use Rattle.serial_elision.specs.Answers.{Leaves, Meets, environment_at}
-use Rattle.serial_elision.specs.Kept.{Kept, Gave, first_node, perform, ran_bind}
+use Rattle.serial_elision.specs.ElisionState.{ElisionState, first_node, perform}
 use Rattle.serial_elision.proofs.Performing.{goes_on, meets_left, meets_next, perform-bind}
 
 -- a body begins with no locals, in the first instance
@@ -21,32 +21,32 @@ abbrev pub whole_body : Setting → Statements → Interaction ColumnEnd
 whole_body w body = bind (execute_all w body first_environment) (λ env. Return End)
 
 -- a statement of the body breaks
-pub body_breaks : (w : Setting) (body : Statements) (locals : List Local) (k k1 : Kept) (after : Environment) (e : Halt) → locals ≡ []
+pub body_breaks : (w : Setting) (body : Statements) (locals : List Local) (k k1 : ElisionState) (after : Environment) (e : Halt) → locals ≡ []
     → k.nodes ≡ first_node ∷ []
     → Leaves (Err e) (perform (execute_all w body (environment_at locals k.nodes)) k) after k1 → Meets (Err e) (perform (whole_body w body) k) k1
 body_breaks w body locals k k1 after (halts.Trap t) none begun h =
     perform-bind (execute_all w body first_environment) (λ env. Return End) k
-    ∙ ap (λ r. ran_bind r (λ a j. perform (Return End) j)) (ap (λ env. perform (execute_all w body env) k) (sym (first_is locals k.nodes none begun)) ∙ h)
+    ∙ ap (λ r. outcome_bind r (λ a j. perform (Return End) j)) (ap (λ env. perform (execute_all w body env) k) (sym (first_is locals k.nodes none begun)) ∙ h)
 body_breaks w body locals k k1 after halts.NoMemory none begun h = tt
 
 -- the body comes to its end
-pub body_ends : (w : Setting) (body : Statements) (locals : List Local) (k k1 : Kept) (after : Environment) → locals ≡ [] → k.nodes ≡ first_node ∷ []
-    → perform (execute_all w body (environment_at locals k.nodes)) k ≡ Gave after k1 → perform (whole_body w body) k ≡ Gave End k1
+pub body_ends : (w : Setting) (body : Statements) (locals : List Local) (k k1 : ElisionState) (after : Environment) → locals ≡ [] → k.nodes ≡ first_node ∷ []
+    → perform (execute_all w body (environment_at locals k.nodes)) k ≡ Returned after k1 → perform (whole_body w body) k ≡ Returned End k1
 body_ends w body locals k k1 after none begun h =
     goes_on (execute_all w body first_environment) (λ env. Return End) k k1 after
     (ap (λ env. perform (execute_all w body env) k) (sym (first_is locals k.nodes none begun)) ∙ h)
 
 -- the test breaks
-pub test_breaks : (w : Setting) (test : Expression) (body : Statements) (locals : List Local) (k k1 : Kept) (e : Halt) → locals ≡ []
+pub test_breaks : (w : Setting) (test : Expression) (body : Statements) (locals : List Local) (k k1 : ElisionState) (e : Halt) → locals ≡ []
     → Meets (Err e) (perform (evaluate w locals test) k) k1 → Meets (Err e) (perform (run_iteration w test body) k) k1
 test_breaks w test body locals k k1 e none h =
     meets_left (evaluate w [] test) (λ v. Step (after_test w.world v (whole_body w body))) k k1 e
     (subst (λ (l : List Local). Meets (Err e) (perform (evaluate w l test) k) k1) none h)
 
 -- the test has a value
-pub test_gives : (w : Setting) (test : Expression) (body : Statements) (locals : List Local) (k k1 k2 : Kept) (v : ℤ) (r : Result ColumnEnd Halt)
+pub test_gives : (w : Setting) (test : Expression) (body : Statements) (locals : List Local) (k k1 k2 : ElisionState) (v : ℤ) (r : Result ColumnEnd Halt)
     → locals ≡ []
-    → perform (evaluate w locals test) k ≡ Gave v k1 → Meets r (perform (Step (after_test w.world v (whole_body w body))) k1) k2
+    → perform (evaluate w locals test) k ≡ Returned v k1 → Meets r (perform (Step (after_test w.world v (whole_body w body))) k1) k2
     → Meets r (perform (run_iteration w test body) k) k2
 test_gives w test body locals k k1 k2 v r none h m =
     meets_next (evaluate w [] test) (λ x. Step (after_test w.world x (whole_body w body))) k k1 k2 v r

@@ -8,7 +8,7 @@ use Rattle.pipe_model.specs.Programs.{declared_size, declared_values, range_of}
 use Rattle.pipe_model.specs.declared.tree.Program.{Program}
 use Rattle.pipe_model.specs.SyntaxTree.{tree_of}
 use Rattle.serial_elision.specs.Answers.{basis_of}
-use Rattle.serial_elision.specs.Kept.{Basis}
+use Rattle.serial_elision.specs.ElisionState.{Basis}
 use Rattle.serial_elision.specs.Runnable.{IsPlainCell}
 
 -- the cell of a declaration at a place of a list, or of one behind it

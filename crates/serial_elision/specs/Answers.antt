@@ -3,13 +3,13 @@ use Rattle.std.specs.Prelude.{◌≡◌, ℕ, ℤ, pos, List, ◌∷◌, Result,
 use Rattle.pipe_model.specs.declared.node.Node.{Node}
 use Rattle.pipe_model.specs.declared.trap.Trap.{Trap}
 use Rattle.pipe_model.specs.Evaluation.{CellRange, Environment, Local, Setting}
-use Rattle.pipe_model.specs.Interaction.{Interaction, Return, Raise}
+use Rattle.pipe_model.specs.Interaction.{Interaction, Return, Raise, Outcome, Returned, Raised}
 use Rattle.pipe_model.specs.Programs.{declared_values, natural, setting_of}
 use Rattle.pipe_model.specs.SyntaxTree.{SyntaxTree, tree_of}
 use Rattle.serial_elision.specs.declared.halt.Halt.{Halt}
 use Rattle.serial_elision.specs.declared.halt.Halt.TheVariants as halts
 use Rattle.serial_elision.specs.declared.place.Place.{Place}
-use Rattle.serial_elision.specs.Kept.{Basis, Kept, Ran, Gave, Broke, position_of}
+use Rattle.serial_elision.specs.ElisionState.{Basis, ElisionState, position_of}
 
 -- where a part of the program runs
 abbrev pub setting_at : Place → Setting
@@ -25,15 +25,15 @@ basis_of tree = record {
 }
 
 -- the call answers what the tree gives and leaves what it keeps, unless memory was refused
-abbrev pub Meets : {A : Type 0} → Result A Halt → Ran A → Kept → Type 0
-Meets (Ok v) ran k = ran ≡ Gave v k
-Meets (Err (halts.Trap t)) ran k = ran ≡ Broke t k
+abbrev pub Meets : {A : Type 0} → Result A Halt → Outcome ElisionState A → ElisionState → Type 0
+Meets (Ok v) ran k = ran ≡ Returned v k
+Meets (Err (halts.Trap t)) ran k = ran ≡ Raised t k
 Meets (Err halts.NoMemory) ran k = Unit {0}
 
 -- the same, where what the tree gives is left behind a reference
-abbrev pub Leaves : {A : Type 0} → Result (Unit {0}) Halt → Ran A → A → Kept → Type 0
-Leaves (Ok done) ran a k = ran ≡ Gave a k
-Leaves (Err (halts.Trap t)) ran a k = ran ≡ Broke t k
+abbrev pub Leaves : {A : Type 0} → Result (Unit {0}) Halt → Outcome ElisionState A → A → ElisionState → Type 0
+Leaves (Ok done) ran a k = ran ≡ Returned a k
+Leaves (Err (halts.Trap t)) ran a k = ran ≡ Raised t k
 Leaves (Err halts.NoMemory) ran a k = Unit {0}
 
 -- the answer of an operator
@@ -51,5 +51,5 @@ abbrev pub environment_at : List Local → List Node → Environment
 environment_at locals nodes = record { locals = locals; stage = position_of nodes }
 
 -- the locals, in the stage of the last instance
-abbrev pub environment_of : List Local → Kept → Environment
+abbrev pub environment_of : List Local → ElisionState → Environment
 environment_of locals k = environment_at locals k.nodes

@@ -4,7 +4,7 @@ use Rattle.pipe_model.specs.declared.access.Access.{Access}
 use Rattle.pipe_model.specs.State.{accesses_of}
 use Rattle.pipe_model.specs.Store.{last_or, written}
 use Rattle.serial_elision.specs.declared.store.Store.TheInside.{Inside}
-use Rattle.serial_elision.specs.Kept.{first_node}
+use Rattle.serial_elision.specs.ElisionState.{first_node}
 
 -- the values are those that the accesses wrote last, and the declared ones where they wrote none
 abbrev pub AreLastWritten : List ℤ → List ℤ → List Access → Type 0

@@ -1,4 +1,4 @@
--- What iterations come to, told by what is kept at their end, and how the elision's columns, trap and accesses grow with them.
+-- What iterations come to, told by the state at their end, and how the elision's columns, trap and accesses grow with them.
 use Rattle.std.specs.Prelude.{◌≡◌, ℕ, ◌-◌, ◌&&◌, ◌==◌, ◌++◌, List, Bool, Option, Some, None, length, map}
 use Rattle.pipe_model.specs.declared.access.NodeAccess.{NodeAccess}
 use Rattle.pipe_model.specs.declared.column.Column.{Column}
@@ -13,12 +13,13 @@ use Rattle.pipe_model.specs.Outcome.{ended_column, first_of_both, first_trap, se
 use Rattle.pipe_model.specs.Pipeline.{Pipeline}
 use Rattle.pipe_model.specs.SerialElision.{located_from, serial_accesses, serial_traces_from}
 use Rattle.pipe_model.specs.State.{accesses_of}
-use Rattle.serial_elision.specs.Kept.{Kept, Ran, end_of, kept_of, position_of}
+use Rattle.serial_elision.specs.ElisionState.{ElisionState, end_of, state_of, position_of}
+use Rattle.pipe_model.specs.Interaction.{Outcome}
 
--- the iteration ends so, and this is kept
-pub record IsEnd (e : ColumnEnd) (k : Kept) (ran : Ran ColumnEnd) : Type 0 where
+-- the iteration ends so, in this state
+pub record IsEnd (e : ColumnEnd) (k : ElisionState) (ran : Outcome ElisionState ColumnEnd) : Type 0 where
   pub ended : end_of ran ≡ e
-  pub kept : kept_of ran ≡ k
+  pub kept : state_of ran ≡ k
 
 -- the trap of iteration i, which had these instances and ended so
 abbrev pub trap_in : ℕ → List Node → ColumnEnd → Option TrapAt

@@ -1,4 +1,4 @@
-pub mod Kept
+pub mod ElisionState
 pub mod Runnable
 pub mod Answers
 pub mod Scope

@@ -1,4 +1,5 @@
--- The programs that the elision runs: those of the first form, told by their trees.
+-- The programs whose loop the elision runs, told by their trees. Each program of the first form is one of them; that such a
+-- program has nothing before and after its loop, and names that are known, is not needed to run it.
 use Rattle.std.specs.Prelude.{◌≡◌, ◌≤◌, ◌⊎◌, ℕ, length, All, IsTrue, None}
 use Rattle.pipe_model.specs.declared.tree.Declaration.{Declaration}
 use Rattle.pipe_model.specs.Rules.{limits_are_in_range}

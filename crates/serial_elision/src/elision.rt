@@ -9,7 +9,7 @@ ghost use Rattle.pipe_model.specs.SerialElision.{serial_accesses};
 ghost use Rattle.pipe_model.specs.SyntaxTree.{expression_of, statements_of, tree_of};
 ghost use Rattle.serial_elision.specs.Answers.{Leaves, Meets, basis_of, environment_of, setting_at};
 ghost use Rattle.serial_elision.specs.Elided.{AreElided, IsEnd};
-ghost use Rattle.serial_elision.specs.Kept.{first_node, perform};
+ghost use Rattle.serial_elision.specs.ElisionState.{first_node, perform};
 ghost use Rattle.serial_elision.specs.Runnable.{AreRunnable, IsPlainCell, IsRunnable, IsRunnableExpression};
 
 use crate::halt::Halt;
@@ -193,9 +193,10 @@ pub struct SerialRun {
     pub accesses: NodeAccesses,
 }
 
-/// Runs a program of the first form on an input as its serial elision: the iterations one after the other, each
-/// to its end, up to the one that closes the loop. Such a program has nothing before and after its loop. A trap
-/// is no error: it ends its iteration, and in instance 0 the loop. The one error is want of memory.
+/// Runs the loop of a program on an input as its serial elision: the iterations one after the other, each to its
+/// end, up to the one that closes the loop. What stands before and after the loop is not run; a program of the
+/// first form, which this is for, has nothing there. A trap is no error: it ends its iteration, and in instance 0
+/// the loop. The one error is want of memory.
 pub fn run_tree(alloc: Global, program: &Program, input: &Numbers) -> Result<SerialRun, NoMemory>
     requires { IsRunnable (tree_of program.now) }
     ensures output { IfOk result (λ run. run.output ≡ serial_output (pipeline_of (tree_of program.now) input.now)) }

@@ -46,12 +46,7 @@ fn push_accesses(
 }
 
 // adds the events by which an instance is named and entered
-fn push_entry(
-    events: &mut Events,
-    iteration: u32,
-    index: usize,
-    node: Node,
-) -> Result<(), NoMemory>
+fn push_entry(events: &mut Events, iteration: u32, index: usize, node: Node) -> Result<(), NoMemory>
     ensures { OnOk result (events.new ≡ events.old ++ entry_events iteration index node) }
 {
     if index > 0 {
@@ -82,11 +77,7 @@ fn push_column<'a>(
 }
 
 // adds the end of the iteration, where it has one
-fn push_end(
-    events: &mut Events,
-    iteration: u32,
-    end: Option<ColumnEnd>,
-) -> Result<(), NoMemory>
+fn push_end(events: &mut Events, iteration: u32, end: Option<ColumnEnd>) -> Result<(), NoMemory>
     ensures { OnOk result (events.new ≡ events.old ++ end_events iteration end) }
 {
     if let Some(end) = end {
@@ -99,7 +90,9 @@ fn push_end(
 fn most_events(columns: &[Column], accesses: usize) -> usize {
     let mut most = accesses;
     for column in columns {
-        most = most.saturating_add(2).saturating_add(column.nodes.len().saturating_mul(2));
+        most = most
+            .saturating_add(2)
+            .saturating_add(column.nodes.len().saturating_mul(2));
     }
     most
 }

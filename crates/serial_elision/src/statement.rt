@@ -6,7 +6,7 @@ ghost use Rattle.pipe_model.specs.Interaction.{Return, Step, bind};
 ghost use Rattle.pipe_model.specs.Programs.{range_of};
 ghost use Rattle.pipe_model.specs.SyntaxTree.{expression_of, stage_statement, statement_of, statements_of, tree_of};
 ghost use Rattle.serial_elision.specs.Answers.{Leaves, basis_of, environment_of, setting_at};
-ghost use Rattle.serial_elision.specs.Kept.{perform, position_of};
+ghost use Rattle.serial_elision.specs.ElisionState.{perform, position_of};
 ghost use Rattle.serial_elision.specs.Runnable.{AreRunnable, IsPlainCell, IsRunnableStatement};
 
 use crate::halt::Halt;

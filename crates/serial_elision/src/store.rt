@@ -9,7 +9,7 @@ ghost use Rattle.serial_elision.specs.Answers.{Meets, Leaves};
 ghost use Rattle.pipe_model.specs.State.{accesses_of};
 ghost use Rattle.pipe_model.specs.Store.{output_of, wrote, written};
 ghost use Rattle.serial_elision.specs.Elided.{is_last, trap_in};
-ghost use Rattle.serial_elision.specs.Kept.{Kept, cells_of, cell_value, kept_with, perform, position_of, first_node};
+ghost use Rattle.serial_elision.specs.ElisionState.{ElisionState, cells_of, cell_value, with_access, perform, position_of, first_node};
 
 use crate::halt::Halt;
 use pipe_model::access::{Access, AccessKind, CellId, NodeAccess, NodeAccesses};
@@ -39,9 +39,9 @@ pub struct Store {
 }
 
 impl Model for Store {
-    ghost use Rattle.serial_elision.specs.Kept.{Kept};
+    ghost use Rattle.serial_elision.specs.ElisionState.{ElisionState};
 
-    ghost Value = { Kept };
+    ghost Value = { ElisionState };
 
     ghost use Rattle.serial_elision.specs.Caching.{IsConsistent};
 
@@ -139,7 +139,7 @@ impl Store {
         requires there { cell < length self.old.basis.initial_values }
         requires no_output { cell ≢ 1 }
         ensures value { IfOk result (λ v. v ≡ cell_value self.old cell) }
-        ensures ok { IfOk result (λ v. self.new ≡ kept_with self.old (read_access cell v)) }
+        ensures ok { IfOk result (λ v. self.new ≡ with_access self.old (read_access cell v)) }
         ensures err { OnErr result (self.new ≡ self.old) }
     {
         let value = self.values[cell as usize];
@@ -152,7 +152,7 @@ impl Store {
     pub fn write(&mut self, cell: u32, value: i64) -> Result<(), NoMemory>
         requires there { cell < length self.old.basis.initial_values }
         requires no_output { cell ≢ 1 }
-        ensures ok { OnOk result (self.new ≡ kept_with self.old (write_access cell value)) }
+        ensures ok { OnOk result (self.new ≡ with_access self.old (write_access cell value)) }
         ensures err { OnErr result (self.new ≡ self.old) }
     {
         let access = self.made_here(cell, AccessKind::Write, value);
@@ -164,7 +164,7 @@ impl Store {
     /// Reads how many numbers were emitted, and emits one more where the limit allows it.
     pub fn emit(&mut self, value: i64) -> Result<(), Halt>
         requires there { 1 < length self.old.basis.initial_values }
-        ensures meets { Meets result (perform (evaluation.emit (pos self.old.basis.output_limit) value) self.old) self.new }
+        ensures meets { Meets result (perform (evaluation.emit self.old.basis.output_limit value) self.old) self.new }
         ensures basis { self.new.basis ≡ self.old.basis }
         ensures nodes { self.new.nodes ≡ self.old.nodes }
     {

@@ -6,7 +6,7 @@ ghost use Rattle.pipe_model.specs.Interaction.{Step};
 ghost use Rattle.pipe_model.specs.Programs.{range_of};
 ghost use Rattle.pipe_model.specs.SyntaxTree.{expression_of, tree_of};
 ghost use Rattle.serial_elision.specs.Answers.{IsOperated, Meets, basis_of, plain_range, setting_at};
-ghost use Rattle.serial_elision.specs.Kept.{perform};
+ghost use Rattle.serial_elision.specs.ElisionState.{perform};
 ghost use Rattle.serial_elision.specs.Runnable.{IsPlainCell, IsRunnableExpression, IsRunnableOperator};
 
 use crate::halt::Halt;

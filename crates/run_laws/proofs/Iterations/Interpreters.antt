@@ -12,8 +12,8 @@ use Rattle.run_laws.proofs.Iterations.TraceParts.{accesses_in-append}
 use Rattle.run_laws.specs.BehaviourLaws.{BindsAreInterpretedInTurn, InterpretersAreSerial}
 
 -- a step spent before a bind is spent inside it
-outcome_bind-spend_step : {A B : Type 0} (n : ℕ) (stop : Outcome A) (go : ℕ → Outcome A)
-    (f : A → Progress → Outcome B)
+outcome_bind-spend_step : {S A B : Type 0} (n : ℕ) (stop : Outcome S A) (go : ℕ → Outcome S A)
+    (f : A → S → Outcome S B)
     → outcome_bind (spend_step n stop go) f ≡ spend_step n (outcome_bind stop f) (λ m. outcome_bind (go m) f)
 outcome_bind-spend_step zero stop go f = refl
 outcome_bind-spend_step (suc n) stop go f = refl

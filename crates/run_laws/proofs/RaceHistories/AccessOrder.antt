@@ -4,7 +4,7 @@ use Rattle.std.proofs.Common.{refl, ◌∙◌, Bool, true, false, append-nil}
 use Rattle.std.proofs.lemmas.Bool.{cases_lt}
 use Rattle.std.proofs.lemmas.List.{get_or_append_left, get_or_push}
 use Rattle.std.specs.declared.option.Option.TheVariants.{Some}
-use Rattle.pipe_model.specs.AccessHistory.{NotedAccess, access_at, noted_access, accesses_to}
+use Rattle.pipe_model.specs.CellRaces.{NotedAccess, access_at, noted_access, accesses_to}
 use Rattle.pipe_model.specs.Allowed.{ControlAllows}
 use Rattle.pipe_model.specs.Behaviour.{Action, Accessed, Staged, Ended}
 use Rattle.pipe_model.specs.Columns.{at}

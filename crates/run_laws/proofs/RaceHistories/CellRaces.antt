@@ -2,9 +2,10 @@
 use Rattle.std.proofs.Common.{ℕ, List, ◌≡◌, refl, arith, subst, sym, ap, ◌∙◌}
 use Rattle.std.specs.declared.option.Option.{Option}
 use Rattle.std.specs.declared.option.Option.TheVariants.{None, Some}
-use Rattle.pipe_model.specs.AccessHistory.{NotedAccess, access_at, accesses_to, FirstRace}
+use Rattle.pipe_model.specs.AccessHistory.{FirstRace}
+use Rattle.pipe_model.specs.CellRaces.{NotedAccess, access_at, accesses_to, KindsConflict, RacesAt}
 use Rattle.pipe_model.specs.Dag.{AreParallel}
-use Rattle.pipe_model.specs.HistoryRaces.{KindsConflict, RacesAt, IsRightVerdict, first_race_of}
+use Rattle.pipe_model.specs.HistoryRaces.{IsRightVerdict, first_race_of}
 use Rattle.pipe_model.specs.Races.{IsRaceFree}
 use Rattle.pipe_model.specs.Starts.{starts_of}
 use Rattle.pipe_model.specs.State.{own_columns}

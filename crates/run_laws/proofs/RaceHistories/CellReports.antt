@@ -4,12 +4,13 @@ use Rattle.std.proofs.Common.{subst, inl, inr}
 use Rattle.std.proofs.lemmas.Bool.{cases_eq}
 use Rattle.std.specs.declared.option.Option.{Option}
 use Rattle.std.specs.declared.option.Option.TheVariants.{None, Some}
-use Rattle.pipe_model.specs.AccessHistory.{NotedAccess, access_at, accesses_to, FirstRace}
+use Rattle.pipe_model.specs.AccessHistory.{FirstRace}
+use Rattle.pipe_model.specs.CellRaces.{NotedAccess, access_at, accesses_to, KindsConflict}
 use Rattle.pipe_model.specs.Dag.{AreParallel}
-use Rattle.pipe_model.specs.HistoryRaces.{IsFirstRaceOf, KindsConflict, IsRightVerdict, first_race_of}
-use Rattle.pipe_model.specs.HistoryReports.{report_of, report_found, reports_below}
+use Rattle.pipe_model.specs.HistoryRaces.{IsFirstRaceOf, IsRightVerdict, first_race_of}
+use Rattle.pipe_model.specs.HistoryReports.{report_found, reports_below}
 use Rattle.pipe_model.specs.Races.{Among, Here, Later}
-use Rattle.pipe_model.specs.Reports.{NamesRace, number_at}
+use Rattle.pipe_model.specs.Reports.{NamesRace, number_at, report_of}
 use Rattle.pipe_model.specs.Starts.{starts_of}
 use Rattle.pipe_model.specs.State.{State, own_columns}
 use Rattle.pipe_model.specs.declared.node.NodeId.{NodeId}

@@ -4,10 +4,10 @@ use Rattle.std.proofs.Common.{List, ◌<◌, ◌≤◌, suc, length, ◌+◌, []
 use Rattle.std.proofs.lemmas.Bool.{ltb-true, cases_lt, ltb-false, cases_eq}
 use Rattle.std.specs.declared.option.Option.{Option}
 use Rattle.std.specs.declared.option.Option.TheVariants.{Some, None}
-use Rattle.pipe_model.specs.AccessHistory.{NotedAccess, noted_access, race_with, access_at, later, AccessHistory, check_access}
+use Rattle.pipe_model.specs.AccessHistory.{race_with, later, AccessHistory, check_access}
+use Rattle.pipe_model.specs.CellRaces.{NotedAccess, noted_access, access_at, KindsConflict}
 use Rattle.pipe_model.specs.AccessHistory.{updated_history, FirstRace, race_or, first_race_from, first_race, empty_history}
 use Rattle.pipe_model.specs.Columns.{at}
-use Rattle.pipe_model.specs.HistoryRaces.{KindsConflict}
 use Rattle.pipe_model.specs.declared.access.AccessKind.{AccessKind}
 use Rattle.pipe_model.specs.declared.access.AccessKind.TheVariants.{Write, Read}
 use Rattle.pipe_model.specs.declared.node.NodeId.{NodeId}

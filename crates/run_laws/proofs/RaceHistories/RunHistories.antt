@@ -2,9 +2,10 @@
 use Rattle.std.proofs.Common.{List, ◌≡◌, inl, arith, inr, ap₂, ℕ}
 use Rattle.std.specs.declared.option.Option.{Option}
 use Rattle.std.specs.declared.option.Option.TheVariants.{None, Some}
-use Rattle.pipe_model.specs.AccessHistory.{NotedAccess, access_at, FirstRace, first_race, accesses_to}
+use Rattle.pipe_model.specs.AccessHistory.{FirstRace, first_race}
+use Rattle.pipe_model.specs.CellRaces.{NotedAccess, access_at, accesses_to, RacesAt}
 use Rattle.pipe_model.specs.Columns.{AreColumns, at}
-use Rattle.pipe_model.specs.HistoryRaces.{RacesAt, IsRightVerdict}
+use Rattle.pipe_model.specs.HistoryRaces.{IsRightVerdict}
 use Rattle.pipe_model.specs.Starts.{AreStarts, IsStarted, starts_of}
 use Rattle.pipe_model.specs.State.{own_columns}
 use Rattle.pipe_model.specs.TwoOrders.{down_place, right_place}

@@ -1,5 +1,5 @@
 use Rattle.std.proofs.Common.{ℕ, ◌<◌, length}
-use Rattle.pipe_model.specs.HistoryRaces.{RacesAt}
+use Rattle.pipe_model.specs.CellRaces.{RacesAt}
 use Rattle.dag_build.specs.AccessFronts.{AreFronts}
 use Rattle.dag_build.specs.CellRaces.{noted_all}
 use Rattle.dag_build.proofs.dag.Dag.first_race.Given as goal
