@@ -12,11 +12,8 @@ use crate::whole::{Whole, read_whole};
 use pipe_model::list::Bytes;
 use pipe_model::memory::NoMemory;
 use pipe_model::tree::Program;
-use pipe_parser::first_form::{FirstFault, read_program};
+use pipe_parser::first_form::{FirstFault, LONGEST_SOURCE, read_program};
 use std::alloc::Global;
-
-/// The longest source, in bytes.
-pub const SOURCE_LIMIT: usize = 1_048_576;
 
 const MISSING: &str = "refused missing ";
 
@@ -35,14 +32,15 @@ pub enum Source {
     Failed,
 }
 
-/// Loads the program of a source.
+/// Loads the program of a source. Fails for want of memory alone; a file that is missing, refused or not read is told by the
+/// answer.
 pub fn load_source<F: Files>(alloc: Global, files: &mut F, name: &str) -> Result<Source, NoMemory>
     ensures keeps { F.holds files.new ≡ F.holds files.old }
     ensures cause { IfOk result (λ source. CountsFault (is_source_fault source) (F.faults files.old) (F.faults files.new)) }
     ensures memory { OnErr result (F.faults files.new ≡ F.faults files.old) }
     ensures answer { IfOk result (λ source. IsSourceAnswer (F.holds files.old) name.now source) }
 {
-    let bytes = match read_whole(alloc, files, name, SOURCE_LIMIT)? {
+    let bytes = match read_whole(alloc, files, name, LONGEST_SOURCE)? {
         Whole::Missing => return Ok(Source::Refused(named_line(alloc, MISSING, name)?)),
         Whole::Failed => return Ok(Source::Failed),
         Whole::TooLong => return Ok(Source::Refused(line(alloc, SOURCE_NOT_BUILT)?)),
@@ -77,7 +75,7 @@ pub enum Input {
     Failed,
 }
 
-/// Loads an input, which has to be empty.
+/// Loads an input, which has to be empty: no more than its first byte is read. Fails for want of memory alone.
 pub fn load_input<F: Files>(alloc: Global, files: &mut F, name: &str) -> Result<Input, NoMemory>
     ensures keeps { F.holds files.new ≡ F.holds files.old }
     ensures cause { IfOk result (λ input. CountsFault (is_input_fault input) (F.faults files.old) (F.faults files.new)) }

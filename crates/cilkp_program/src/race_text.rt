@@ -133,7 +133,7 @@ fn push_race(
     Ok(())
 }
 
-/// The lines of races, one for each report; the declarations name the cells.
+/// The lines of races, one for each report; the declarations name the cells. Fails for want of memory alone.
 pub fn race_text(alloc: Global, cells: &[Declaration], reports: &Reports) -> Result<Bytes, NoMemory>
     ensures { IfOk result (λ bytes. bytes ≡ race_lines cells.now reports.now) }
 {

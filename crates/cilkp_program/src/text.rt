@@ -9,14 +9,14 @@ use pipe_model::memory::NoMemory;
 use pipe_model::trap::{Trap, TrapAt, TrapPlace};
 use std::alloc::{AllocError, Global};
 
-/// A line as it stands.
+/// A line as it stands. Fails for want of memory alone.
 pub fn line(alloc: Global, text: &str) -> Result<Bytes, NoMemory>
     ensures { IfOk result (λ bytes. bytes ≡ text.now) }
 {
     Ok(Bytes::from_vec(text.as_bytes().to_vec(alloc)?))
 }
 
-/// A line that ends in a name.
+/// A line that ends in a name. Fails for want of memory alone.
 pub fn named_line(alloc: Global, before: &str, name: &str) -> Result<Bytes, NoMemory>
     ensures { IfOk result (λ bytes. bytes ≡ before.now ++ (name.now ++ codes "\n")) }
 {
@@ -74,7 +74,7 @@ fn number_lines(alloc: Global, output: &[i64]) -> Result<String, AllocError>
     Ok(text)
 }
 
-/// The lines of a run: its output, and then its trap, where it has one.
+/// The lines of a run: its output, and then its trap, where it has one. Fails for want of memory alone.
 pub fn outcome_text(
     alloc: Global,
     output: &Numbers,

@@ -105,7 +105,9 @@ pub enum WriteEnd {
 /// How the writing of a text ended, and how many bytes at its front were taken.
 #[derive(Clone, Copy, PartialEq, Eq, Debug)]
 pub struct Written {
+    /// How it ended.
     pub end: WriteEnd,
+    /// How many bytes were taken.
     pub count: u64,
 }
 

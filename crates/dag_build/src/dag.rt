@@ -81,8 +81,8 @@ impl Dag {
         front
     }
 
-    /// Whether a path of at least one edge leads from `a` to `b`. It takes a look-up or two for each
-    /// doubling of the number of columns.
+    /// Whether a path of at least one edge leads from `a` to `b`, both instances of the columns. It
+    /// takes a look-up or two for each doubling of the number of columns.
     pub fn precedes(&self, a: NodeId, b: NodeId) -> bool
         requires a_in { IsNodeOf self.now a }
         requires b_in { IsNodeOf self.now b }

@@ -187,7 +187,8 @@ impl Dag {
         Ok(reports)
     }
 
-    /// The determinacy races of the accesses, one report for each cell that has some, rising by cell:
+    /// The determinacy races of the accesses, which instances of the columns have made: one report for
+    /// each cell that has some, rising by cell, with
     /// the first access that conflicts with an earlier access of a parallel instance, and the first
     /// such earlier access. Fails only for want of memory.
     pub fn races(&self, alloc: Global, accesses: &NodeAccesses) -> Result<Reports, NoMemory>

@@ -1,6 +1,6 @@
 -- The serial elision of a pipeline (Lee et al. 2013): the program without its parallel control, one iteration after
 -- the other, each to its end. Its traces come first; columns, accesses, ends and events are told by them.
-use Rattle.std.specs.Prelude.{ℕ, zero, suc, List, [], ◌∷◌, ◌++◌, Bool, true, false, ◌+◌, map, Option, Some, None}
+use Rattle.std.specs.Prelude.{ℕ, zero, suc, List, [], ◌∷◌, ◌++◌, Bool, true, false, ◌+◌, map, Option}
 use Rattle.pipe_model.specs.declared.access.Access.{Access}
 use Rattle.pipe_model.specs.declared.access.NodeAccess.{NodeAccess}
 use Rattle.pipe_model.specs.declared.column.ColumnEnd.{ColumnEnd}
@@ -34,12 +34,6 @@ serial_traces_from p (suc n) i before =
 -- the traces of the serial elision, iteration after iteration
 abbrev pub serial_traces : Pipeline → List (List Action)
 serial_traces p = serial_traces_from p (p.last_iteration + 1) 0 p.preamble
-
--- the trace of iteration i, if there is one
-abbrev pub trace_at : List (List Action) → ℕ → Option (List Action)
-trace_at [] i = None
-trace_at (t ∷ ts) zero = Some t
-trace_at (t ∷ ts) (suc i) = trace_at ts i
 
 -- the accesses of a trace with the instances that make them, from place k of column i on
 abbrev pub located : ℕ → ℕ → List Action → List NodeAccess

@@ -11,22 +11,29 @@ pub struct CellId(pub u32);
 /// Whether a cell is read or written.
 #[derive(Clone, Copy, PartialEq, Eq, Debug)]
 pub enum AccessKind {
+    /// The cell's value is taken.
     Read,
+    /// The cell gets a value.
     Write,
 }
 
-/// One access: the value that was read or written.
+/// One access to a cell.
 #[derive(Clone, Copy, PartialEq, Eq, Debug)]
 pub struct Access {
+    /// Which cell.
     pub cell: CellId,
+    /// Whether it was read or written.
     pub kind: AccessKind,
+    /// The value that was read or written.
     pub value: i64,
 }
 
 /// An access and the stage instance that made it.
 #[derive(Clone, Copy, PartialEq, Eq, Debug)]
 pub struct NodeAccess {
+    /// The instance that made it.
     pub node: NodeId,
+    /// The access.
     pub access: Access,
 }
 

@@ -18,7 +18,9 @@ pub enum ColumnEnd {
 /// An iteration: its stage instances in order, and its end where it has come to one.
 #[derive(Drop)]
 pub struct Column {
+    /// The stage instances that were entered.
     pub nodes: Nodes,
+    /// The end, none while the iteration goes on.
     pub end: Option<ColumnEnd>,
 }
 

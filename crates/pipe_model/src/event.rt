@@ -28,6 +28,8 @@ pub type Events = ListOf<Event>;
 /// A run: its events, and the columns that it has made.
 #[derive(Drop)]
 pub struct RunLog {
+    /// The columns that the events make, with their ends.
     pub columns: Columns,
+    /// The events, in the order in which they happened.
     pub events: Events,
 }

@@ -36,7 +36,7 @@ impl<T> ListOf<T> {
         }
     }
 
-    /// An empty list with room for so many items.
+    /// An empty list with room for so many items. Fails for want of memory alone.
     pub fn with_capacity(alloc: Global, capacity: usize) -> Result<Self, AllocError>
         ensures { IfOk result (λ list. list ≡ []) }
     {

@@ -21,7 +21,7 @@ impl Model for Name {
 }
 
 impl Name {
-    /// The name with these bytes.
+    /// The name with these bytes. Fails for want of memory alone.
     pub fn new(alloc: Global, bytes: &[u8]) -> Result<Name, AllocError>
         ensures { IfOk result (λ name. name ≡ bytes.now) }
     {

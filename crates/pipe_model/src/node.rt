@@ -16,14 +16,18 @@ pub enum Kind {
 /// A stage instance: its stage number and how it was entered.
 #[derive(Clone, Copy, PartialEq, Eq, Debug)]
 pub struct Node {
+    /// The stage number: 0 in the first instance of a column, and rising along it.
     pub number: i64,
+    /// How the instance was entered.
     pub kind: Kind,
 }
 
 /// Which stage instance: the iteration, and the place in its column, both counted from 0.
 #[derive(Clone, Copy, PartialEq, Eq, Debug)]
 pub struct NodeId {
+    /// The iteration's number, which is that of its column.
     pub iteration: u32,
+    /// The place in the column.
     pub index: u32,
 }
 

@@ -8,12 +8,19 @@ use crate::node::NodeId;
 /// instance, stage number and kind.
 #[derive(Clone, Copy, PartialEq, Eq, Debug)]
 pub struct Report {
+    /// The cell on which the two race.
     pub cell: CellId,
+    /// The instance of the access that came first.
     pub earlier: NodeId,
+    /// The stage number of that instance.
     pub earlier_number: i64,
+    /// Whether that access reads or writes.
     pub earlier_kind: AccessKind,
+    /// The instance of the access that came later.
     pub later: NodeId,
+    /// The stage number of that instance.
     pub later_number: i64,
+    /// Whether that access reads or writes.
     pub later_kind: AccessKind,
 }
 

@@ -28,14 +28,19 @@ pub enum Trap {
 /// Where a trap came: in `init`, in a stage instance (with its stage number), or in `final`.
 #[derive(Clone, Copy, PartialEq, Eq, Debug)]
 pub enum TrapPlace {
+    /// In `init`.
     Init,
+    /// In a stage instance with this stage number.
     At(NodeId, i64),
+    /// In `final`.
     Last,
 }
 
 /// A trap and its place.
 #[derive(Clone, Copy, PartialEq, Eq, Debug)]
 pub struct TrapAt {
+    /// Where it came.
     pub place: TrapPlace,
+    /// Why.
     pub trap: Trap,
 }

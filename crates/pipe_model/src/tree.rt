@@ -57,12 +57,16 @@ pub struct Declaration {
 /// The declarations of a program, in order.
 pub type Declarations = ListOf<Declaration>;
 
-/// What a program may use: iterations, stage instances an iteration, steps an instance, emitted numbers.
+/// What a program may use. The ranges are those of a program that obeys the rules.
 #[derive(Clone, Copy, PartialEq, Eq, Debug)]
 pub struct Limits {
+    /// The most iterations of the loop that run its body, 1 to 65,536.
     pub iterations: i64,
+    /// The most stage instances of an iteration, 1 to 4,096; times the iterations at most 262,144.
     pub stages: i64,
+    /// The most steps of a stage instance, 1 to 1,000,000.
     pub steps: i64,
+    /// The most numbers that are emitted, 0 to 1,048,576.
     pub emits: i64,
 }
 

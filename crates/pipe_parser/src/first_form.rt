@@ -14,7 +14,7 @@ use pipe_model::tree::Program;
 use std::alloc::{AllocError, AllocFailed, Global};
 
 /// The most bytes of a source.
-const LONGEST_SOURCE: usize = 1_048_576;
+pub const LONGEST_SOURCE: usize = 1_048_576;
 
 /// Why no program was read.
 #[derive(Clone, Copy, PartialEq, Eq, Debug)]

@@ -4,5 +4,6 @@ pub mod ElisionTraces
 pub mod Interpreters
 pub mod LocatedActions
 pub mod PerformedActions
+pub mod Replies
 pub mod SerialTraces
 pub mod TraceParts

@@ -13,6 +13,7 @@ pub mod LogGrowth
 pub mod LongerLogs
 pub mod OneMoreStart
 pub mod PrecedingPlaces
+pub mod Reach
 pub mod RightChildren
 pub mod RightFirst
 pub mod RunOrders

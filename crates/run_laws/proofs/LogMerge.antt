@@ -6,6 +6,7 @@ pub mod ControlPart
 pub mod ControlStates
 pub mod Entries
 pub mod EventActions
+pub mod EventParts
 pub mod FittingLogs
 pub mod InstanceCounts
 pub mod InstanceTickets

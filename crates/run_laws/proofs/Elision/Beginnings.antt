@@ -10,7 +10,7 @@ use Rattle.pipe_model.specs.Behaviour.{Action, nodes_in, column_of, node_of}
 use Rattle.pipe_model.specs.Columns.{nodes_at, IsRising, node_at, no_node}
 use Rattle.pipe_model.specs.Pipeline.{Pipeline, IsWellFormed}
 use Rattle.pipe_model.specs.Races.{Among, IsRaceFree}
-use Rattle.pipe_model.specs.SerialElision.{trace_at, serial_traces, serial_columns, located, serial_accesses}
+use Rattle.pipe_model.specs.SerialElision.{serial_traces, serial_columns, located, serial_accesses}
 use Rattle.pipe_model.specs.State.{Frame, frame_at, Completed, Status, is_completed, Running, Pending, State, own_columns}
 use Rattle.pipe_model.specs.declared.access.NodeAccess.{NodeAccess}
 use Rattle.pipe_model.specs.declared.column.ColumnEnd.{ColumnEnd}
@@ -19,7 +19,7 @@ use Rattle.pipe_model.specs.declared.node.Node.{Node}
 use Rattle.run_laws.proofs.Iterations.ElisionTraces.{trace_is_serial, memory_of, nodes_at_trace}
 use Rattle.run_laws.proofs.Iterations.LocatedActions.{among_located_from, located-append}
 use Rattle.run_laws.proofs.Iterations.SerialTraces.{serial_trace_ends, serial_trace_rises}
-use Rattle.run_laws.proofs.Iterations.TraceParts.{EndsWith, nothing_after_end, nodes_in-append}
+use Rattle.run_laws.proofs.Iterations.TraceParts.{EndsWith, nothing_after_end, nodes_in-append, trace_at}
 use Rattle.run_laws.proofs.RunStates.FrameMoves.{rising_one, node_at_new}
 use Rattle.run_laws.proofs.RunStates.FrameTraces.{IsTraced, EndsBy, pending_node, AllTraced, completed_is}
 use Rattle.run_laws.proofs.RunStates.Frames.{frame_at_exists, nodes_at_frame, nodes_at_past, frame_at_within}

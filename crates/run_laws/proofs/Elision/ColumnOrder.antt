@@ -10,7 +10,8 @@ use Rattle.pipe_model.specs.Pipeline.{Pipeline}
 use Rattle.pipe_model.specs.Races.{IsRaceFree, Among, Conflict, Here}
 use Rattle.pipe_model.specs.Run.{Run, EmptyRun, RunThen}
 use Rattle.pipe_model.specs.State.{State, accesses_of, Frame, next_state, fresh_frame, update_frame, with_action, Running, own_columns, frame_at}
-use Rattle.pipe_model.specs.Store.{AllHaveReplies, written, HasReply, value_from, wrote}
+use Rattle.pipe_model.specs.Store.{written, HasReply, value_from, wrote}
+use Rattle.run_laws.proofs.Iterations.Replies.{AllHaveReplies}
 use Rattle.pipe_model.specs.declared.access.Access.{Access as Cell_access}
 use Rattle.pipe_model.specs.declared.access.NodeAccess.{NodeAccess}
 use Rattle.pipe_model.specs.declared.event.Event.{Event}

@@ -9,7 +9,7 @@ use Rattle.pipe_model.specs.Races.{IsRaceFree}
 use Rattle.pipe_model.specs.Run.{Run, IsFinished}
 use Rattle.pipe_model.specs.SerialElision.{serial_traces_from, serial_trace, unless, serial_traces}
 use Rattle.pipe_model.specs.State.{Frame, Completed, frame_at, is_completed, Status, Running, Pending, State, own_columns}
-use Rattle.pipe_model.specs.Store.{AllHaveReplies}
+use Rattle.run_laws.proofs.Iterations.Replies.{AllHaveReplies}
 use Rattle.pipe_model.specs.declared.access.Access.{Access as Cell_access}
 use Rattle.pipe_model.specs.declared.column.ColumnEnd.{ColumnEnd}
 use Rattle.pipe_model.specs.declared.event.Event.{Event}

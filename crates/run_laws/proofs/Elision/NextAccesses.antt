@@ -8,7 +8,7 @@ use Rattle.pipe_model.specs.Behaviour.{nodes_in, Action, Accessed, accesses_in, 
 use Rattle.pipe_model.specs.Columns.{at}
 use Rattle.pipe_model.specs.Pipeline.{Pipeline, IsWellFormed}
 use Rattle.pipe_model.specs.Races.{Among, Here, IsRaceFree, Conflict}
-use Rattle.pipe_model.specs.SerialElision.{serial_accesses, serial_traces, located, serial_columns, trace_at}
+use Rattle.pipe_model.specs.SerialElision.{serial_accesses, serial_traces, located, serial_columns}
 use Rattle.pipe_model.specs.State.{Frame, Running, State, frame_at, own_columns, Status, Pending, Completed, accesses_of}
 use Rattle.pipe_model.specs.Store.{written}
 use Rattle.pipe_model.specs.declared.access.Access.{Access as Cell_access}
@@ -20,7 +20,7 @@ use Rattle.run_laws.proofs.Elision.ColumnOrder.{AgreesByColumn}
 use Rattle.run_laws.proofs.Iterations.CellWrites.{written-append, written_none, no_conflict_writes_none}
 use Rattle.run_laws.proofs.Iterations.ElisionTraces.{memory_of}
 use Rattle.run_laws.proofs.Iterations.LocatedActions.{among_located_from, located-append, is_located}
-use Rattle.run_laws.proofs.Iterations.TraceParts.{accesses_in-append}
+use Rattle.run_laws.proofs.Iterations.TraceParts.{accesses_in-append, trace_at}
 use Rattle.run_laws.proofs.RunStates.FrameAccesses.{accesses_by_column, in_frame, accesses_by_column-parted}
 use Rattle.run_laws.proofs.RunStates.FrameTraces.{IsTraced, pending_node, AllTraced}
 use Rattle.run_laws.proofs.RunStates.Frames.{nodes_at_frame, parted, frame_at_within, frame_at_append}

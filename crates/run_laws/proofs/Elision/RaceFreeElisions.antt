@@ -9,7 +9,7 @@ use Rattle.pipe_model.specs.Behaviour.{accesses_in, behaviour_after_all, HasNoEn
 use Rattle.pipe_model.specs.Pipeline.{Pipeline, IsWellFormed, AlwaysClosesLoop}
 use Rattle.pipe_model.specs.Races.{IsRaceFree}
 use Rattle.pipe_model.specs.Run.{Run, EmptyRun, RunThen}
-use Rattle.pipe_model.specs.SerialElision.{serial_trace, serial_traces, serial_columns, serial_accesses, trace_at}
+use Rattle.pipe_model.specs.SerialElision.{serial_trace, serial_traces, serial_columns, serial_accesses}
 use Rattle.pipe_model.specs.State.{Frame, Running, Status, with_action, frame_at, update_frame, State, accesses_of, Pending, Completed}
 use Rattle.pipe_model.specs.State.{fresh_frame, next_state, enter_pending}
 use Rattle.pipe_model.specs.Store.{value_after, HasReply, value_from}
@@ -22,7 +22,7 @@ use Rattle.run_laws.proofs.Elision.ColumnOrder.{AgreesByColumn, run_agrees}
 use Rattle.run_laws.proofs.Elision.NextAccesses.{next_among, written_same}
 use Rattle.run_laws.proofs.Iterations.ElisionTraces.{memory_of, trace_is_serial, trace_within, next_trace_exists}
 use Rattle.run_laws.proofs.Iterations.SerialTraces.{serial_trace_rest, serial_trace_closes}
-use Rattle.run_laws.proofs.Iterations.TraceParts.{stages_close_nothing, EndsWith, closes_loop_cases}
+use Rattle.run_laws.proofs.Iterations.TraceParts.{stages_close_nothing, EndsWith, closes_loop_cases, trace_at}
 use Rattle.run_laws.proofs.RunStates.FrameMoves.{frame_at_moved, frame_at_begun, enter_pending_is}
 use Rattle.run_laws.proofs.RunStates.FrameTraces.{IsTraced, EndsBy, AllTraced, pending_node, action_offered, run_traced}
 use Rattle.run_laws.proofs.RunStates.Frames.{frame_at_exists}

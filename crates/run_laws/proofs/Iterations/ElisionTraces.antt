@@ -6,7 +6,8 @@ use Rattle.std.specs.List.{flat_map}
 use Rattle.pipe_model.specs.Behaviour.{Action, accesses_in, closes_loop, column_of}
 use Rattle.pipe_model.specs.Columns.{nodes_at}
 use Rattle.pipe_model.specs.Pipeline.{Pipeline}
-use Rattle.pipe_model.specs.SerialElision.{trace_at, serial_traces_from, serial_trace, unless}
+use Rattle.pipe_model.specs.SerialElision.{serial_traces_from, serial_trace, unless}
+use Rattle.run_laws.proofs.Iterations.TraceParts.{trace_at}
 use Rattle.pipe_model.specs.declared.access.Access.{Access as Cell_access}
 
 -- the accesses of the first traces

@@ -3,7 +3,8 @@ use Rattle.std.proofs.Common.{ℕ, List, length, ◌≡◌, ◌+◌, [], ◌∷�
 use Rattle.pipe_model.specs.Behaviour.{Action, Accessed, nodes_in, Staged, Ended, accesses_in}
 use Rattle.pipe_model.specs.Columns.{at}
 use Rattle.pipe_model.specs.Races.{Among, Here, Later}
-use Rattle.pipe_model.specs.SerialElision.{located, trace_at, located_from}
+use Rattle.pipe_model.specs.SerialElision.{located, located_from}
+use Rattle.run_laws.proofs.Iterations.TraceParts.{trace_at}
 use Rattle.pipe_model.specs.State.{accesses_of}
 use Rattle.pipe_model.specs.declared.access.Access.{Access as Cell_access}
 use Rattle.pipe_model.specs.declared.access.NodeAccess.{NodeAccess}

@@ -6,7 +6,8 @@ use Rattle.pipe_model.specs.Behaviour.{is_closing}
 use Rattle.pipe_model.specs.Columns.{IsRising}
 use Rattle.pipe_model.specs.Pipeline.{Pipeline, HasLegalStages, AlwaysClosesLoop}
 use Rattle.pipe_model.specs.SerialElision.{serial_trace}
-use Rattle.pipe_model.specs.Store.{value_after, HasReply, AllHaveReplies}
+use Rattle.pipe_model.specs.Store.{value_after, HasReply}
+use Rattle.run_laws.proofs.Iterations.Replies.{AllHaveReplies}
 use Rattle.pipe_model.specs.declared.access.Access.{Access as Cell_access}
 use Rattle.pipe_model.specs.declared.column.ColumnEnd.{ColumnEnd}
 use Rattle.pipe_model.specs.declared.node.Node.{Node}

@@ -1,9 +1,15 @@
 -- The accesses, the instances and the end of a trace.
-use Rattle.std.proofs.Common.{List, ◌≡◌, ◌++◌, refl, [], ap, ◌∷◌, ℤ, length, false, ◌<◌, ◌⊎◌, inr, arith, inl, Some}
+use Rattle.std.proofs.Common.{List, ◌≡◌, ◌++◌, refl, [], ap, ◌∷◌, ℤ, length, false, ◌<◌, ◌⊎◌, inr, arith, inl, Option, Some, None, ℕ, zero, suc}
 use Rattle.pipe_model.specs.Behaviour.{Action, accesses_in, Accessed, Staged, Ended, nodes_in, node_of, HasNoEnd, closes_loop, is_closing}
 use Rattle.pipe_model.specs.Behaviour.{column_of, trace_end}
 use Rattle.pipe_model.specs.declared.access.Access.{Access as Cell_access}
 use Rattle.pipe_model.specs.declared.column.ColumnEnd.{ColumnEnd}
+
+-- the trace of iteration i, if there is one
+abbrev pub trace_at : List (List Action) → ℕ → Option (List Action)
+trace_at [] i = None
+trace_at (t ∷ ts) zero = Some t
+trace_at (t ∷ ts) (suc i) = trace_at ts i
 
 -- the accesses of two traces, one after the other
 pub accesses_in-append : (xs ys : List Action) → accesses_in (xs ++ ys) ≡ accesses_in xs ++ accesses_in ys

@@ -3,7 +3,7 @@ use Rattle.std.proofs.Common.{ℕ, ◌≡◌, ◌⊎◌, inl, inr, arith, List, 
 use Rattle.std.proofs.lemmas.Bool.{cases_order, cases_lt}
 use Rattle.pipe_model.specs.Columns.{AreColumns}
 use Rattle.pipe_model.specs.Dag.{Precedes}
-use Rattle.pipe_model.specs.LeftParent.{reach}
+use Rattle.run_laws.proofs.ListOrders.Reach.{reach}
 use Rattle.pipe_model.specs.OrderList.{place, list_of_log}
 use Rattle.pipe_model.specs.Starts.{AreStarts, IsStarted, start_number}
 use Rattle.pipe_model.specs.TwoOrders.{IsBeforeInBoth, down_first_taken, down_first_log, right_first_taken, right_first_log}

@@ -3,7 +3,8 @@ use Rattle.std.proofs.Common.{ℕ, List, length, ◌≡◌, ◌+◌, ◌<◌, �
 use Rattle.std.proofs.lemmas.Bool.{cases_lt, cases_eq}
 use Rattle.std.specs.declared.option.Option.TheVariants.{None}
 use Rattle.pipe_model.specs.Columns.{AreColumns, at}
-use Rattle.pipe_model.specs.LeftParent.{reach, joined_at, left_parent}
+use Rattle.pipe_model.specs.LeftParent.{joined_at, left_parent}
+use Rattle.run_laws.proofs.ListOrders.Reach.{reach}
 use Rattle.pipe_model.specs.OrderList.{inserted, insert_after, list_of_log, place}
 use Rattle.pipe_model.specs.Starts.{start_at, AreStarts, start_number}
 use Rattle.pipe_model.specs.TwoOrders.{log_entries, right_first_taken, down_first_taken, down_first_log, right_first_log}

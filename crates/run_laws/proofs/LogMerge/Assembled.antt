@@ -2,7 +2,8 @@
 use Rattle.std.specs.Prelude.{ℕ, List, false, ◌≡◌, ◌∷◌, ◌++◌}
 use Rattle.pipe_model.specs.Allowed.{IsRunning}
 use Rattle.pipe_model.specs.Behaviour.{Performs}
-use Rattle.pipe_model.specs.ControlRun.{ControlRun, control_events, actions_at, accesses_among}
+use Rattle.pipe_model.specs.ControlRun.{ControlRun}
+use Rattle.run_laws.proofs.LogMerge.EventParts.{control_events, actions_at, accesses_among}
 use Rattle.pipe_model.specs.Pipeline.{Pipeline}
 use Rattle.pipe_model.specs.State.{State}
 use Rattle.pipe_model.specs.Store.{HasReply}

@@ -2,7 +2,8 @@
 use Rattle.std.proofs.Common.{ℕ, List, ◌≡◌, ◌∷◌, ◌++◌, subst, sym, false, ap, ◌∙◌, [], append-nil, append_assoc, refl, map, true}
 use Rattle.pipe_model.specs.Allowed.{OffersAt, ProgramAllows, ControlAllows, Allowed, IsRunning, ClosesLoop}
 use Rattle.pipe_model.specs.Behaviour.{Action, Performs, Offers, behaviour_after_all, Staged, Ended, Accessed}
-use Rattle.pipe_model.specs.ControlRun.{ControlRun, control_events, actions_at, is_access, ControlRunThen, EmptyControlRun}
+use Rattle.pipe_model.specs.ControlRun.{ControlRun, is_access, ControlRunThen, EmptyControlRun}
+use Rattle.run_laws.proofs.LogMerge.EventParts.{control_events, actions_at}
 use Rattle.pipe_model.specs.Pipeline.{Pipeline}
 use Rattle.pipe_model.specs.Run.{Run, RunThen, IsFinished, EmptyRun}
 use Rattle.pipe_model.specs.State.{State, next_state, Frame, own_columns, is_completed, initial_state}

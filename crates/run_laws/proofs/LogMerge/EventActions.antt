@@ -5,7 +5,7 @@ use Rattle.std.proofs.lemmas.Bool.{cases_eq, eq-eqb, ne_eqb}
 use Rattle.std.proofs.lemmas.List.{map-append}
 use Rattle.pipe_model.specs.Allowed.{Allowed}
 use Rattle.pipe_model.specs.Behaviour.{Action, Accessed, Staged, Ended}
-use Rattle.pipe_model.specs.ControlRun.{if_same, actions_at, accesses_among, control_events}
+use Rattle.run_laws.proofs.LogMerge.EventParts.{if_same, actions_at, accesses_among, control_events}
 use Rattle.pipe_model.specs.Pipeline.{Pipeline}
 use Rattle.pipe_model.specs.Run.{Run, EmptyRun, RunThen}
 use Rattle.pipe_model.specs.State.{Frame, trace_in, frame_at, fresh_frame, update_frame, with_action, enter_pending, Running, Pending}

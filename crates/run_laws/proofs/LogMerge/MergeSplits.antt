@@ -1,7 +1,8 @@
 -- A merge taken apart at one of its accesses.
 use Rattle.std.proofs.Common.{ap₂, ℕ, List, false, ◌≡◌, inl, inr, [], ◌∷◌, refl, map, ap, ◌∙◌, ◌++◌, subst, sym, Bool, true, ◌==◌, ◌%◌}
 use Rattle.std.proofs.lemmas.Bool.{false≢true, eq-eqb, cases_eq, ne_eqb}
-use Rattle.pipe_model.specs.ControlRun.{ControlRun, is_access, EmptyControlRun, ControlRunThen, control_events}
+use Rattle.pipe_model.specs.ControlRun.{ControlRun, is_access, EmptyControlRun, ControlRunThen}
+use Rattle.run_laws.proofs.LogMerge.EventParts.{control_events}
 use Rattle.pipe_model.specs.Pipeline.{Pipeline}
 use Rattle.pipe_model.specs.Races.{Among, Here, Later}
 use Rattle.pipe_model.specs.State.{State}

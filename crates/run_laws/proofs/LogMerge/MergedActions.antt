@@ -2,7 +2,8 @@
 use Rattle.std.proofs.Common.{Bool, ℕ, List, true, [], ◌∷◌, false, ◌==◌, ◌++◌, map, ◌≡◌, refl, sym, ap, ◌∙◌, inl, inr, subst}
 use Rattle.std.proofs.lemmas.Bool.{false≢true, eqb-true, eq-eqb}
 use Rattle.pipe_model.specs.Behaviour.{Action, Staged, Ended, Accessed}
-use Rattle.pipe_model.specs.ControlRun.{if_same, is_access, actions_at}
+use Rattle.pipe_model.specs.ControlRun.{is_access}
+use Rattle.run_laws.proofs.LogMerge.EventParts.{if_same, actions_at}
 use Rattle.pipe_model.specs.Races.{Among, Here, Later}
 use Rattle.pipe_model.specs.TicketLogs.{if_end, end_action, TimedAction, LogEntry, OfBook, OfShard, BookEntry, book_in, event_of, ShardEntry, IsMerge}
 use Rattle.pipe_model.specs.declared.event.Event.{Event}

@@ -1,6 +1,7 @@
 -- The merge of logs that fit together is a run.
 use Rattle.std.proofs.Common.{false, subst, ◌≡◌, map, ap, ◌∙◌, sym}
-use Rattle.pipe_model.specs.ControlRun.{is_access, control_events, ControlRun}
+use Rattle.pipe_model.specs.ControlRun.{is_access, ControlRun}
+use Rattle.run_laws.proofs.LogMerge.EventParts.{control_events}
 use Rattle.pipe_model.specs.Races.{Among}
 use Rattle.pipe_model.specs.TicketLogs.{BookEntry, book_in, event_of}
 use Rattle.run_laws.proofs.LogMerge.AssembledRuns.{assembled_is_run}

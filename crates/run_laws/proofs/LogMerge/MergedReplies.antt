@@ -1,7 +1,8 @@
 -- Each read of a merge has its reply.
 use Rattle.std.proofs.Common.{ℕ, List, false, ◌≡◌, ◌%◌, map, refl, [], ◌∷◌, ◌∙◌, sym, inl, true, ◌==◌, ap, ◌++◌, inr, subst}
 use Rattle.std.proofs.lemmas.Bool.{false≢true, cases_eq, eq-eqb, ne_eqb}
-use Rattle.pipe_model.specs.ControlRun.{is_access, accesses_among}
+use Rattle.pipe_model.specs.ControlRun.{is_access}
+use Rattle.run_laws.proofs.LogMerge.EventParts.{accesses_among}
 use Rattle.pipe_model.specs.Pipeline.{Pipeline}
 use Rattle.pipe_model.specs.Races.{Among, Here, Later}
 use Rattle.pipe_model.specs.State.{State}

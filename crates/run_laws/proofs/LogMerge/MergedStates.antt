@@ -3,7 +3,8 @@ use Rattle.std.proofs.Common.{ℕ, ◌<◌, ◌≤◌, refl, Option, ◌≡◌, 
 use Rattle.std.proofs.Common.{ap, subst, map, inl, inr}
 use Rattle.std.proofs.lemmas.Bool.{false_from_ne_true, false≢true, eq-eqb, cases_lt}
 use Rattle.pipe_model.specs.Allowed.{IsRunning}
-use Rattle.pipe_model.specs.ControlRun.{ControlRun, EmptyControlRun, ControlRunThen, is_access, control_events}
+use Rattle.pipe_model.specs.ControlRun.{ControlRun, EmptyControlRun, ControlRunThen, is_access}
+use Rattle.run_laws.proofs.LogMerge.EventParts.{control_events}
 use Rattle.pipe_model.specs.Pipeline.{Pipeline}
 use Rattle.pipe_model.specs.Races.{Among, Here}
 use Rattle.pipe_model.specs.State.{State, frame_at, Frame, Status, Running, Pending, Completed, next_state}

@@ -1,7 +1,8 @@
 -- The actions of an iteration in a merge rise, so they are its trace.
 use Rattle.std.proofs.Common.{List, ◌≡◌, [], ◌∷◌, inl, sym, ◌∙◌, inr, ap, arith, refl, ℕ, ◌==◌, ◌<◌, ◌%◌, Bool, ◌++◌, true, false, subst, map}
 use Rattle.pipe_model.specs.Behaviour.{Staged, Ended, Accessed, Action, Performs}
-use Rattle.pipe_model.specs.ControlRun.{is_access, actions_at}
+use Rattle.pipe_model.specs.ControlRun.{is_access}
+use Rattle.run_laws.proofs.LogMerge.EventParts.{actions_at}
 use Rattle.pipe_model.specs.Pipeline.{Pipeline}
 use Rattle.pipe_model.specs.Races.{Among, Here, Later}
 use Rattle.pipe_model.specs.State.{State}
