@@ -1,0 +1,2 @@
+pub mod BestRows
+pub mod TableRules
