@@ -1,0 +1,53 @@
+//! The tokens of a whole source.
+
+ghost use Rattle.std.specs.Prelude.{IfErr, IfOk};
+ghost use Rattle.pipe_model.specs.Tokens.{IsLexed};
+ghost use Rattle.pipe_lexer.specs.Faults.{IsFaultOf};
+
+use crate::fault::LexFault;
+use crate::piece::{Flaw, Piece, piece_at};
+use pipe_model::token::{Token, Tokens};
+use std::alloc::Global;
+
+const LONGEST_SOURCE: usize = 1_048_576;
+
+impl Flaw {
+    // The fault that is this flaw at a place.
+    fn at(self, place: u32) -> LexFault
+        ensures { result ≡ fault_at self place }
+    {
+        match self {
+            Flaw::BadByte => LexFault::BadByte(place),
+            Flaw::TooWide => LexFault::TooWide(place),
+            Flaw::NameTooLong => LexFault::NameTooLong(place),
+        }
+    }
+}
+
+/// The tokens of a source, each with its kind, place and length. `SourceTooLong` is answered exactly where the source has
+/// more than 1,048,576 bytes. Otherwise `BadByte`, `TooWide` and `NameTooLong` tell the first thing that is wrong in the
+/// text, with its place: a byte at which nothing stands that may, a number above 9223372036854775807, or a name of more
+/// than 64 bytes. `NoMemory` may come at any source.
+pub fn tokens(alloc: Global, source: &[u8]) -> Result<Tokens, LexFault>
+    ensures tokens { IfOk result (λ found. IsLexed source.now found) }
+    ensures fault { IfErr result (λ fault. IsFaultOf source.now fault) }
+{
+    if LONGEST_SOURCE < source.len() {
+        return Err(LexFault::SourceTooLong);
+    }
+    let mut found = Tokens::with_capacity(alloc, source.len() / 4)?;
+    let mut rest = source;
+    while let Some((first, behind)) = rest.split_first() {
+        let place = (source.len() - rest.len()) as u32;
+        let length = match piece_at(rest, *first, behind) {
+            Ok(Piece::Gap(length)) => length,
+            Ok(Piece::Taken(kind, length)) => {
+                found.push(Token { kind, place, length: length as u32 })?;
+                length
+            }
+            Err(flaw) => return Err(flaw.at(place)),
+        };
+        rest = &rest[length..];
+    }
+    Ok(found)
+}
