@@ -19,7 +19,7 @@ at_place f g (row ∷ rows) e zero d within = let first : f row ∷ map f rows �
 at_place f g (row ∷ rows) e (suc k) d within =
     let both : f row ∷ map f rows ≡ g row ∷ map g rows = e in let others : map f rows ≡ map g rows = cc (both) in at_place f g rows others k d (omega arith)
 
-at_row : {A : Type 0} (f g : OpRow → A) (row : OpRow) → map f OPS.rows ≡ map g OPS.rows → Contains OPS.rows row → f row ≡ g row
+pub at_row : {A : Type 0} (f g : OpRow → A) (row : OpRow) → map f OPS.rows ≡ map g OPS.rows → Contains OPS.rows row → f row ≡ g row
 at_row f g row e h = rw (← h.2) (at_place f g OPS.rows e h.0 row h.1)
 
 -- the symbol of a row is the operator of its code

@@ -1,7 +1,5 @@
 //! Why a source has no tokens within the language's bounds.
 
-ghost use Rattle.std.specs.Prelude.{◌≡◌};
-
 use std::alloc::{AllocError, AllocFailed};
 use thiserror::Error;
 
@@ -26,6 +24,9 @@ pub enum LexFault {
 }
 
 impl From<AllocError> for LexFault {
+    ghost use Rattle.std.specs.Prelude.{◌≡◌};
+    ghost use Rattle.pipe_lexer.specs.declared.fault.LexFault.{LexFault};
+
     ghost from_gives = { λ _ e. e ≡ LexFault.NoMemory };
 
     fn from(_refused: AllocError) -> Self {
@@ -34,6 +35,9 @@ impl From<AllocError> for LexFault {
 }
 
 impl<T: Drop> From<AllocFailed<T>> for LexFault {
+    ghost use Rattle.std.specs.Prelude.{◌≡◌};
+    ghost use Rattle.pipe_lexer.specs.declared.fault.LexFault.{LexFault};
+
     ghost from_gives = { λ _ e. e ≡ LexFault.NoMemory };
 
     fn from(_refused: AllocFailed<T>) -> Self {

@@ -1,9 +1,8 @@
 //! What stands at the front of bytes: a blank, a comment or a token.
 
-ghost use Rattle.std.specs.Prelude.{◌≡◌, ◌∷◌, IfErr, IfOk, false, length, slice_index_or, [], ◌-◌};
-ghost use Rattle.pipe_model.specs.Lexis.{is_blank, is_digit, is_letter, operators};
-ghost use Rattle.pipe_model.specs.Tokens.{begins_comment};
-ghost use Rattle.pipe_lexer.specs.Pieces.{IsFlaw, IsPiece, operator_length};
+ghost use Rattle.std.specs.Prelude.{◌≡◌, ◌∷◌, IfErr, IfOk, true, false};
+ghost use Rattle.pipe_model.specs.Lexis.{is_digit, is_letter};
+ghost use Rattle.pipe_lexer.specs.Pieces.{BeginsPunctuation, IsFlaw, IsPiece, length_of, operator_length};
 
 use crate::bytes::{begins_comment, digits, is_blank, is_digit, is_letter, is_sign, line_bytes, name_bytes};
 use crate::number::number_value;
@@ -20,6 +19,17 @@ pub enum Piece {
     Gap(usize),
     /// A token.
     Taken(TokenKind, usize),
+}
+
+impl Piece {
+    /// How many bytes it has.
+    pub fn length(self) -> usize
+        ensures { result ≡ length_of self }
+    {
+        match self {
+            Piece::Gap(length) | Piece::Taken(_, length) => length,
+        }
+    }
 }
 
 /// What is wrong at the front of bytes.
