@@ -5,3 +5,4 @@ pub mod Members
 pub mod OneSpelling
 pub mod ProgramReading
 pub mod Reading
+pub mod TokenLaws

@@ -1,0 +1,12 @@
+//! Tokens of a source.
+#![tactic(auto)]
+
+mod bytes;
+pub mod fault;
+pub mod law;
+mod number;
+mod piece;
+pub mod scan;
+#[cfg(test)]
+mod tests;
+mod words;
