@@ -1,5 +1,5 @@
 -- The bytes of a source divide into symbols in one way.
-use Rattle.std.proofs.Common.{◌≡◌, ◌≢◌, ◌∙◌, ap, sym, ℕ, true, List, [], ◌∷◌, ◌++◌, refl, arith, ◌⊎◌, inl, inr, Option, Some, None, append-nil}
+use Rattle.std.proofs.Common.{◌≡◌, ◌∙◌, ap, sym, ℕ, true, List, [], ◌∷◌, ◌++◌, refl, arith, ◌⊎◌, inl, inr, Some, None, append-nil}
 use Rattle.std.proofs.lemmas.Bool.Decides.{nat_tests}
 use Rattle.pipe_model.specs.declared.symbol.Symbol.{Symbol}
 use Rattle.pipe_model.specs.Lexis.{is_blank, symbol_of, IsLongest, Divides, AtEnd, Blank, Taken}
