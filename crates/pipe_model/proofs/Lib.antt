@@ -5,3 +5,15 @@ pub mod Members
 pub mod OneSpelling
 pub mod ProgramReading
 pub mod Reading
+pub mod ExpressionReading
+pub mod ExpressionRuns
+pub mod ExpressionPassing
+pub mod ExpressionGrowth
+pub mod ExpressionFronts
+pub mod Pieces
+pub mod StatementReading
+pub mod WholeProgramReading
+pub mod FullExpressions
+pub mod ProgramPassing
+pub mod ProgramFronts
+pub mod ProgramWalks
