@@ -17,3 +17,5 @@ pub mod FullExpressions
 pub mod ProgramPassing
 pub mod ProgramFronts
 pub mod ProgramWalks
+pub mod ProgramFaults
+pub mod FirstFaults
