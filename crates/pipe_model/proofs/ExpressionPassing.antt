@@ -1,12 +1,12 @@
 -- An expression that is read is passed by the machine that takes one symbol at a time.
-use Rattle.std.proofs.Common.{◌≡◌, ◌≢◌, ℕ, zero, suc, ◌<◌, ◌≤◌, ◌-◌, List, [], ◌∷◌, ◌++◌, refl, ◌∙◌, arith, ◌⊎◌, inl, inr, Option, Some, None, Bool, true, false, ◌==◌}
+use Rattle.std.proofs.Common.{◌≡◌, ◌≢◌, ℕ, zero, suc, ◌<◌, ◌≤◌, ◌-◌, List, [], ◌∷◌, refl, ◌∙◌, arith, inl, inr, true, false, ◌==◌}
 use Rattle.std.proofs.lemmas.Bool.{cases_eq, cases_Bool}
 use Rattle.pipe_model.specs.declared.symbol.Symbol.{Symbol}
 use Rattle.pipe_model.specs.declared.symbol.Symbol.TheVariants as symbols
 use Rattle.pipe_model.specs.SyntaxTree.{Expression}
 use Rattle.pipe_model.specs.WholeGrammar.{rank_of}
 use Rattle.pipe_model.specs.WholeReading.{Reads, ReadsNumeral, ReadsName, ReadsElement, ReadsMore, ReadsTake, ReadsIter, ReadsNegative, ReadsNot, ReadsBracketed, ReadsChain, Extends, Ends, Joins, NoSign, next_rank}
-use Rattle.pipe_model.specs.ExpressionMachine.{Want, Sign, Operand, Index, Tail, step, ending, is_operator}
+use Rattle.pipe_model.specs.ExpressionMachine.{Want, Sign, Operand, Index, Tail, ending, is_operator}
 
 no_index : (ts : List Symbol) (wants : List Want) → NoSign 91 ts → ending ts (Index ∷ wants) ≡ ending ts wants
 no_index [] wants h = refl

@@ -1,7 +1,7 @@
 -- Running the machine of expressions: in two parts, and to where it ends.
 use Rattle.std.proofs.Common.{◌≡◌, ℕ, List, [], ◌∷◌, ◌++◌, refl, ap, ◌∙◌, Option, Some, None, Bool, true, false, length}
 use Rattle.pipe_model.specs.declared.symbol.Symbol.{Symbol}
-use Rattle.pipe_model.specs.ExpressionMachine.{Want, step, run, and_run, may_end, Ending, Done, Stuck, ended, ending, ending_on}
+use Rattle.pipe_model.specs.ExpressionMachine.{Want, step, run, and_run, may_end, Done, Stuck, ended, ending, ending_on}
 
 run_part_on : (o : Option (List Want)) (ts us : List Symbol) → ((wants : List Want) → run (ts ++ us) wants ≡ and_run (run ts wants) (run us))
     → and_run o (run (ts ++ us)) ≡ and_run (and_run o (run ts)) (run us)

@@ -1,20 +1,18 @@
 -- The verdict of the machine of programs is the first symbol that breaks a rule, by the grammar alone.
-use Rattle.std.proofs.Common.{◌≡◌, ◌≢◌, ℕ, suc, ◌<◌, ◌≤◌, ◌+◌, List, [], ◌∷◌, ◌++◌, length, refl, sym, ap, ◌∙◌, append_assoc, append-nil, length-append, arith, subst, ◌⊎◌, inl, inr, Option, Some, None, Bool, true, false, ◌==◌, nat_le, if◌then◌else◌}
-use Rattle.std.proofs.lemmas.Bool.{cases_lt, cases_Bool}
+use Rattle.std.proofs.Common.{◌≡◌, ◌≢◌, ℕ, suc, ◌<◌, ◌≤◌, List, [], ◌∷◌, ◌++◌, length, refl, sym, ap, ◌∙◌, append_assoc, append-nil, length-append, arith, subst, ◌⊎◌, inl, inr, Option, Some, None, Bool, true, false, nat_le, if◌then◌else◌}
+use Rattle.std.proofs.lemmas.Bool.{cases_lt}
 use Rattle.pipe_model.specs.declared.symbol.Symbol.{Symbol}
 use Rattle.pipe_model.specs.declared.symbol.Symbol.TheVariants as symbols
 use Rattle.pipe_model.specs.SyntaxTree.{Expression, SyntaxTree}
 use Rattle.pipe_model.specs.WholeGrammar.{Derives, Numeral, Named, Indexed, CallsMore, CallsTake, CallsIter, Negative, Not, Bracketed, Tighter, Joined, Piece, Single, FullExpression, flat, DerivesProgram}
-use Rattle.pipe_model.specs.WholeSpelling.{IsFront, EndsTooLong, IsShallow, BreaksNoRule, FirstFault, UnexpectedSymbol, UnexpectedEnd, TooDeep, open_brackets, Expected, Shallow, Short}
+use Rattle.pipe_model.specs.WholeSpelling.{IsFront, EndsTooLong}
 use Rattle.pipe_model.specs.WholeReading.{NoSign}
-use Rattle.pipe_model.specs.WholeSpelling as spelling
 use Rattle.pipe_model.specs.ExpressionMachine as expression
 use Rattle.pipe_model.specs.ProgramMachine as machine
 use Rattle.pipe_model.specs.ProgramMachine.{Want, Sign, State, Outside, Inside, Takes, Skips, move, stepped, next, step, continued, run, and_run, Verdict, Accepted, Unexpected, TooLong, is_final, judge, judged, judged_in, program}
 use Rattle.pipe_model.proofs.FullExpressions.{stage_number}
-use Rattle.pipe_model.proofs.Pieces.{flat_append}
-use Rattle.pipe_model.proofs.ProgramFaults.{reached, reached_front, reached_too_long, front_runs, AcceptedFrom, accepted_from, program_accepted, FindsTooLong, too_long_here, over_or_past}
-use Rattle.pipe_model.proofs.ProgramFronts.{Leads, step_leads}
+use Rattle.pipe_model.proofs.ProgramFaults.{reached, reached_front, reached_too_long, front_runs, accepted_from, program_accepted, FindsTooLong, too_long_here, over_or_past}
+use Rattle.pipe_model.proofs.ProgramFronts.{step_leads}
 use Rattle.pipe_model.proofs.ProgramWalks.{Walks, Stays, Begins, LeavesOut, OverFull, OverStage, walks_program}
 
 -- ---- over the pieces before a full expression that is too long
@@ -331,7 +329,7 @@ front_ran None go s h = absurd (cc (h))
 front_ran (Some mid) go s h = (mid, refl)
 
 -- a verdict other than that of too many says that none was too many before
-none_too_long : (ts before rest : List Symbol) → ts ≡ before ++ rest → ((n : ℕ) → judge 256 ts (Outside program) ≡ TooLong n → n ≤ length rest)
+pub none_too_long : (ts before rest : List Symbol) → ts ≡ before ++ rest → ((n : ℕ) → judge 256 ts (Outside program) ≡ TooLong n → n ≤ length rest)
     → NoneTooLong before
 none_too_long ts before rest s h b a split f =
     let g = too_long_found b (a ++ rest) f in
@@ -344,7 +342,7 @@ not_front : (before : List Symbol) (t : Symbol) (state : State) → run before (
 not_front before t state r h f =
     let a = front_runs (before ++ t ∷ []) f in
     let none : run (before ++ t ∷ []) (Outside program) ≡ None =
-        run_then before (t ∷ []) (Outside program) state r ∙ ap (λ o. and_run o (run [])) h in
+    run_then before (t ∷ []) (Outside program) state r ∙ ap (λ o. and_run o (run [])) h in
     cc (a.runs, none)
 
 final_accepted : (b : Bool) → (if b then Accepted else Unexpected 0) ≡ Accepted → b ≡ true
@@ -356,7 +354,7 @@ not_whole : (ts before : List Symbol) (state : State) → ts ≡ before → run 
 not_whole ts before state s r f pieces tree d h =
     let longest = length (flat pieces) in
     let whole : judge longest (before ++ []) (Outside program) ≡ Accepted =
-        ap (λ x. judge longest x (Outside program)) (append-nil before ∙ sym s ∙ h) ∙ program_accepted pieces tree d in
+    ap (λ x. judge longest x (Outside program)) (append-nil before ∙ sym s ∙ h) ∙ program_accepted pieces tree d in
     let a = accepted_from longest before [] (Outside program) whole in
     let same : Some state ≡ Some a.state = sym r ∙ a.runs in
     let states : state ≡ a.state = cc (same) in
@@ -383,7 +381,7 @@ pub is_too_long : (ts : List Symbol) (n : ℕ) → judge 256 ts (Outside program
 is_too_long ts n h =
     let x = excess ts (Outside program) n tt h in
     let front = front_ran (run x.before (Outside program)) (run (x.t ∷ [])) (Inside 257 x.inner x.wants)
-        (sym (run_part x.before (x.t ∷ []) (Outside program)) ∙ x.runs) in
+    (sym (run_part x.before (x.t ∷ []) (Outside program)) ∙ x.runs) in
     record {
       before = x.before;
       t = x.t;

@@ -1,12 +1,12 @@
 -- The machine of programs at a full expression: it passes one that is read and is not too long, and else says why it stops.
-use Rattle.std.proofs.Common.{◌≡◌, ◌≢◌, ℕ, suc, ◌<◌, ◌≤◌, ◌+◌, List, [], ◌∷◌, ◌++◌, length, refl, sym, ap, ◌∙◌, length-append, arith, Option, Some, None, Bool, true, false, nat_le, ◌⊎◌, inl, inr, ◌==◌}
+use Rattle.std.proofs.Common.{◌≡◌, ℕ, suc, ◌<◌, ◌≤◌, ◌+◌, List, [], ◌∷◌, ◌++◌, length, refl, sym, ap, ◌∙◌, length-append, arith, Option, Some, None, true, false, nat_le, ◌⊎◌, inl, inr, ◌==◌}
 use Rattle.std.proofs.lemmas.Bool.{cases_lt}
 use Rattle.pipe_model.specs.declared.symbol.Symbol.{Symbol}
 use Rattle.pipe_model.specs.declared.symbol.Symbol.TheVariants as symbols
 use Rattle.pipe_model.specs.SyntaxTree.{Expression}
 use Rattle.pipe_model.specs.WholeReading.{Reads, ReadsNumeral, ReadsName, ReadsElement, ReadsMore, ReadsTake, ReadsIter, ReadsNegative, ReadsNot, ReadsBracketed, ReadsChain, ReadsFull, NoSign}
 use Rattle.pipe_model.specs.ExpressionMachine as expression
-use Rattle.pipe_model.specs.ProgramMachine.{Want, Sign, FullExpression, StageNumber, State, Outside, Inside, whole, entered, continued, step, next, Verdict, Unexpected, TooLong, judged, judge}
+use Rattle.pipe_model.specs.ProgramMachine.{Want, Sign, FullExpression, StageNumber, State, Outside, Inside, whole, entered, continued, step, Verdict, Unexpected, TooLong, judged, judge}
 use Rattle.pipe_model.proofs.ExpressionPassing.{passes_expression}
 use Rattle.pipe_model.proofs.ExpressionRuns.{Refused, stopped, done_may_end, stuck_may_not_end}
 

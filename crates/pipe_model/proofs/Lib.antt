@@ -19,3 +19,4 @@ pub mod ProgramFronts
 pub mod ProgramWalks
 pub mod ProgramFaults
 pub mod FirstFaults
+pub mod FaultRules

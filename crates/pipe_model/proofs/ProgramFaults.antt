@@ -1,11 +1,10 @@
 -- What the machine of programs says of symbols is so by the grammar alone: what is a front of a program, and which full expression is too long.
-use Rattle.std.proofs.Common.{◌≡◌, ◌≢◌, ℕ, suc, ◌<◌, ◌≤◌, ◌+◌, ◌-◌, List, [], ◌∷◌, ◌++◌, take, drop, length, refl, sym, ap, ◌∙◌, append_assoc, append-nil, length-append, arith, subst, ◌⊎◌, inl, inr, Option, Some, None, Bool, true, false, ◌==◌, nat_le, if◌then◌else◌}
-use Rattle.std.proofs.lemmas.Bool.{cases_lt, cases_Bool}
+use Rattle.std.proofs.Common.{◌≡◌, ◌≢◌, ℕ, suc, ◌<◌, ◌≤◌, List, [], ◌∷◌, ◌++◌, take, drop, length, refl, sym, ap, ◌∙◌, append_assoc, append-nil, length-append, arith, subst, ◌⊎◌, inl, inr, Option, Some, None, Bool, true, false, ◌==◌, nat_le, if◌then◌else◌}
 use Rattle.std.proofs.lemmas.List.{take-append-drop, length-take}
 use Rattle.pipe_model.specs.declared.symbol.Symbol.{Symbol}
 use Rattle.pipe_model.specs.declared.symbol.Symbol.TheVariants as symbols
 use Rattle.pipe_model.specs.SyntaxTree.{Expression, SyntaxTree}
-use Rattle.pipe_model.specs.WholeGrammar.{Derives, Piece, Single, FullExpression, flat, DerivesPart, DerivesBlock, BlockIs, DerivesProgram, ProgramIs}
+use Rattle.pipe_model.specs.WholeGrammar.{Derives, Piece, Single, FullExpression, flat, BlockIs, DerivesProgram, ProgramIs}
 use Rattle.pipe_model.specs.WholeSpelling.{IsFront, EndsTooLong}
 use Rattle.pipe_model.specs.Words.{close_brace, open_brace}
 use Rattle.pipe_model.specs.ExpressionMachine as expression
@@ -19,7 +18,6 @@ use Rattle.pipe_model.proofs.FullExpressions.{passes_full, over_full}
 use Rattle.pipe_model.proofs.Pieces.{flat_append, all_short}
 use Rattle.pipe_model.proofs.ProgramFronts.{Completes, Nothing, OfSign, OfWord, OfNumber, OfFull, OfStatements, OfPart, OfCells, completion, Leads, step_leads}
 use Rattle.pipe_model.proofs.ProgramPassing.{accepts_program}
-use Rattle.pipe_model.proofs.ProgramWalks.{Walks, Begins, LeavesOut, OverFull, OverStage, walks_program}
 use Rattle.pipe_model.proofs.StatementReading.{found_full}
 use Rattle.pipe_model.proofs.WholeProgramReading.{found_program}
 
@@ -57,7 +55,7 @@ reached_behind : (ps : List Piece) (inside : List Symbol) (wants : List Want) (t
     → Reached ((flat ps ++ inside) ++ t ∷ []) s
 reached_behind ps inside wants t s f x h =
     let same : flat (ps ++ FullExpression inside ∷ []) ++ t ∷ [] ≡ (flat ps ++ inside) ++ t ∷ [] =
-        ap (λ us. us ++ t ∷ []) (flat_append ps (FullExpression inside ∷ []) ∙ ap (λ us. flat ps ++ us) (append-nil inside)) in
+    ap (λ us. us ++ t ∷ []) (flat_append ps (FullExpression inside ∷ []) ∙ ap (λ us. flat ps ++ us) (append-nil inside)) in
     reached_moved same (reached_outside (ps ++ FullExpression inside ∷ []) wants t s
     (λ qs c. completes_moved (sym (append_assoc ps (FullExpression inside ∷ []) qs)) (f inside x.e qs x.derived c)) (step_leads wants t s h))
 
@@ -109,8 +107,8 @@ completed_program (OfWord w (OfWord w' (OfNumber iterations (OfSign b (OfWord w'
     (OfSign x (OfStatements {ps = bs} s (OfSign y (OfPart {ps = ls} eleven l Nothing))))))))))))))))))))))) =
     let p = ProgramIs iterations stages steps emits c i e (BlockIs s) l in
     let same : Single open_brace ∷ ((bs ++ Single close_brace ∷ []) ++ ls) ≡ Single open_brace ∷ (bs ++ Single close_brace ∷ (ls ++ [])) =
-        ap (λ x. Single open_brace ∷ x) (append_assoc bs (Single close_brace ∷ []) ls
-        ∙ ap (λ x. bs ++ Single close_brace ∷ x) (sym (append-nil ls))) in
+    ap (λ x. Single open_brace ∷ x) (append_assoc bs (Single close_brace ∷ []) ls
+    ∙ ap (λ x. bs ++ Single close_brace ∷ x) (sym (append-nil ls))) in
     rw (sym same) (record { tree = _; derived = p })
 
 -- ---- what is reached is a front
@@ -213,7 +211,7 @@ derived_runs : {ts : List Symbol} {e : Expression} → Derives 6 ts e → RunsTo
 derived_runs {ts} {e} d =
     let s = runs.stopped (ts ++ []) whole in
     let ends = runs.done_may_end (expression.may_end s.left) s.rest []
-        (sym s.ends ∙ passes_expression (found_alone 6 ts e (found d) [] loose_end) []) in
+    (sym s.ends ∙ passes_expression (found_alone 6 ts e (found d) [] loose_end) []) in
     let same : ts ≡ s.before = sym (append-nil ts) ∙ s.split ∙ ap (λ x. s.before ++ x) ends.1 ∙ append-nil s.before in
     record { left = s.left; ran = ap (λ x. expression.run x whole) same ∙ s.runs }
 
@@ -258,9 +256,9 @@ over_or_past {e} longest ts sign behind rest wants d n (inr c) m f =
     let whole_of : front ++ back ≡ ts = take-append-drop (suc longest) ts in
     let many : length front ≡ suc longest = omega (arith, length-take (suc longest) ts, c) in
     let t = too_long_here longest front back (back ++ symbols.Sign sign ∷ behind) (Sign sign ∷ wants)
-        (subst (λ x. Derives 6 x e) (sym whole_of) d) many in
+    (subst (λ x. Derives 6 x e) (sym whole_of) d) many in
     let same : ts ++ symbols.Sign sign ∷ behind ≡ front ++ (back ++ symbols.Sign sign ∷ behind) =
-        ap (λ x. x ++ symbols.Sign sign ∷ behind) (sym whole_of) ∙ append_assoc front back (symbols.Sign sign ∷ behind) in
+    ap (λ x. x ++ symbols.Sign sign ∷ behind) (sym whole_of) ∙ append_assoc front back (symbols.Sign sign ∷ behind) in
     record {
       left = t.left;
       verdict = ap (λ x. judge longest x (Outside (machine.FullExpression ∷ Sign sign ∷ wants))) same ∙ t.verdict;

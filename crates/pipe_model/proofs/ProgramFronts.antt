@@ -1,11 +1,11 @@
 -- Where the machine of programs runs, there is a program that goes on so: what has to come can come, and each step of the table is sound.
-use Rattle.std.proofs.Common.{◌≡◌, ℕ, ℤ, ◌≤◌, ◌+◌, suc, List, [], ◌∷◌, ◌++◌, length, refl, sym, ap, ◌∙◌, append_assoc, append-nil, length-append, arith, subst, ◌⊎◌, inl, inr, Option, Some, None, Bool, true, false, ◌==◌, ◌||◌, pos, if◌then◌else◌}
+use Rattle.std.proofs.Common.{◌≡◌, ℕ, ℤ, List, [], ◌∷◌, ◌++◌, refl, sym, ap, ◌∙◌, append_assoc, arith, subst, ◌⊎◌, inl, inr, Option, Some, None, Bool, true, false, ◌==◌, ◌||◌, pos, if◌then◌else◌}
 use Rattle.std.proofs.lemmas.Bool.{cases_eq}
 use Rattle.pipe_model.specs.declared.symbol.Symbol.{Symbol}
 use Rattle.pipe_model.specs.declared.symbol.Symbol.TheVariants as symbols
 use Rattle.pipe_model.specs.declared.tree.Declaration.{Declaration}
-use Rattle.pipe_model.specs.SyntaxTree.{Expression, Statement, Statements, SyntaxTree}
-use Rattle.pipe_model.specs.WholeGrammar.{Derives, Numeral, Piece, Single, FullExpression, flat, DerivesStatement, LetIs, AssignIs, AssignElementIs, EmitIs, IfIs, WhileIs, WaitIs, WaitNextIs, ContinueIs, ContinueNextIs, DerivesStatements, NoStatement, OneMore, DerivesBlock, BlockIs, DerivesPart, NoPart, PartIs, DerivesSize, NoSize, SizeIs, DerivesValue, ValueIs, NegativeValueIs, DerivesCells, NoCell, CellIs, DerivesProgram, ProgramIs}
+use Rattle.pipe_model.specs.SyntaxTree.{Expression, Statement, Statements}
+use Rattle.pipe_model.specs.WholeGrammar.{Derives, Numeral, Piece, Single, FullExpression, DerivesStatement, LetIs, AssignIs, AssignElementIs, EmitIs, IfIs, WhileIs, WaitIs, WaitNextIs, ContinueIs, ContinueNextIs, DerivesStatements, NoStatement, OneMore, DerivesBlock, BlockIs, DerivesPart, NoPart, PartIs, DerivesSize, NoSize, SizeIs, DerivesValue, ValueIs, NegativeValueIs, DerivesCells, NoCell, CellIs}
 use Rattle.pipe_model.specs.Words.{word_cell, word_pipe_wait, word_pipe_continue, word_let, word_if, word_while, word_emit, minus, open_round, close_round, semicolon, equals, open_square, close_square, open_brace, close_brace}
 use Rattle.pipe_model.specs.ProgramMachine as machine
 use Rattle.pipe_model.specs.ProgramMachine.{Want, Sign, Word, AnyName, AnyNumber, StageNumber, Target, Part, Cells, Size, Value, Move, Takes, Enters, Skips, Refuses, move, statement_move, State, Outside, Inside, whole, entered, stepped, step, may_end}

@@ -1,10 +1,10 @@
 -- The machine of programs goes over the pieces of a program, so that it counts the symbols of each full expression.
-use Rattle.std.proofs.Common.{◌≡◌, ◌≢◌, ℕ, ℤ, suc, ◌<◌, ◌≤◌, ◌+◌, List, [], ◌∷◌, ◌++◌, length, refl, sym, ap, ◌∙◌, append_assoc, append-nil, length-append, arith, subst, ◌⊎◌, inl, inr, Option, Some, None, Bool, true, false, ◌==◌}
+use Rattle.std.proofs.Common.{◌≡◌, ◌≢◌, ℕ, ℤ, List, [], ◌∷◌, ◌++◌, refl, sym, ap, ◌∙◌, append_assoc, append-nil, arith, subst, Option, true, false, ◌==◌}
 use Rattle.pipe_model.specs.declared.symbol.Symbol.{Symbol}
 use Rattle.pipe_model.specs.declared.symbol.Symbol.TheVariants as symbols
 use Rattle.pipe_model.specs.declared.tree.Declaration.{Declaration}
 use Rattle.pipe_model.specs.SyntaxTree.{Expression, Statement, Statements, SyntaxTree}
-use Rattle.pipe_model.specs.WholeGrammar.{Derives, Piece, Single, FullExpression, flat, DerivesStatement, LetIs, AssignIs, AssignElementIs, EmitIs, IfIs, WhileIs, WaitIs, WaitNextIs, ContinueIs, ContinueNextIs, DerivesStatements, NoStatement, OneMore, DerivesBlock, BlockIs, DerivesPart, NoPart, PartIs, DerivesSize, NoSize, SizeIs, DerivesValue, ValueIs, NegativeValueIs, DerivesCells, NoCell, CellIs, DerivesProgram, ProgramIs}
+use Rattle.pipe_model.specs.WholeGrammar.{Derives, Piece, Single, FullExpression, DerivesStatement, LetIs, AssignIs, AssignElementIs, EmitIs, IfIs, WhileIs, WaitIs, WaitNextIs, ContinueIs, ContinueNextIs, DerivesStatements, NoStatement, OneMore, DerivesBlock, BlockIs, DerivesPart, NoPart, PartIs, DerivesSize, NoSize, SizeIs, DerivesValue, ValueIs, NegativeValueIs, DerivesCells, NoCell, CellIs, DerivesProgram, ProgramIs}
 use Rattle.pipe_model.specs.Words.{word_pipe_while, open_round, close_round, semicolon, equals, close_brace}
 use Rattle.pipe_model.specs.ProgramMachine as machine
 use Rattle.pipe_model.specs.ProgramMachine.{Want, Sign, Word, AnyName, AnyNumber, StageNumber, Target, Part, Cells, Size, Value, Takes, Skips, move, program}
@@ -168,7 +168,7 @@ walks_program (ProgramIs {cs} {is} {bs} {ls} {ts} iterations stages steps emits 
     let wants = Word 8 ∷ Sign 40 ∷ machine.FullExpression ∷ Sign 41 ∷ Sign 123 ∷ machine.Statements ∷ Sign 125 ∷ Part 11 ∷ [] in
     let from_loop = comes refl (comes refl (before_round e (walks_block b (Part 11 ∷ []) ls (walks_last l)))) in
     let from_cells =
-        walks_cells c (Part 7 ∷ wants) (is ++ Single word_pipe_while ∷ loop) (without_cells i (Part 7 ∷ wants) loop
-        (walks_part i wants (Single word_pipe_while ∷ loop) (λ x. absurd (omega (arith, x))) from_loop)) in
+    walks_cells c (Part 7 ∷ wants) (is ++ Single word_pipe_while ∷ loop) (without_cells i (Part 7 ∷ wants) loop
+    (walks_part i wants (Single word_pipe_while ∷ loop) (λ x. absurd (omega (arith, x))) from_loop)) in
     comes refl (comes refl (comes refl (comes refl (comes refl (comes refl (comes refl (comes refl (comes refl (comes refl (comes refl (comes refl
     (comes refl from_cells))))))))))))

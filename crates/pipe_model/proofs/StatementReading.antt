@@ -3,7 +3,7 @@ use Rattle.std.proofs.Common.{◌≡◌, ◌≢◌, ℕ, ◌≤◌, ◌+◌, Lis
 use Rattle.pipe_model.specs.declared.node.Kind.TheVariants as kinds
 use Rattle.pipe_model.specs.declared.symbol.Symbol.{Symbol}
 use Rattle.pipe_model.specs.declared.symbol.Symbol.TheVariants as symbols
-use Rattle.pipe_model.specs.SyntaxTree.{Expression, Statement, Let, Assign, AssignElement, Emit, If, While, Stage, NextStage, Statements, Empty, Then}
+use Rattle.pipe_model.specs.SyntaxTree.{Expression, Statement, Let, Assign, AssignElement, Emit, If, While, Stage, Statements, Then}
 use Rattle.pipe_model.specs.WholeGrammar.{Derives, Piece, Single, FullExpression, flat, DerivesStatement, LetIs, AssignIs, AssignElementIs, EmitIs, IfIs, WhileIs, WaitIs, WaitNextIs, ContinueIs, ContinueNextIs, DerivesStatements, NoStatement, OneMore, DerivesBlock, BlockIs, DerivesPart, NoPart, PartIs}
 use Rattle.pipe_model.specs.WholeReading.{Reads, ReadsChain, ReadsFull, ReadsStatement, ReadsLet, ReadsAssign, ReadsAssignElement, ReadsEmit, ReadsIf, ReadsWhile, ReadsWait, ReadsWaitNext, ReadsContinue, ReadsContinueNext, ReadsStatements, ReadsClose, ReadsOneMore, ReadsBlock, ReadsBraces, ReadsPart, ReadsNoPart, ReadsPartIs, NoWord}
 use Rattle.pipe_model.specs.WholeSpelling.{AreShort}

@@ -1,16 +1,16 @@
 -- A reader of cells and programs finds what the whole grammar derives, and only that; so symbols derive one program at most.
-use Rattle.std.proofs.Common.{◌≡◌, ◌≢◌, ◌≤◌, ℕ, ℤ, List, [], ◌∷◌, ◌++◌, length, refl, sym, ap, ◌∙◌, append_assoc, append-nil, arith, subst, Option}
+use Rattle.std.proofs.Common.{◌≡◌, ◌≤◌, ℕ, ℤ, List, [], ◌∷◌, ◌++◌, length, refl, sym, ap, ◌∙◌, append-nil, arith, subst, Option}
 use Rattle.pipe_model.specs.declared.symbol.Symbol.{Symbol}
 use Rattle.pipe_model.specs.declared.symbol.Symbol.TheVariants as symbols
 use Rattle.pipe_model.specs.declared.tree.Declaration.{Declaration}
-use Rattle.pipe_model.specs.SyntaxTree.{Expression, Statements, SyntaxTree}
-use Rattle.pipe_model.specs.WholeGrammar.{Piece, Single, FullExpression, flat, DerivesPart, NoPart, PartIs, DerivesSize, NoSize, SizeIs, DerivesValue, ValueIs, NegativeValueIs, DerivesCells, NoCell, CellIs, declaration, limits_before, DerivesProgram, ProgramIs}
-use Rattle.pipe_model.specs.WholeReading.{ReadsFull, ReadsBlock, ReadsPart, ReadsSize, ReadsNoSize, ReadsSizeIs, ReadsValue, ReadsValueIs, ReadsNegativeValue, ReadsCell, ReadsCellIs, ReadsCells, ReadsNoCell, ReadsCellThen, ReadsProgram, ReadsAll, NoWord, NoSign}
+use Rattle.pipe_model.specs.SyntaxTree.{Statements, SyntaxTree}
+use Rattle.pipe_model.specs.WholeGrammar.{Piece, Single, FullExpression, flat, DerivesPart, NoPart, PartIs, DerivesSize, NoSize, SizeIs, DerivesValue, ValueIs, NegativeValueIs, DerivesCells, NoCell, CellIs, limits_before, DerivesProgram, ProgramIs}
+use Rattle.pipe_model.specs.WholeReading.{ReadsFull, ReadsPart, ReadsSize, ReadsNoSize, ReadsSizeIs, ReadsValue, ReadsValueIs, ReadsNegativeValue, ReadsCell, ReadsCellIs, ReadsCells, ReadsNoCell, ReadsCellThen, ReadsProgram, ReadsAll, NoWord, NoSign}
 use Rattle.pipe_model.specs.WholeSpelling.{AreShort}
-use Rattle.pipe_model.specs.Words.{word_cell, word_pipe_while, minus, open_round, close_round, semicolon, equals, open_square, close_square, open_brace}
+use Rattle.pipe_model.specs.Words.{word_cell, word_pipe_while, minus, open_round, close_round, semicolon, equals, open_square, close_square}
 use Rattle.pipe_model.proofs.ExpressionReading.{SameReading}
 use Rattle.pipe_model.proofs.Pieces.{flat_append, flat_two, took_two, short_append, short_front, short_back, all_short}
-use Rattle.pipe_model.proofs.StatementReading.{TookPieces, TookFull, sound_full, sound_block, sound_part, found_full, found_block, found_part, one_full, one_block, one_part, moved_block, moved_part}
+use Rattle.pipe_model.proofs.StatementReading.{TookPieces, sound_full, sound_block, sound_part, found_full, found_block, found_part, one_full, one_block, one_part, moved_block, moved_part}
 
 -- ---- what was read is derived
 
