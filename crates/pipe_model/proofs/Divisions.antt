@@ -11,7 +11,7 @@ pub record GoesOn (short long after_short after_long : List ℕ) : Type 0 where
   pub rest : after_short ≡ more ++ after_long
 
 -- of two fronts of one list, one goes on from the other
-one_goes_on : (x y u v : List ℕ) → x ++ u ≡ y ++ v → GoesOn x y u v ⊎ GoesOn y x v u
+pub one_goes_on : (x y u v : List ℕ) → x ++ u ≡ y ++ v → GoesOn x y u v ⊎ GoesOn y x v u
 one_goes_on [] y u v h = inl (record { more = y; front = refl; rest = h })
 one_goes_on (a ∷ x) [] u v h = inr (record { more = a ∷ x; front = refl; rest = sym h })
 one_goes_on (a ∷ x) (b ∷ y) u v h =

@@ -20,3 +20,4 @@ pub mod ProgramWalks
 pub mod ProgramFaults
 pub mod FirstFaults
 pub mod FaultRules
+pub mod TokenLaws

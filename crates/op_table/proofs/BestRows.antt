@@ -1,0 +1,52 @@
+-- The longest symbol of a table, row by row.
+use Rattle.std.proofs.Common.{◌≡◌, ℕ, ◌<◌, ◌≤◌, List, [], ◌∷◌, ◌++◌, length, get_or, refl, arith, Option, Some, None, IfSome, IfNone, Contains, All, length-append}
+use Rattle.std.proofs.lemmas.List.Elements.{All-push, All-weaker, Contains-append_left, Contains-append_right}
+use Rattle.op_table.specs.declared.table.OpRow.{OpRow}
+use Rattle.op_table.specs.Tables.{text_of, IsFront, IsLongest, HasNoSymbol, IsBest, Outdoes}
+
+-- the last row stands in the table
+pub last_stands : (rows : List OpRow) (row : OpRow) → Contains (rows ++ row ∷ []) row
+last_stands rows row = Contains-append_right rows (row ∷ []) row (0, omega arith, refl)
+
+-- the row's symbol is no longer front of the bytes than that of another
+abbrev NoLonger : List ℕ → OpRow → OpRow → Type 0
+NoLonger bytes row other = IsFront (text_of other) bytes → length (text_of other) ≤ length (text_of row)
+
+-- a row whose symbol is a longer front than the best so far is the best
+pub takes : (rows : List OpRow) (bytes : List ℕ) (best : Option OpRow) (row : OpRow) → IsBest rows bytes best → IsFront (text_of row) bytes → Outdoes row best
+    → IsBest (rows ++ row ∷ []) bytes (Some row)
+takes rows bytes None row b f o = record {
+  among = last_stands rows row;
+  front = f;
+  longest = All-push (NoLonger bytes row) rows row (All-weaker (λ other. IsFront (text_of other) bytes → ⊥) (NoLonger bytes row) (λ other none front. absurd (none front)) rows b)
+      (λ front. omega arith);
+}
+takes rows bytes (Some best) row b f o = record {
+  among = last_stands rows row;
+  front = f;
+  longest = All-push (NoLonger bytes row) rows row (All-weaker (NoLonger bytes best) (NoLonger bytes row) (λ other shorter front. let h = shorter front in omega (arith, h, o)) rows b.longest)
+      (λ front. omega arith);
+}
+
+-- otherwise the best stays
+pub keeps : (rows : List OpRow) (bytes : List ℕ) (best : Option OpRow) (row : OpRow) → IsBest rows bytes best → (IsFront (text_of row) bytes → Outdoes row best → ⊥)
+    → IsBest (rows ++ row ∷ []) bytes best
+keeps rows bytes None row b n = All-push (λ other. IsFront (text_of other) bytes → ⊥) rows row b (λ front. n front tt)
+keeps rows bytes (Some best) row b n = record {
+  among = Contains-append_left rows (row ∷ []) best b.among;
+  front = b.front;
+  longest = All-push (NoLonger bytes best) rows row b.longest (λ front. not_less (length (text_of best)) (length (text_of row)) (n front));
+}
+  where
+    not_less : (x y : ℕ) → (x < y → ⊥) → y ≤ x
+    not_less x y h = omega (arith, h)
+
+-- the best of all rows
+pub best_is_longest : (rows : List OpRow) (bytes : List ℕ) (best : Option OpRow) → IsBest rows bytes best → IfSome best (λ row. IsLongest rows bytes row)
+best_is_longest rows bytes None b = tt
+best_is_longest rows bytes (Some row) b = b
+
+-- where there is none
+pub best_is_none : (rows : List OpRow) (bytes : List ℕ) (best : Option OpRow) → IsBest rows bytes best → IfNone best (HasNoSymbol rows bytes)
+best_is_none rows bytes None b = b
+best_is_none rows bytes (Some row) b = tt

@@ -1,0 +1,3 @@
+pub mod BestRows
+pub mod OperatorSymbols
+pub mod TableRules

@@ -1,0 +1,8 @@
+//! The two-place operators of the language, in a table.
+#![tactic(auto)]
+
+pub mod operators;
+pub mod rules;
+pub mod table;
+#[cfg(test)]
+mod tests;

@@ -1,0 +1,29 @@
+use Rattle.std.proofs.Common.{◌≡◌, ◌∙◌, sym, rules, arith, [], ◌++◌, ◌-◌, length, length-drop, take, drop}
+use Rattle.std.proofs.lemmas.List.{take_all, nil_from_length}
+use Rattle.pipe_model.specs.Tokens.{IsTooLong}
+use Rattle.pipe_lexer.specs.Pieces.{length_of, tokens_of, IsFlaw, IsPiece}
+use Rattle.pipe_lexer.proofs.ScanLaws.{at_end, at_flaw, past_piece}
+use Rattle.pipe_lexer.proofs.scan.tokens.Goals as goal
+
+pub returns-then-source-gt-LONGEST_SOURCE-clause-fault :
+    goal.returns-then-source-gt-LONGEST_SOURCE-clause-fault
+returns-then-source-gt-LONGEST_SOURCE-clause-fault c = IsTooLong (omega arith)
+
+pub returns-in-Err-clause-fault : goal.returns-in-Err-clause-fault
+returns-in-Err-clause-fault c =
+    let flaw : IsFlaw c.loop-first.rest.now c.in-Err.flaw = rw c.in-Err.is at c.piece_at.ensures.flaw in
+    rw c.at.ensures (at_flaw _ _ _ _ _ c.loop-first.invariant flaw (search rules))
+
+pub loop-first-preserved : goal.loop-first-preserved
+loop-first-preserved c =
+    let rest = c.loop-first.rest.now in
+    let piece : IsPiece rest c.in-Ok.piece = rw c.in-Ok.is at c.piece_at.ensures.piece in
+    let n = c.length.result in
+    let tail : take (length rest - n) (drop n rest) ≡ drop n rest = take_all _ _ (omega (arith, length-drop n rest)) in
+    let kept : c.keep.new.found ≡ c.loop-first.found ++ tokens_of c.in-Ok.piece (length c.args.source.now - length rest) = search rules in
+    rw (tail, kept, c.length.ensures) (past_piece _ _ _ _ _ c.loop-first.invariant piece (search rules))
+
+pub returns-clause-tokens : goal.returns-clause-tokens
+returns-clause-tokens c =
+    let none : c.loop-first.rest.now ≡ [] = nil_from_length _ c.in_default.ensures.cases in
+    at_end _ _ (rw none at c.loop-first.invariant)

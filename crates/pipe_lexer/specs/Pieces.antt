@@ -1,0 +1,47 @@
+-- What stands at the front of bytes, and what may be wrong there.
+use Rattle.std.specs.Prelude.{◌≡◌, ℕ, ◌<◌, ◌≤◌, ◌^◌, pos, true, false, List, [], ◌∷◌, length, take, drop, slice_index_or}
+use Rattle.pipe_model.specs.Lexis.{is_blank, is_digit, is_letter, operators}
+use Rattle.pipe_model.specs.Tokens.{begins_comment, kind_of, BeginsNothing, BeginsWith, IsComment, IsKindWithinBounds, IsToken}
+use Rattle.pipe_model.specs.declared.symbol.Symbol.{Symbol}
+use Rattle.pipe_model.specs.declared.symbol.Symbol.TheVariants as symbols
+use Rattle.pipe_model.specs.declared.token.Token.{Token}
+use Rattle.pipe_lexer.specs.declared.piece.Flaw.{Flaw}
+use Rattle.pipe_lexer.specs.declared.piece.Flaw.TheVariants as flaws
+use Rattle.pipe_lexer.specs.declared.piece.Piece.{Piece}
+use Rattle.pipe_lexer.specs.declared.piece.Piece.TheVariants as pieces
+
+-- the bytes begin with this one, and neither a blank nor a comment nor a word, name or number begins there
+pub record BeginsPunctuation (first : ℕ) (bytes : List ℕ) : Type 0 where
+  pub behind : List ℕ
+  pub parts : bytes ≡ first ∷ behind
+  pub no_blank : is_blank first ≡ false
+  pub no_comment : begins_comment bytes ≡ false
+  pub no_letter : is_letter first ≡ false
+  pub no_digit : is_digit first ≡ false
+
+-- how many bytes the operator of a code has; 0 where none has the code
+abbrev pub operator_length : ℕ → ℕ
+operator_length code = length (slice_index_or ([] ∷ operators) code [])
+
+-- how many bytes a piece has
+abbrev pub length_of : Piece → ℕ
+length_of (pieces.Gap n) = n
+length_of (pieces.Taken kind n) = n
+
+-- the token that a piece is at a place, if it is one
+abbrev pub tokens_of : Piece → ℕ → List Token
+tokens_of (pieces.Gap n) place = []
+tokens_of (pieces.Taken kind n) place = record { kind = kind; place = place; length = n } ∷ []
+
+-- the piece stands at the front of the bytes: a blank, a comment, or a token within its bounds
+pub data IsPiece (bytes : List ℕ) : Piece → Type 0 where
+  ABlank : (b : ℕ) (behind : List ℕ) → bytes ≡ b ∷ behind → is_blank b ≡ true → IsPiece bytes (pieces.Gap 1)
+  AComment : (n : ℕ) → 0 < n → n ≤ length bytes → IsComment (take n bytes) (drop n bytes) → IsPiece bytes (pieces.Gap n)
+  AToken : (s : Symbol) (n : ℕ) → 0 < n → n ≤ length bytes → IsToken (take n bytes) (drop n bytes) s → IsKindWithinBounds (kind_of s) n
+      → IsPiece bytes (pieces.Taken (kind_of s) n)
+
+-- this is wrong at the front of the bytes
+pub data IsFlaw (bytes : List ℕ) : Flaw → Type 0 where
+  NothingStands : BeginsNothing bytes → IsFlaw bytes flaws.BadByte
+  NumberIsWide : (n : ℕ) → BeginsWith bytes (symbols.Number (pos n)) → 2 ^ 63 ≤ n → IsFlaw bytes flaws.TooWide
+  NameIsLong : (name : List ℕ) → BeginsWith bytes (symbols.Name name) → 64 < length name → IsFlaw bytes flaws.NameTooLong

@@ -1,0 +1,11 @@
+//! Tokens of a source.
+#![tactic(auto)]
+
+mod bytes;
+pub mod fault;
+mod number;
+mod piece;
+pub mod scan;
+#[cfg(test)]
+mod tests;
+mod words;

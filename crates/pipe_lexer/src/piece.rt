@@ -1,0 +1,129 @@
+//! What stands at the front of bytes: a blank, a comment or a token.
+
+ghost use Rattle.std.specs.Prelude.{◌≡◌, ◌∷◌, IfErr, IfOk, true, false};
+ghost use Rattle.pipe_model.specs.Lexis.{is_digit, is_letter};
+ghost use Rattle.pipe_lexer.specs.Pieces.{BeginsPunctuation, IsFlaw, IsPiece, length_of, operator_length};
+
+use crate::bytes::{begins_comment, digits, is_blank, is_digit, is_letter, is_sign, line_bytes, name_bytes};
+use crate::number::number_value;
+use crate::words::reserved_place;
+use op_table::operators::OPS;
+use pipe_model::token::TokenKind;
+
+const LONGEST_NAME: usize = 64;
+
+/// What stands at the front of bytes, and how many bytes it has.
+#[derive(Clone, Copy)]
+pub enum Piece {
+    /// A blank or a comment.
+    Gap(usize),
+    /// A token.
+    Taken(TokenKind, usize),
+}
+
+impl Piece {
+    /// How many bytes it has.
+    pub fn length(self) -> usize
+        ensures { result ≡ length_of self }
+    {
+        match self {
+            Piece::Gap(length) | Piece::Taken(_, length) => length,
+        }
+    }
+}
+
+/// What is wrong at the front of bytes.
+#[derive(Clone, Copy)]
+pub enum Flaw {
+    /// Nothing stands there that may.
+    BadByte,
+    /// A number above 9223372036854775807.
+    TooWide,
+    /// A name of more than 64 bytes.
+    NameTooLong,
+}
+
+// The word or name at the front, which begins with a letter.
+fn word_or_name(bytes: &[u8], first: u8, behind: &[u8]) -> Result<Piece, Flaw>
+    requires front { bytes.now ≡ first ∷ behind.now }
+    requires letter { is_letter first ≡ true }
+    ensures piece { IfOk result (λ piece. IsPiece bytes.now piece) }
+    ensures flaw { IfErr result (λ flaw. IsFlaw bytes.now flaw) }
+{
+    let more = name_bytes(behind);
+    let text = &bytes[..1 + more];
+    if let Some(place) = reserved_place(text) {
+        return Ok(Piece::Taken(TokenKind::Word(place), 1 + more));
+    }
+    if LONGEST_NAME < text.len() {
+        return Err(Flaw::NameTooLong);
+    }
+    Ok(Piece::Taken(TokenKind::Name, 1 + more))
+}
+
+// The number at the front, which begins with a digit.
+fn number(bytes: &[u8], first: u8, behind: &[u8]) -> Result<Piece, Flaw>
+    requires front { bytes.now ≡ first ∷ behind.now }
+    requires letter { is_letter first ≡ false }
+    requires digit { is_digit first ≡ true }
+    ensures piece { IfOk result (λ piece. IsPiece bytes.now piece) }
+    ensures flaw { IfErr result (λ flaw. IsFlaw bytes.now flaw) }
+{
+    let more = digits(behind);
+    let Some(value) = number_value(&bytes[..1 + more]) else {
+        return Err(Flaw::TooWide);
+    };
+    Ok(Piece::Taken(TokenKind::Number(value), 1 + more))
+}
+
+macro_rules! length_by_code {
+    (($code:expr) $($row:literal $symbol:literal $length:literal $level:literal;)*) => {
+        match $code {
+            $($row => $length,)*
+            _ => 0,
+        }
+    };
+}
+
+// How many bytes the operator of a code has; 0 where none has the code.
+fn operator_length(code: u8) -> usize
+    ensures { result ≡ operator_length code }
+{
+    op_table::operators!(length_by_code, code)
+}
+
+// The operator or sign at the front, which begins with neither a letter nor a digit and is no comment.
+fn punctuation(bytes: &[u8], first: u8) -> Result<Piece, Flaw>
+    requires { BeginsPunctuation first bytes.now }
+    ensures piece { IfOk result (λ piece. IsPiece bytes.now piece) }
+    ensures flaw { IfErr result (λ flaw. IsFlaw bytes.now flaw) }
+{
+    if let Some(code) = OPS.find(bytes) {
+        return Ok(Piece::Taken(TokenKind::Operator(code), operator_length(code)));
+    }
+    if !is_sign(first) {
+        return Err(Flaw::BadByte);
+    }
+    Ok(Piece::Taken(TokenKind::Sign(first), 1))
+}
+
+/// What stands at the front of the bytes, whose first is given with those behind it.
+pub fn piece_at(bytes: &[u8], first: u8, behind: &[u8]) -> Result<Piece, Flaw>
+    requires { bytes.now ≡ first ∷ behind.now }
+    ensures piece { IfOk result (λ piece. IsPiece bytes.now piece) }
+    ensures flaw { IfErr result (λ flaw. IsFlaw bytes.now flaw) }
+{
+    if is_blank(first) {
+        return Ok(Piece::Gap(1));
+    }
+    if begins_comment(bytes) {
+        return Ok(Piece::Gap(line_bytes(bytes)));
+    }
+    if is_letter(first) {
+        return word_or_name(bytes, first, behind);
+    }
+    if is_digit(first) {
+        return number(bytes, first, behind);
+    }
+    punctuation(bytes, first)
+}

@@ -1,0 +1,67 @@
+//! The tokens of a whole source.
+
+ghost use Rattle.std.specs.Prelude.{◌≡◌, ◌≤◌, ◌++◌, IfErr, IfOk, OnOk};
+ghost use Rattle.pipe_model.specs.Tokens.{IsLexed};
+ghost use Rattle.pipe_lexer.specs.Pieces.{length_of, tokens_of};
+ghost use Rattle.pipe_lexer.specs.Faults.{fault_at, IsFaultOf};
+
+use crate::fault::LexFault;
+use crate::piece::{Flaw, Piece, piece_at};
+use pipe_model::token::{Token, Tokens};
+use std::alloc::Global;
+
+const LONGEST_SOURCE: usize = 1_048_576;
+
+impl Flaw {
+    // The fault that is this flaw at a place.
+    fn at(self, place: u32) -> LexFault
+        ensures { result ≡ fault_at self place }
+    {
+        match self {
+            Flaw::BadByte => LexFault::BadByte(place),
+            Flaw::TooWide => LexFault::TooWide(place),
+            Flaw::NameTooLong => LexFault::NameTooLong(place),
+        }
+    }
+}
+
+// Puts a piece at a place behind the tokens that were found, if it is a token.
+fn keep(found: &mut Tokens, piece: Piece, place: u32) -> Result<(), LexFault>
+    requires { length_of piece ≤ 1048576 }
+    ensures kept { OnOk result (found.new ≡ found.old ++ tokens_of piece place) }
+    ensures refused { IfErr result (λ fault. fault ≡ LexFault.NoMemory) }
+{
+    if let Piece::Taken(kind, length) = piece {
+        found.push(Token {
+            kind,
+            place,
+            length: length as u32,
+        })?;
+    }
+    Ok(())
+}
+
+/// The tokens of a source, each with its kind, place and length. `SourceTooLong` is answered exactly where the source has
+/// more than 1,048,576 bytes. Otherwise `BadByte`, `TooWide` and `NameTooLong` tell the first thing that is wrong in the
+/// text, with its place: a byte at which nothing stands that may, a number above 9223372036854775807, or a name of more
+/// than 64 bytes. `NoMemory` may come at any source.
+pub fn tokens(alloc: Global, source: &[u8]) -> Result<Tokens, LexFault>
+    ensures tokens { IfOk result (λ found. IsLexed source.now found) }
+    ensures fault { IfErr result (λ fault. IsFaultOf source.now fault) }
+{
+    if LONGEST_SOURCE < source.len() {
+        return Err(LexFault::SourceTooLong);
+    }
+    let mut found = Tokens::with_capacity(alloc, source.len() / 4)?;
+    let mut rest = source;
+    while let Some((first, behind)) = rest.split_first() {
+        let place = (source.len() - rest.len()) as u32;
+        let piece = match piece_at(rest, *first, behind) {
+            Ok(piece) => piece,
+            Err(flaw) => return Err(flaw.at(place)),
+        };
+        keep(&mut found, piece, place)?;
+        rest = &rest[piece.length()..];
+    }
+    Ok(found)
+}
