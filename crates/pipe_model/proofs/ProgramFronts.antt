@@ -1,5 +1,5 @@
 -- Where the machine of programs runs, there is a program that goes on so: what has to come can come, and each step of the table is sound.
-use Rattle.std.proofs.Common.{◌≡◌, ℕ, ℤ, List, [], ◌∷◌, ◌++◌, refl, sym, ap, ◌∙◌, append_assoc, arith, subst, ◌⊎◌, inl, inr, Option, Some, None, Bool, true, false, ◌==◌, ◌||◌, pos, if◌then◌else◌}
+use Rattle.std.proofs.Common.{◌≡◌, ℕ, ℤ, List, [], ◌∷◌, ◌++◌, refl, sym, ap, ◌∙◌, append_assoc, arith, subst, ◌⊎◌, inl, inr, Option, Some, None, Bool, true, false, ◌==◌, ◌||◌, pos, negsuc, if◌then◌else◌}
 use Rattle.std.proofs.lemmas.Bool.{cases_eq}
 use Rattle.pipe_model.specs.declared.symbol.Symbol.{Symbol}
 use Rattle.pipe_model.specs.declared.symbol.Symbol.TheVariants as symbols
@@ -8,7 +8,7 @@ use Rattle.pipe_model.specs.SyntaxTree.{Expression, Statement, Statements}
 use Rattle.pipe_model.specs.WholeGrammar.{Derives, Numeral, Piece, Single, FullExpression, DerivesStatement, LetIs, AssignIs, AssignElementIs, EmitIs, IfIs, WhileIs, WaitIs, WaitNextIs, ContinueIs, ContinueNextIs, DerivesStatements, NoStatement, OneMore, DerivesBlock, BlockIs, DerivesPart, NoPart, PartIs, DerivesSize, NoSize, SizeIs, DerivesValue, ValueIs, NegativeValueIs, DerivesCells, NoCell, CellIs}
 use Rattle.pipe_model.specs.Words.{word_cell, word_pipe_wait, word_pipe_continue, word_let, word_if, word_while, word_emit, minus, open_round, close_round, semicolon, equals, open_square, close_square, open_brace, close_brace}
 use Rattle.pipe_model.specs.ProgramMachine as machine
-use Rattle.pipe_model.specs.ProgramMachine.{Want, Sign, Word, AnyName, AnyNumber, StageNumber, Target, Part, Cells, Size, Value, Move, Takes, Enters, Skips, Refuses, move, statement_move, State, Outside, Inside, whole, entered, stepped, step, may_end}
+use Rattle.pipe_model.specs.ProgramMachine.{Want, Sign, Word, AnyName, AnyNumber, Natural, StageNumber, Target, Part, Cells, Size, Value, Move, Takes, Enters, Skips, Refuses, move, statement_move, natural_move, State, Outside, Inside, whole, entered, stepped, step, may_end}
 use Rattle.pipe_model.specs.ExpressionMachine as expression
 use Rattle.pipe_model.proofs.ExpressionGrowth.{lifted}
 
@@ -19,6 +19,7 @@ pub data Completes : List Want → List Piece → Type 0 where
   OfWord : {wants : List Want} {ps : List Piece} (word : ℕ) → Completes wants ps → Completes (Word word ∷ wants) (Single (symbols.Word word) ∷ ps)
   OfName : {wants : List Want} {ps : List Piece} (name : List ℕ) → Completes wants ps → Completes (AnyName ∷ wants) (Single (symbols.Name name) ∷ ps)
   OfNumber : {wants : List Want} {ps : List Piece} (n : ℤ) → Completes wants ps → Completes (AnyNumber ∷ wants) (Single (symbols.Number n) ∷ ps)
+  OfNatural : {wants : List Want} {ps : List Piece} (n : ℕ) → Completes wants ps → Completes (Natural ∷ wants) (Single (symbols.Number (pos n)) ∷ ps)
   OfFull : {wants : List Want} {ps : List Piece} {ts : List Symbol} {e : Expression} → Derives 6 ts e → Completes wants ps
       → Completes (machine.FullExpression ∷ wants) (FullExpression ts ∷ ps)
   OfNoStage : {wants : List Want} {ps : List Piece} → Completes wants ps → Completes (StageNumber ∷ wants) ps
@@ -49,6 +50,7 @@ one_more (Sign sign) wants c = record { pieces = Single (symbols.Sign sign) ∷ 
 one_more (Word word) wants c = record { pieces = Single (symbols.Word word) ∷ c.pieces; completes = OfWord word c.completes }
 one_more AnyName wants c = record { pieces = Single (symbols.Name []) ∷ c.pieces; completes = OfName [] c.completes }
 one_more AnyNumber wants c = record { pieces = Single (symbols.Number (pos 0)) ∷ c.pieces; completes = OfNumber (pos 0) c.completes }
+one_more Natural wants c = record { pieces = Single (symbols.Number (pos 0)) ∷ c.pieces; completes = OfNatural 0 c.completes }
 one_more machine.FullExpression wants c = record {
   pieces = FullExpression (symbols.Number (pos 0) ∷ []) ∷ c.pieces;
   completes = OfFull (lifted 6 (Numeral (pos 0))) c.completes;
@@ -76,6 +78,7 @@ completes_end (Sign sign ∷ wants) h = absurd (cc (h))
 completes_end (Word word ∷ wants) h = absurd (cc (h))
 completes_end (AnyName ∷ wants) h = absurd (cc (h))
 completes_end (AnyNumber ∷ wants) h = absurd (cc (h))
+completes_end (Natural ∷ wants) h = absurd (cc (h))
 completes_end (machine.FullExpression ∷ wants) h = absurd (cc (h))
 completes_end (StageNumber ∷ wants) h = OfNoStage (completes_end wants h)
 completes_end (Target ∷ wants) h = absurd (cc (h))
@@ -192,8 +195,8 @@ cell_back (OfName name (OfSize {ps = ps} s (OfSign b (OfValue {ps = qs} v (OfSig
 size_back : {wants : List Want} {ps : List Piece} → Completes (AnyNumber ∷ Sign 93 ∷ wants) ps → Completes (Size ∷ wants) (Single open_square ∷ ps)
 size_back (OfNumber n (OfSign b c)) = OfSize (SizeIs n) c
 
-value_back : {wants : List Want} {ps : List Piece} → Completes (AnyNumber ∷ wants) ps → Completes (Value ∷ wants) (Single minus ∷ ps)
-value_back (OfNumber n c) = OfValue (NegativeValueIs n) c
+value_back : {wants : List Want} {ps : List Piece} → Completes (Natural ∷ wants) ps → Completes (Value ∷ wants) (Single minus ∷ ps)
+value_back (OfNatural n c) = OfValue (NegativeValueIs n) c
 
 target_back : {wants : List Want} {ps : List Piece} → Completes (machine.FullExpression ∷ Sign 59 ∷ wants) ps
     → Completes (Target ∷ wants) (Single equals ∷ ps)
@@ -247,6 +250,10 @@ target_sign_back b =
     either (b == 61) _ _ Target (symbols.Sign b) (λ h wants ps c. let e : b ≡ 61 = grind (arith, h) in rw e (target_back c)) (λ h.
     either (b == 91) _ _ Target (symbols.Sign b) (λ h wants ps c. let e : b ≡ 91 = grind (arith, h) in rw e (element_back c)) (λ h. tt))
 
+natural_back : (n : ℤ) → MovesBack (natural_move n) Natural (symbols.Number n)
+natural_back (pos n) = λ wants ps c. OfNatural n c
+natural_back (negsuc n) = tt
+
 -- the table is sound
 back : (want : Want) (t : Symbol) → MovesBack (move want t) want t
 back (Sign sign) (symbols.Sign b) = either (b == sign) (Takes []) Refuses (Sign sign) (symbols.Sign b) (λ h wants ps c. same_sign sign b h c) (λ h. tt)
@@ -269,6 +276,11 @@ back AnyNumber (symbols.Name name) = tt
 back AnyNumber (symbols.Word k) = tt
 back AnyNumber (symbols.Operator code) = tt
 back AnyNumber (symbols.Sign b) = tt
+back Natural (symbols.Number n) = natural_back n
+back Natural (symbols.Name name) = tt
+back Natural (symbols.Word k) = tt
+back Natural (symbols.Operator code) = tt
+back Natural (symbols.Sign b) = tt
 back machine.FullExpression t = λ wants ts e ps d c. OfFull d c
 back StageNumber (symbols.Sign b) =
     either (b == 41) Skips Enters StageNumber (symbols.Sign b) (λ h wants ps c. OfNoStage c) (λ h wants ts e ps d c. OfStage d c)

@@ -1,5 +1,5 @@
 -- A reader of cells and programs finds what the whole grammar derives, and only that; so symbols derive one program at most.
-use Rattle.std.proofs.Common.{◌≡◌, ◌≤◌, ℕ, ℤ, List, [], ◌∷◌, ◌++◌, length, refl, sym, ap, ◌∙◌, append-nil, arith, subst, Option}
+use Rattle.std.proofs.Common.{◌≡◌, ◌≤◌, ℕ, ℤ, pos, List, [], ◌∷◌, ◌++◌, length, refl, sym, ap, ◌∙◌, append-nil, arith, subst, Option}
 use Rattle.pipe_model.specs.declared.symbol.Symbol.{Symbol}
 use Rattle.pipe_model.specs.declared.symbol.Symbol.TheVariants as symbols
 use Rattle.pipe_model.specs.declared.tree.Declaration.{Declaration}
@@ -26,7 +26,7 @@ sound_size longest (ReadsSizeIs n rest) = record {
 sound_value : {ts rest : List Symbol} {value : ℤ} (longest : ℕ) → ReadsValue ts value rest → TookPieces (λ ps. DerivesValue ps value) longest ts rest
 sound_value longest (ReadsValueIs n rest) = record { taken = Single (symbols.Number n) ∷ []; split = refl; derived = ValueIs n; short = tt }
 sound_value longest (ReadsNegativeValue n rest) = record {
-  taken = Single minus ∷ Single (symbols.Number n) ∷ [];
+  taken = Single minus ∷ Single (symbols.Number (pos n)) ∷ [];
   split = refl;
   derived = NegativeValueIs n;
   short = tt;

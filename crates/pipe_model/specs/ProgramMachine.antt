@@ -1,6 +1,6 @@
 -- Programs one symbol at a time: what still has to come, with full expressions left to the machine of expressions, which count their symbols.
 -- The grammar says what a program is; this machine says at which symbol a reader has to stop, and why, and laws in proofs/ tie the two.
-use Rattle.std.specs.Prelude.{◌≡◌, ℕ, suc, List, [], ◌∷◌, ◌++◌, Bool, true, false, ◌==◌, Option, Some, None, ◌&&◌, ◌||◌, if◌then◌else◌, nat_le, length}
+use Rattle.std.specs.Prelude.{◌≡◌, ℕ, suc, List, [], ◌∷◌, ◌++◌, Bool, true, false, ◌==◌, Option, Some, None, ◌&&◌, ◌||◌, if◌then◌else◌, nat_le, ℤ, pos, negsuc, length}
 use Rattle.pipe_model.specs.declared.symbol.Symbol.{Symbol}
 use Rattle.pipe_model.specs.declared.symbol.Symbol.TheVariants as symbols
 use Rattle.pipe_model.specs.ExpressionMachine as expression
@@ -11,6 +11,7 @@ pub data Want : Type 0 where
   Word : ℕ → Want
   AnyName : Want
   AnyNumber : Want
+  Natural : Want         -- a number that is not negative
   FullExpression : Want
   StageNumber : Want
   Target : Want  -- what stands behind a name that is assigned to
@@ -41,6 +42,11 @@ statement_move word =
     else (if word == 16 then Takes (FullExpression ∷ Sign 59 ∷ Statements ∷ [])
     else (if (word == 9) || (word == 10) then Takes (Sign 40 ∷ StageNumber ∷ Sign 41 ∷ Sign 59 ∷ Statements ∷ []) else Skips))))
 
+-- a number that is not negative may come where it has to
+abbrev pub natural_move : ℤ → Move
+natural_move (pos n) = Takes []
+natural_move (negsuc n) = Refuses
+
 -- the table of the machine
 abbrev pub move : Want → Symbol → Move
 move (Sign sign) (symbols.Sign b) = if b == sign then Takes [] else Refuses
@@ -63,6 +69,11 @@ move AnyNumber (symbols.Name name) = Refuses
 move AnyNumber (symbols.Word k) = Refuses
 move AnyNumber (symbols.Operator code) = Refuses
 move AnyNumber (symbols.Sign b) = Refuses
+move Natural (symbols.Number n) = natural_move n
+move Natural (symbols.Name name) = Refuses
+move Natural (symbols.Word k) = Refuses
+move Natural (symbols.Operator code) = Refuses
+move Natural (symbols.Sign b) = Refuses
 move FullExpression t = Enters
 move StageNumber (symbols.Sign b) = if b == 41 then Skips else Enters
 move StageNumber (symbols.Name name) = Enters
@@ -97,7 +108,7 @@ move Size (symbols.Word k) = Skips
 move Size (symbols.Number n) = Skips
 move Size (symbols.Operator code) = Skips
 move Value (symbols.Number n) = Takes []
-move Value (symbols.Operator code) = if code == 10 then Takes (AnyNumber ∷ []) else Refuses
+move Value (symbols.Operator code) = if code == 10 then Takes (Natural ∷ []) else Refuses
 move Value (symbols.Name name) = Refuses
 move Value (symbols.Word k) = Refuses
 move Value (symbols.Sign b) = Refuses
@@ -155,6 +166,7 @@ may_end (Sign sign ∷ wants) = false
 may_end (Word word ∷ wants) = false
 may_end (AnyName ∷ wants) = false
 may_end (AnyNumber ∷ wants) = false
+may_end (Natural ∷ wants) = false
 may_end (FullExpression ∷ wants) = false
 may_end (StageNumber ∷ wants) = may_end wants
 may_end (Target ∷ wants) = false

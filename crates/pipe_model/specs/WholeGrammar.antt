@@ -1,7 +1,7 @@
 -- The grammar of the whole language: which symbols derive which expression, and which pieces derive which statements and program,
 -- one constructor a line of the grammar. A piece is one symbol, or the symbols of a full expression: one that is no part of another.
 -- The bounds on brackets and on full expressions stand beside the grammar (WholeSpelling), not in it.
-use Rattle.std.specs.Prelude.{◌≡◌, ℕ, suc, ◌-◌, ℤ, List, [], ◌∷◌, ◌++◌, slice_index, Option, Some, None}
+use Rattle.std.specs.Prelude.{◌≡◌, ℕ, suc, ◌-◌, ℤ, pos, List, [], ◌∷◌, ◌++◌, slice_index, Option, Some, None}
 use Rattle.std.proofs.Math.IntN.{neg_ℤ}
 use Rattle.pipe_model.specs.declared.node.Kind.TheVariants as kinds
 use Rattle.pipe_model.specs.declared.symbol.Symbol.{Symbol}
@@ -95,7 +95,7 @@ pub data DerivesSize : List Piece → Option ℤ → Type 0 where
 -- a declared value
 pub data DerivesValue : List Piece → ℤ → Type 0 where
   ValueIs : (n : ℤ) → DerivesValue (Single (symbols.Number n) ∷ []) n
-  NegativeValueIs : (n : ℤ) → DerivesValue (Single minus ∷ Single (symbols.Number n) ∷ []) (neg_ℤ n)
+  NegativeValueIs : (n : ℕ) → DerivesValue (Single minus ∷ Single (symbols.Number (pos n)) ∷ []) (neg_ℤ (pos n))
 
 -- the declaration of a cell
 abbrev pub declaration : List ℕ → Option ℤ → ℤ → Declaration

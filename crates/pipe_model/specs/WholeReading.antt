@@ -1,6 +1,6 @@
 -- Reading by the whole grammar: what a reader takes from the front of the symbols and what it leaves. The grammar says which pieces
 -- derive a tree; this says where each part ends, by the symbol that stands behind it. Both agree, as laws in proofs/ say.
-use Rattle.std.specs.Prelude.{◌≡◌, ◌≢◌, ◌≤◌, ◌+◌, ℕ, suc, ℤ, List, [], ◌∷◌, ◌++◌, length, Option, Some, None}
+use Rattle.std.specs.Prelude.{◌≡◌, ◌≢◌, ◌≤◌, ◌+◌, ℕ, suc, ℤ, pos, List, [], ◌∷◌, ◌++◌, length, Option, Some, None}
 use Rattle.std.proofs.Math.IntN.{neg_ℤ}
 use Rattle.pipe_model.specs.declared.node.Kind.TheVariants as kinds
 use Rattle.pipe_model.specs.declared.symbol.Symbol.{Symbol}
@@ -114,7 +114,7 @@ pub data ReadsSize : List Symbol → Option ℤ → List Symbol → Type 0 where
 -- a declared value
 pub data ReadsValue : List Symbol → ℤ → List Symbol → Type 0 where
   ReadsValueIs : (n : ℤ) (rest : List Symbol) → ReadsValue (symbols.Number n ∷ rest) n rest
-  ReadsNegativeValue : (n : ℤ) (rest : List Symbol) → ReadsValue (minus ∷ symbols.Number n ∷ rest) (neg_ℤ n) rest
+  ReadsNegativeValue : (n : ℕ) (rest : List Symbol) → ReadsValue (minus ∷ symbols.Number (pos n) ∷ rest) (neg_ℤ (pos n)) rest
 
 -- the declaration of a cell, behind its word
 pub data ReadsCell : List Symbol → Declaration → List Symbol → Type 0 where
