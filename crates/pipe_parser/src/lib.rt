@@ -9,5 +9,6 @@ mod names;
 mod program;
 mod rules;
 mod statement;
+mod symbols;
 #[cfg(test)]
 mod tests;
