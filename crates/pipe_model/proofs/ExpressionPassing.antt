@@ -20,7 +20,7 @@ no_index (symbols.Sign n ∷ ts) wants h = let e : (n == 91) ≡ false = grind (
 pub is_op : (code rank : ℕ) → rank_of code ≡ suc rank → rank < 6 → is_operator code ≡ true
 is_op code rank h l = grind (arith, h, l)
 
-tail_joins : (code : ℕ) (ts : List Symbol) (wants : List Want) → is_operator code ≡ true
+pub tail_joins : (code : ℕ) (ts : List Symbol) (wants : List Want) → is_operator code ≡ true
     → ending (symbols.Operator code ∷ ts) (Tail ∷ wants) ≡ ending ts (Operand ∷ Tail ∷ wants)
 tail_joins code ts wants h = rw h refl
 

@@ -12,4 +12,5 @@ pub mod Blocks
 pub mod Programs
 pub mod NameSets
 pub mod Obeying
+pub mod ExpressionFronts
 pub mod FirstForms

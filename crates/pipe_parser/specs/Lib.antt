@@ -6,3 +6,4 @@ pub mod Nothing
 pub mod Programs
 pub mod SameNames
 pub mod Stages
+pub mod ExpressionFaults

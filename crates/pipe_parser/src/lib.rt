@@ -2,10 +2,12 @@
 #![tactic(auto)]
 
 mod expression;
+mod fault;
 pub mod first_form;
 mod front;
 mod lexis;
 mod names;
+mod parse_expression;
 mod program;
 mod rules;
 mod statement;
