@@ -203,11 +203,11 @@ front_runs ts f =
 -- ---- a full expression that is too long is found
 
 -- a derived expression runs
-record RunsTo (ts : List Symbol) : Type 0 where
-  left : List expression.Want
-  ran : expression.run ts whole ≡ Some left
+pub record RunsTo (ts : List Symbol) : Type 0 where
+  pub left : List expression.Want
+  pub ran : expression.run ts whole ≡ Some left
 
-derived_runs : {ts : List Symbol} {e : Expression} → Derives 6 ts e → RunsTo ts
+pub derived_runs : {ts : List Symbol} {e : Expression} → Derives 6 ts e → RunsTo ts
 derived_runs {ts} {e} d =
     let s = runs.stopped (ts ++ []) whole in
     let ends = runs.done_may_end (expression.may_end s.left) s.rest []

@@ -1,11 +1,11 @@
 -- Readings of expressions and the faults of their readers, by what stands at the front.
-use Rattle.std.proofs.Common.{◌≡◌, ◌≢◌, ℕ, ℤ, suc, List, [], ◌∷◌, ◌++◌, refl, sym, ap, ◌∙◌, ◌<◌, ◌≤◌, length, Result, Ok, Err, IfOk, IfErr, arith}
+use Rattle.std.proofs.Common.{◌≡◌, ℕ, ℤ, suc, List, [], ◌∷◌, ◌++◌, ap, ◌∙◌, ◌<◌, ◌≤◌, arith}
 use Rattle.pipe_model.specs.declared.symbol.Symbol.{Symbol}
 use Rattle.pipe_model.specs.declared.symbol.Symbol.TheVariants as symbols
-use Rattle.pipe_model.specs.SyntaxTree.{Expression, Number, Name, Element, Unary, More, Take, Iter, joined_by}
+use Rattle.pipe_model.specs.SyntaxTree.{Expression, Number, Name, Element, More, Take, Iter, joined_by}
 use Rattle.pipe_model.specs.WholeGrammar.{rank_of}
-use Rattle.pipe_model.specs.WholeReading.{Reads, ReadsNumeral, ReadsName, ReadsElement, ReadsMore, ReadsTake, ReadsIter, ReadsNegative, ReadsNot, ReadsBracketed, ReadsChain, Extends, Ends, Joins, NoSign, next_rank}
-use Rattle.pipe_model.specs.ExpressionMachine.{Want, Sign, Operand, Index, Tail, ending}
+use Rattle.pipe_model.specs.WholeReading.{Reads, ReadsNumeral, ReadsName, ReadsElement, ReadsMore, ReadsTake, ReadsIter, ReadsNegative, ReadsNot, ReadsBracketed, Extends, Joins, NoSign}
+use Rattle.pipe_model.specs.ExpressionMachine.{Want, Sign, Tail, ending}
 use Rattle.pipe_model.proofs.ExpressionPassing.{passes, passes_expression, tail_joins, is_op}
 use Rattle.pipe_parser.specs.declared.fault.ExpressionFault.{ExpressionFault}
 use Rattle.pipe_parser.specs.declared.fault.ExpressionFault.TheVariants as faults

@@ -13,4 +13,5 @@ pub mod Programs
 pub mod NameSets
 pub mod Obeying
 pub mod ExpressionFronts
+pub mod FullExpressions
 pub mod FirstForms

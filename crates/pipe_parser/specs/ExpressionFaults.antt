@@ -1,10 +1,9 @@
 -- What the readers of expressions say of symbols.
-use Rattle.std.specs.Prelude.{◌≡◌, ◌≢◌, ℕ, List, [], ◌∷◌}
+use Rattle.std.specs.Prelude.{◌≡◌, ℕ, List, [], ◌∷◌}
 use Rattle.pipe_model.specs.declared.symbol.Symbol.{Symbol}
-use Rattle.pipe_model.specs.declared.symbol.Symbol.TheVariants as symbols
-use Rattle.pipe_model.specs.ExpressionMachine.{Want, Sign, Operand, Index, Tail, IsStuck}
+use Rattle.pipe_model.specs.ExpressionMachine.{Want, Sign, Operand, Tail, IsStuck}
 use Rattle.pipe_model.specs.SyntaxTree.{Expression, Unary}
-use Rattle.pipe_model.specs.WholeReading.{Reads, next_rank}
+use Rattle.pipe_model.specs.WholeReading.{Reads}
 use Rattle.pipe_parser.specs.declared.fault.ExpressionFault.{ExpressionFault}
 use Rattle.pipe_parser.specs.declared.fault.ExpressionFault.TheVariants as faults
 

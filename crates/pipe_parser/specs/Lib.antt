@@ -7,3 +7,4 @@ pub mod Programs
 pub mod SameNames
 pub mod Stages
 pub mod ExpressionFaults
+pub mod SyntaxFaults

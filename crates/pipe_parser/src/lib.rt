@@ -8,6 +8,7 @@ mod front;
 mod lexis;
 mod names;
 mod parse_expression;
+mod parse_full;
 mod program;
 mod rules;
 mod statement;

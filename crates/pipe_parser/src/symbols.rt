@@ -1,6 +1,6 @@
 //! Symbols of a source: its tokens, as the grammar speaks of them.
 
-ghost use Rattle.std.specs.Prelude.{◌≡◌, ◌∷◌, [], IfSome, IfNone, length, ◌==◌};
+ghost use Rattle.std.specs.Prelude.{◌≡◌, ◌∷◌, [], IfSome, IfNone, drop, length, take};
 ghost use Rattle.pipe_model.specs.Tokens.{symbol_as, text_in};
 ghost use Rattle.pipe_model.specs.WholeReading.{NoSign, NoWord};
 ghost use Rattle.pipe_model.specs.declared.symbol.Symbol.TheVariants.{Sign, Word};
@@ -41,12 +41,46 @@ fn text_of<'a>(source: &'a [u8], token: Token) -> &'a [u8]
     behind.get(..token.length as usize).unwrap_or(behind)
 }
 
+// The first tokens, so many of them where there are as many.
+fn front_of(tokens: &[Token], count: usize) -> &[Token]
+    ensures { result.now ≡ take count tokens.now }
+{
+    tokens.get(..count).unwrap_or(tokens)
+}
+
+// The tokens behind so many.
+fn behind(tokens: &[Token], count: usize) -> &[Token]
+    ensures { result.now ≡ drop count tokens.now }
+{
+    tokens.get(count..).unwrap_or(&[])
+}
+
 impl<'a> Symbols<'a> {
     /// How many symbols there are.
     pub fn len(&self) -> usize
         ensures { result ≡ length self.now }
     {
         self.tokens.len()
+    }
+
+    /// The first symbols, so many of them where there are as many.
+    pub fn front(&self, count: usize) -> Symbols<'a>
+        ensures { result ≡ take count self.now }
+    {
+        Symbols {
+            source: self.source,
+            tokens: front_of(self.tokens, count),
+        }
+    }
+
+    /// The symbols behind so many.
+    pub fn behind(&self, count: usize) -> Symbols<'a>
+        ensures { result ≡ drop count self.now }
+    {
+        Symbols {
+            source: self.source,
+            tokens: behind(self.tokens, count),
+        }
     }
 
     /// The first of the symbols; `None` where there is none.

@@ -1,4 +1,4 @@
-use Rattle.std.proofs.Common.{length, ◌+◌, ◌*◌, ◌≤◌, ◌≡◌, List, [], ◌∷◌, ◌++◌}
+use Rattle.std.proofs.Common.{length, ◌+◌, ◌*◌, ◌≤◌, ◌≡◌, List, ◌∷◌}
 use Rattle.pipe_model.specs.declared.symbol.Symbol.{Symbol}
 use Rattle.pipe_model.specs.ExpressionMachine.{Want, Tail, ending}
 use Rattle.pipe_model.specs.SyntaxTree.{Expression, expression_of}
