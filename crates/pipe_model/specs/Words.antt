@@ -21,6 +21,9 @@ word_emits = Word 5
 abbrev pub word_cell : Symbol
 word_cell = Word 6
 
+abbrev pub word_init : Symbol
+word_init = Word 7
+
 abbrev pub word_pipe_while : Symbol
 word_pipe_while = Word 8
 
@@ -30,17 +33,41 @@ word_pipe_wait = Word 9
 abbrev pub word_pipe_continue : Symbol
 word_pipe_continue = Word 10
 
+abbrev pub word_final : Symbol
+word_final = Word 11
+
 abbrev pub word_let : Symbol
 word_let = Word 12
 
+abbrev pub word_if : Symbol
+word_if = Word 13
+
+abbrev pub word_else : Symbol
+word_else = Word 14
+
+abbrev pub word_while : Symbol
+word_while = Word 15
+
 abbrev pub word_emit : Symbol
 word_emit = Word 16
+
+abbrev pub word_more : Symbol
+word_more = Word 17
+
+abbrev pub word_take : Symbol
+word_take = Word 18
+
+abbrev pub word_iter : Symbol
+word_iter = Word 19
 
 -- `-`
 abbrev pub minus : Symbol
 minus = Operator 10
 
--- the signs `(` `)` `,` `;` `=` `{` `}`
+-- the signs `!` `(` `)` `,` `;` `=` `[` `]` `{` `}`
+abbrev pub exclamation : Symbol
+exclamation = Sign 33
+
 abbrev pub open_round : Symbol
 open_round = Sign 40
 
@@ -55,6 +82,12 @@ semicolon = Sign 59
 
 abbrev pub equals : Symbol
 equals = Sign 61
+
+abbrev pub open_square : Symbol
+open_square = Sign 91
+
+abbrev pub close_square : Symbol
+close_square = Sign 93
 
 abbrev pub open_brace : Symbol
 open_brace = Sign 123

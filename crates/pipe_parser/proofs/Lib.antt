@@ -12,4 +12,6 @@ pub mod Blocks
 pub mod Programs
 pub mod NameSets
 pub mod Obeying
+pub mod ExpressionFronts
+pub mod FullExpressions
 pub mod FirstForms

@@ -6,3 +6,5 @@ pub mod Nothing
 pub mod Programs
 pub mod SameNames
 pub mod Stages
+pub mod ExpressionFaults
+pub mod SyntaxFaults

@@ -2,12 +2,16 @@
 #![tactic(auto)]
 
 mod expression;
+mod fault;
 pub mod first_form;
 mod front;
 mod lexis;
 mod names;
+mod parse_expression;
+mod parse_full;
 mod program;
 mod rules;
 mod statement;
+mod symbols;
 #[cfg(test)]
 mod tests;

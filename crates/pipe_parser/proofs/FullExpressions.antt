@@ -1,0 +1,95 @@
+-- Full expressions in a window of 257 symbols.
+use Rattle.std.proofs.Common.{◌≡◌, ◌≢◌, ℕ, suc, ◌+◌, ◌-◌, ◌<◌, ◌≤◌, List, [], ◌∷◌, ◌++◌, refl, sym, ap, ◌∙◌, append-nil, append_assoc, subst, arith, length, take, drop, length-append, length-drop, Some}
+use Rattle.std.proofs.Math.Seq.{drop-append_seam}
+use Rattle.std.proofs.lemmas.List.{length-take-le, take-append-drop}
+use Rattle.pipe_model.specs.declared.symbol.Symbol.{Symbol}
+use Rattle.pipe_model.specs.ExpressionMachine as expression
+use Rattle.pipe_model.specs.ProgramMachine as machine
+use Rattle.pipe_model.specs.ProgramMachine.{IsRefused, Outside, judge}
+use Rattle.pipe_model.specs.SyntaxTree.{Expression}
+use Rattle.pipe_model.specs.WholeReading.{Reads, ReadsFull}
+use Rattle.pipe_model.proofs.ExpressionReading.{sound}
+use Rattle.pipe_model.proofs.ExpressionRuns.{stopped, stuck_may_not_end}
+use Rattle.pipe_model.proofs.ExpressionWindows.{reads_more, stuck_more}
+use Rattle.pipe_model.proofs.FullExpressions.{stuck_full, over_full}
+use Rattle.pipe_model.proofs.ProgramFaults.{derived_runs}
+use Rattle.pipe_parser.specs.ExpressionFaults.{whole}
+
+-- what is wanted where a full expression is
+abbrev full : List machine.Want
+full = machine.FullExpression ∷ []
+
+none : (rest : List Symbol) → length rest ≡ 0 → rest ≡ []
+none [] h = refl
+none (t ∷ rest) h = absurd (omega (arith, h))
+
+some : (rest : List Symbol) → 0 < length rest → rest ≢ []
+some rest l = λ e. absurd (omega (arith, ap length e, l))
+
+-- the machine runs over the whole window, so its last symbol is too many
+over : (ts : List Symbol) (left : List expression.Want) → 256 < length ts → expression.run (take 257 ts) whole ≡ Some left
+    → IsRefused 256 full ts (machine.TooLong (length ts - 257 + 1))
+over ts left l r = record {
+  refused = λ below.
+      let many : suc (length (drop 257 ts)) ≡ length ts - 257 + 1 = omega (arith, length-drop 257 ts, l) in
+      ap (λ x. judge 256 x (Outside (machine.FullExpression ∷ below))) (sym (take-append-drop 257 ts))
+      ∙ over_full 256 (take 257 ts) (drop 257 ts) left below r (length-take-le 257 ts (omega (arith, l)))
+      ∙ ap machine.TooLong many;
+}
+
+-- an expression that takes the whole window
+pub window_read : (ts rest : List Symbol) (e : Expression) → 256 < length ts → Reads 6 (take 257 ts) e rest → length rest ≡ 0
+    → IsRefused 256 full ts (machine.TooLong (length ts - 257 + 1))
+window_read ts rest e l r h =
+    let t = sound r in
+    let same : take 257 ts ≡ t.taken = t.split ∙ ap (λ x. t.taken ++ x) (none rest h) ∙ append-nil t.taken in
+    let d = derived_runs t.derived in
+    over ts d.left l (ap (λ x. expression.run x whole) same ∙ d.ran)
+
+-- a reader that is stuck behind the whole window
+pub window_stuck : (ts : List Symbol) → 256 < length ts → expression.IsStuck whole (take 257 ts) 0
+    → IsRefused 256 full ts (machine.TooLong (length ts - 257 + 1))
+window_stuck ts l s =
+    let w = take 257 ts in
+    let m = stopped w whole in
+    let ends = stuck_may_not_end (expression.may_end m.left) m.rest 0 (sym m.ends ∙ s.stuck []) in
+    let same : w ≡ m.before = m.split ∙ ap (λ x. m.before ++ x) (none m.rest ends.1) ∙ append-nil m.before in
+    over ts m.left l (ap (λ x. expression.run x whole) same ∙ m.runs)
+
+-- no reader is stuck with more symbols left than there are
+pub stuck_within : (ts : List Symbol) (left : ℕ) → expression.IsStuck whole ts left → left ≤ length ts
+stuck_within ts left s =
+    let m = stopped ts whole in
+    let ends = stuck_may_not_end (expression.may_end m.left) m.rest left (sym m.ends ∙ s.stuck []) in
+    omega (arith, ends.1, ap length m.split, length-append m.before m.rest)
+
+-- a reader that is stuck, within the bound
+pub stuck_short : (ts : List Symbol) (left : ℕ) → length ts ≤ 256 → expression.IsStuck whole ts left → IsRefused 256 full ts (machine.Unexpected left)
+stuck_short ts left l s = record { refused = λ below. stuck_full 256 ts left below s (omega (arith, l)) }
+
+-- a reader that is stuck in the window
+pub stuck_in_window : (ts : List Symbol) (left : ℕ) → 256 < length ts → 0 < left → expression.IsStuck whole (take 257 ts) left
+    → IsRefused 256 full ts (machine.Unexpected (left + (length ts - 257)))
+stuck_in_window ts left l p s =
+    let many : left + length (drop 257 ts) ≡ left + (length ts - 257) = omega (arith, length-drop 257 ts) in
+    let all : expression.IsStuck whole ts (left + length (drop 257 ts)) =
+        subst (λ x. expression.IsStuck whole x (left + length (drop 257 ts))) (take-append-drop 257 ts)
+        (stuck_more whole (take 257 ts) (drop 257 ts) left p s) in
+    record { refused = λ below. stuck_full 256 ts (left + length (drop 257 ts)) below all (omega (arith, length-drop 257 ts, l, p)) ∙ ap machine.Unexpected many }
+
+-- an expression that ends in the window
+pub read_in_window : (ts rest : List Symbol) (e : Expression) → 256 < length ts → Reads 6 (take 257 ts) e rest → 0 < length rest
+    → ReadsFull 256 ts e (drop (257 - length rest) ts)
+read_in_window ts rest e l r p =
+    let t = sound r in
+    let all : ts ≡ t.taken ++ (rest ++ drop 257 ts) =
+        sym (take-append-drop 257 ts) ∙ ap (λ x. x ++ drop 257 ts) t.split ∙ append_assoc t.taken rest (drop 257 ts) in
+    let window : length (take 257 ts) ≡ 257 = length-take-le 257 ts (omega (arith, l)) in
+    let many : length t.taken ≡ 257 - length rest = omega (arith, ap length t.split, length-append t.taken rest, window, p) in
+    let behind : drop (257 - length rest) ts ≡ rest ++ drop 257 ts =
+        ap (λ n. drop n ts) (sym many) ∙ ap (drop (length t.taken)) all ∙ drop-append_seam t.taken (rest ++ drop 257 ts) in
+    record {
+      read = subst (λ x. Reads 6 ts e x) (sym behind)
+          (subst (λ x. Reads 6 x e (rest ++ drop 257 ts)) (take-append-drop 257 ts) (reads_more r (some rest p) (drop 257 ts)));
+      short = omega (arith, length-drop (257 - length rest) ts, p);
+    }
