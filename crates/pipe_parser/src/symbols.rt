@@ -105,7 +105,13 @@ impl<'a> Symbols<'a> {
         ensures none { IfNone result (NoSign sign self.now) }
     {
         match self.first() {
-            Some(First { kind: TokenKind::Sign(b), behind, .. }) if b == sign => Some(behind),
+            Some(
+                First {
+                    kind: TokenKind::Sign(b),
+                    behind,
+                    ..
+                },
+            ) if b == sign => Some(behind),
             _ => None,
         }
     }
@@ -116,7 +122,13 @@ impl<'a> Symbols<'a> {
         ensures none { IfNone result (NoWord word self.now) }
     {
         match self.first() {
-            Some(First { kind: TokenKind::Word(k), behind, .. }) if k == word => Some(behind),
+            Some(
+                First {
+                    kind: TokenKind::Word(k),
+                    behind,
+                    ..
+                },
+            ) if k == word => Some(behind),
             _ => None,
         }
     }
