@@ -30,6 +30,9 @@ const RACING_SUMS: &str =
 
 const RACING_LINES: &str = "race output write 0/1 read 1/1\nrace s write 0/1 read 1/1\n";
 
+// Limits, the rest of a source, the status and the text of its call.
+type Row = ([u32; 4], &'static str, u8, &'static str);
+
 const NOT_BUILT: &str = "refused source NotYetBuilt\n";
 
 // A source file, an input file, and one that may not be what it should.
@@ -151,57 +154,59 @@ fn many_locals(alloc: Global, count: usize) -> Result<String, NoMemory> {
     Ok(body)
 }
 
+// Programs of one stage.
+const PROGRAMS: [Row; 17] = [
+    ([1, 1, 2, 0], "pipe_while (0) { }", 0, ""),
+    (
+        [1, 1, 1, 0],
+        "pipe_while (0) { }",
+        3,
+        "trap Budget at 0/0\n",
+    ),
+    (
+        [2, 1, 50, 2],
+        "cell n = 0; pipe_while (n < 3) { n = n + 1; emit n; }",
+        3,
+        "1\n2\ntrap IterLimit at 2/0\n",
+    ),
+    ([2, 1, 50, 2], COUNT_UP, 0, "1\n2\n"),
+    // The test is 4 steps, the assignment 4, and the emit 2.
+    ([2, 1, 10, 2], COUNT_UP, 0, "1\n2\n"),
+    ([2, 1, 9, 2], COUNT_UP, 3, "trap Budget at 0/0\n"),
+    ([2, 1, 3, 2], COUNT_UP, 3, "trap Budget at 0/0\n"),
+    // The test is 4 steps, `let` 2, and the assignment 2.
+    ([1, 1, 8, 0], LET_AND_SET, 0, ""),
+    ([1, 1, 7, 0], LET_AND_SET, 3, "trap Budget at 0/0\n"),
+    ([1, 1, 5, 0], LET_AND_SET, 3, "trap Budget at 0/0\n"),
+    // The `let` takes the last step, or one too many.
+    ([1, 1, 6, 0], LET_ALONE, 3, "trap IterLimit at 1/0\n"),
+    ([1, 1, 5, 0], LET_ALONE, 3, "trap Budget at 0/0\n"),
+    // The second emit is one too many, and its number is not printed.
+    ([2, 1, 50, 1], COUNT_UP, 3, "1\ntrap OutputLimit at 1/0\n"),
+    ([2, 1, 50, 0], COUNT_UP, 3, "trap OutputLimit at 0/0\n"),
+    (
+        [1, 1, 50, 0],
+        "cell n = 9223372036854775807; pipe_while (1) { n = n + 1; }",
+        3,
+        "trap Overflow at 0/0\n",
+    ),
+    (
+        [1, 1, 50, 1],
+        "cell n = 9223372036854775806; pipe_while (n < 9223372036854775807) { n = n + 1; emit n; }",
+        0,
+        "9223372036854775807\n",
+    ),
+    (
+        [1, 1, 50, 0],
+        "cell n = -9223372036854775807; cell m = -2; pipe_while (n + m) { }",
+        3,
+        "trap Overflow at 0/0\n",
+    ),
+];
+
 // Programs that run, and each proper front of them, which is none.
 fn runs(alloc: Global) -> Result<(), Fail> {
-    let rows = [
-        ([1, 1, 2, 0], "pipe_while (0) { }", 0, ""),
-        (
-            [1, 1, 1, 0],
-            "pipe_while (0) { }",
-            3,
-            "trap Budget at 0/0\n",
-        ),
-        (
-            [2, 1, 50, 2],
-            "cell n = 0; pipe_while (n < 3) { n = n + 1; emit n; }",
-            3,
-            "1\n2\ntrap IterLimit at 2/0\n",
-        ),
-        ([2, 1, 50, 2], COUNT_UP, 0, "1\n2\n"),
-        // The test is 4 steps, the assignment 4, and the emit 2.
-        ([2, 1, 10, 2], COUNT_UP, 0, "1\n2\n"),
-        ([2, 1, 9, 2], COUNT_UP, 3, "trap Budget at 0/0\n"),
-        ([2, 1, 3, 2], COUNT_UP, 3, "trap Budget at 0/0\n"),
-        // The test is 4 steps, `let` 2, and the assignment 2.
-        ([1, 1, 8, 0], LET_AND_SET, 0, ""),
-        ([1, 1, 7, 0], LET_AND_SET, 3, "trap Budget at 0/0\n"),
-        ([1, 1, 5, 0], LET_AND_SET, 3, "trap Budget at 0/0\n"),
-        // The `let` takes the last step, or one too many.
-        ([1, 1, 6, 0], LET_ALONE, 3, "trap IterLimit at 1/0\n"),
-        ([1, 1, 5, 0], LET_ALONE, 3, "trap Budget at 0/0\n"),
-        // The second emit is one too many, and its number is not printed.
-        ([2, 1, 50, 1], COUNT_UP, 3, "1\ntrap OutputLimit at 1/0\n"),
-        ([2, 1, 50, 0], COUNT_UP, 3, "trap OutputLimit at 0/0\n"),
-        (
-            [1, 1, 50, 0],
-            "cell n = 9223372036854775807; pipe_while (1) { n = n + 1; }",
-            3,
-            "trap Overflow at 0/0\n",
-        ),
-        (
-            [1, 1, 50, 1],
-            "cell n = 9223372036854775806; pipe_while (n < 9223372036854775807) { n = n + 1; emit n; }",
-            0,
-            "9223372036854775807\n",
-        ),
-        (
-            [1, 1, 50, 0],
-            "cell n = -9223372036854775807; cell m = -2; pipe_while (n + m) { }",
-            3,
-            "trap Overflow at 0/0\n",
-        ),
-    ];
-    for (limits, rest, status, text) in rows {
+    for (limits, rest, status, text) in PROGRAMS {
         let source = source(alloc, limits, rest)?;
         let source = source.as_bytes();
         Case::of(source).check(alloc, rest, status, text)?;
@@ -305,114 +310,115 @@ fn faults(alloc: Global) -> Result<(), Fail> {
 }
 
 // Pipelines: their output and trap, or their race lines.
+const PIPELINES: [Row; 17] = [
+    // A last stage in order of the iterations.
+    ([8, 4, 100, 8], PREFIX_SUMS, 0, "1\n3\n6\n"),
+    // Without the wait both what is summed and the output race.
+    ([8, 4, 100, 8], RACING_SUMS, 2, RACING_LINES),
+    // The next iteration counts on before the last stage reads.
+    (
+        [8, 4, 100, 8],
+        "cell n = 0; cell s = 0; pipe_while (n < 3) { n = n + 1; let t = n; pipe_wait(1); s = s + n; emit s; }",
+        2,
+        "race n read 0/1 write 1/0\n",
+    ),
+    (
+        [1, 3, 50, 1],
+        "cell n = 0; pipe_while (n < 1) { n = 1; pipe_wait(1); pipe_wait(1); }",
+        3,
+        "trap StageOrder at 0/1\n",
+    ),
+    (
+        [1, 2, 50, 1],
+        "cell n = 0; pipe_while (n < 1) { n = 1; pipe_wait(1); pipe_wait(2); }",
+        3,
+        "trap StageLimit at 0/1\n",
+    ),
+    (
+        [1, 3, 50, 1],
+        "cell n = 0; pipe_while (n < 1) { n = 1; pipe_wait(1); pipe_wait(2); }",
+        0,
+        "",
+    ),
+    (
+        [1, 3, 50, 1],
+        "cell n = 0; pipe_while (n < 1) { n = 1; pipe_wait(); pipe_wait(); }",
+        0,
+        "",
+    ),
+    // A stage that the iteration before skipped follows the last stage before it, so 0/1 and 1/2 are in order.
+    (
+        [3, 3, 50, 0],
+        "cell n = 0; cell s = 0; pipe_while (n < 2) { n = n + 1; let t = n; pipe_wait(t); s = s + t; }",
+        0,
+        "",
+    ),
+    // The other way about, the later stage of the left column is not before the earlier one of the next.
+    (
+        [3, 3, 50, 0],
+        "cell n = 3; cell m = -1; cell s = 0; pipe_while (1 < n) { let t = n; n = n + m; pipe_wait(t); s = s + t; }",
+        2,
+        "race s write 0/3 read 1/2\n",
+    ),
+    // A continue before a wait leaves the stage of the wait in order.
+    (
+        [3, 3, 50, 4],
+        "cell n = 0; pipe_while (n < 2) { n = n + 1; let t = n; pipe_continue(1); let u = t + t; pipe_wait(2); emit u; }",
+        0,
+        "2\n4\n",
+    ),
+    // The only path from 0/2 to 2/2 goes through two waits.
+    (
+        [4, 4, 50, 4],
+        "cell n = 0; cell s = 0; pipe_while (n < 3) { n = n + 1; let t = n; pipe_wait(1); pipe_wait(2); s = s + t; emit s; }",
+        0,
+        "1\n3\n6\n",
+    ),
+    // The stage number overflows, and so does the implied one after the greatest.
+    (
+        [1, 3, 50, 0],
+        "cell n = 9223372036854775807; pipe_while (n) { pipe_wait(n + 1); }",
+        3,
+        "trap Overflow at 0/0\n",
+    ),
+    (
+        [1, 3, 50, 0],
+        "cell n = 9223372036854775807; pipe_while (n) { pipe_wait(n); pipe_wait(); }",
+        3,
+        "trap Overflow at 0/9223372036854775807\n",
+    ),
+    // A trap in a later stage ends its iteration alone, and the line is that of the least iteration.
+    (
+        [3, 3, 50, 4],
+        "cell n = 0; pipe_while (n < 2) { n = n + 1; let t = n; pipe_wait(1); emit t; let u = 9223372036854775807 + t; }",
+        3,
+        "1\n2\ntrap Overflow at 0/1\n",
+    ),
+    // The left column ended early, by a trap in stage 2, so stage 4 of the next follows that.
+    (
+        [3, 3, 50, 4],
+        "cell n = 0; cell m = 1; pipe_while (n < 2) { n = n + 1; let t = n; let u = t + t; pipe_wait(u); emit t; pipe_wait(u); }",
+        3,
+        "1\n2\ntrap StageOrder at 0/2\n",
+    ),
+    // Stages 6 and 7 both follow the left stage 5, so the edge to 7 is redundant, and 7 is parallel to the left 9.
+    (
+        [2, 3, 50, 4],
+        "cell n = 0; cell a = 5; cell b = 9; cell m = -2; cell s = 0; pipe_while (n < 2) { n = n + 1; let t = a; let u = b; a = a + 1; b = b + m; pipe_wait(t); s = s + t; pipe_wait(u); emit t; }",
+        2,
+        "race output write 0/9 read 1/7\n",
+    ),
+    // A race in a program that also traps: its output and trap are not printed.
+    (
+        [3, 3, 50, 4],
+        "cell n = 0; cell s = 0; pipe_while (n < 2) { n = n + 1; pipe_continue(1); s = s + 1; let u = 9223372036854775807 + s; }",
+        2,
+        "race s write 0/1 read 1/1\n",
+    ),
+];
+
 fn pipelines(alloc: Global) -> Result<(), Fail> {
-    let rows = [
-        // A last stage in order of the iterations.
-        ([8, 4, 100, 8], PREFIX_SUMS, 0, "1\n3\n6\n"),
-        // Without the wait both what is summed and the output race.
-        ([8, 4, 100, 8], RACING_SUMS, 2, RACING_LINES),
-        // The next iteration counts on before the last stage reads.
-        (
-            [8, 4, 100, 8],
-            "cell n = 0; cell s = 0; pipe_while (n < 3) { n = n + 1; let t = n; pipe_wait(1); s = s + n; emit s; }",
-            2,
-            "race n read 0/1 write 1/0\n",
-        ),
-        (
-            [1, 3, 50, 1],
-            "cell n = 0; pipe_while (n < 1) { n = 1; pipe_wait(1); pipe_wait(1); }",
-            3,
-            "trap StageOrder at 0/1\n",
-        ),
-        (
-            [1, 2, 50, 1],
-            "cell n = 0; pipe_while (n < 1) { n = 1; pipe_wait(1); pipe_wait(2); }",
-            3,
-            "trap StageLimit at 0/1\n",
-        ),
-        (
-            [1, 3, 50, 1],
-            "cell n = 0; pipe_while (n < 1) { n = 1; pipe_wait(1); pipe_wait(2); }",
-            0,
-            "",
-        ),
-        (
-            [1, 3, 50, 1],
-            "cell n = 0; pipe_while (n < 1) { n = 1; pipe_wait(); pipe_wait(); }",
-            0,
-            "",
-        ),
-        // A stage that the iteration before skipped follows the last stage before it, so 0/1 and 1/2 are in order.
-        (
-            [3, 3, 50, 0],
-            "cell n = 0; cell s = 0; pipe_while (n < 2) { n = n + 1; let t = n; pipe_wait(t); s = s + t; }",
-            0,
-            "",
-        ),
-        // The other way about, the later stage of the left column is not before the earlier one of the next.
-        (
-            [3, 3, 50, 0],
-            "cell n = 3; cell m = -1; cell s = 0; pipe_while (1 < n) { let t = n; n = n + m; pipe_wait(t); s = s + t; }",
-            2,
-            "race s write 0/3 read 1/2\n",
-        ),
-        // A continue before a wait leaves the stage of the wait in order.
-        (
-            [3, 3, 50, 4],
-            "cell n = 0; pipe_while (n < 2) { n = n + 1; let t = n; pipe_continue(1); let u = t + t; pipe_wait(2); emit u; }",
-            0,
-            "2\n4\n",
-        ),
-        // The only path from 0/2 to 2/2 goes through two waits.
-        (
-            [4, 4, 50, 4],
-            "cell n = 0; cell s = 0; pipe_while (n < 3) { n = n + 1; let t = n; pipe_wait(1); pipe_wait(2); s = s + t; emit s; }",
-            0,
-            "1\n3\n6\n",
-        ),
-        // The stage number overflows, and so does the implied one after the greatest.
-        (
-            [1, 3, 50, 0],
-            "cell n = 9223372036854775807; pipe_while (n) { pipe_wait(n + 1); }",
-            3,
-            "trap Overflow at 0/0\n",
-        ),
-        (
-            [1, 3, 50, 0],
-            "cell n = 9223372036854775807; pipe_while (n) { pipe_wait(n); pipe_wait(); }",
-            3,
-            "trap Overflow at 0/9223372036854775807\n",
-        ),
-        // A trap in a later stage ends its iteration alone, and the line is that of the least iteration.
-        (
-            [3, 3, 50, 4],
-            "cell n = 0; pipe_while (n < 2) { n = n + 1; let t = n; pipe_wait(1); emit t; let u = 9223372036854775807 + t; }",
-            3,
-            "1\n2\ntrap Overflow at 0/1\n",
-        ),
-        // The left column ended early, by a trap in stage 2, so stage 4 of the next follows that.
-        (
-            [3, 3, 50, 4],
-            "cell n = 0; cell m = 1; pipe_while (n < 2) { n = n + 1; let t = n; let u = t + t; pipe_wait(u); emit t; pipe_wait(u); }",
-            3,
-            "1\n2\ntrap StageOrder at 0/2\n",
-        ),
-        // Stages 6 and 7 both follow the left stage 5, so the edge to 7 is redundant, and 7 is parallel to the left 9.
-        (
-            [2, 3, 50, 4],
-            "cell n = 0; cell a = 5; cell b = 9; cell m = -2; cell s = 0; pipe_while (n < 2) { n = n + 1; let t = a; let u = b; a = a + 1; b = b + m; pipe_wait(t); s = s + t; pipe_wait(u); emit t; }",
-            2,
-            "race output write 0/9 read 1/7\n",
-        ),
-        // A race in a program that also traps: its output and trap are not printed.
-        (
-            [3, 3, 50, 4],
-            "cell n = 0; cell s = 0; pipe_while (n < 2) { n = n + 1; pipe_continue(1); s = s + 1; let u = 9223372036854775807 + s; }",
-            2,
-            "race s write 0/1 read 1/1\n",
-        ),
-    ];
-    for (limits, rest, status, text) in rows {
+    for (limits, rest, status, text) in PIPELINES {
         let source = source(alloc, limits, rest)?;
         Case::of(source.as_bytes()).check(alloc, rest, status, text)?;
     }
