@@ -90,7 +90,14 @@ impl Files for CleanFiles {
 
     ghost faults = { λ _. 0 };
 
-    fn read_part(&mut self, name: &str, place: u64, part: &mut [u8]) -> ReadPart {
+    fn read_part(&mut self, name: &str, place: u64, part: &mut [u8]) -> ReadPart
+        requires { 0 < length part.old }
+        ensures keeps { self.new ≡ self.old }
+        ensures cause { CountsFault (is_read_fault result) 0 0 }
+        ensures within { IsWithin result part.new }
+        ensures told { ReadsFrom (content_of self.old.files name.now) place result part.new }
+        ensures answer { result ≡ served (content_of self.old.files name.now) place (length part.old) self.old.most }
+    {
         self.serve(name, place, part)
     }
 }

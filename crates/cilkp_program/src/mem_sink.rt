@@ -76,7 +76,13 @@ impl Sink for CleanSink {
 
     ghost faults = { λ _. 0 };
 
-    fn write_part(&mut self, part: &[u8]) -> WritePart {
+    fn write_part(&mut self, part: &[u8]) -> WritePart
+        requires { 0 < length part.now }
+        ensures cause { CountsFault (is_write_fault result) 0 0 }
+        ensures some { TakesSome result part.now }
+        ensures taken { self.new ≡ record self.old { taken = taken_after result part.now self.old.taken } }
+        ensures answer { result ≢ WritePart.NoMemory → result ≡ WritePart.Took (min (length part.now) self.old.most) }
+    {
         self.take(part)
     }
 }
@@ -126,6 +132,8 @@ impl Sink for MemSink {
         ensures taken { self.new.sink ≡ record self.old.sink { taken = taken_after result part.now self.old.sink.taken } }
         ensures plan { self.new.plan ≡ after_call self.old.plan }
         ensures fails { (result ≡ WritePart.Failed) ↔ (fails_next self.old.plan ≡ true) }
+        ensures answer { result ≢ WritePart.Failed → result ≢ WritePart.NoMemory
+            → result ≡ WritePart.Took (min (length part.now) self.old.sink.most) }
     {
         if self.plan.next_fails() {
             return WritePart::Failed;
