@@ -22,3 +22,4 @@ pub mod FirstFaults
 pub mod FaultRules
 pub mod TokenLaws
 pub mod ExpressionWindows
+pub mod NestedBlocks

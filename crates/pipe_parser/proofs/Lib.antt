@@ -14,4 +14,5 @@ pub mod NameSets
 pub mod Obeying
 pub mod ExpressionFronts
 pub mod FullExpressions
+pub mod StatementFronts
 pub mod FirstForms

@@ -8,3 +8,5 @@ pub mod SameNames
 pub mod Stages
 pub mod ExpressionFaults
 pub mod SyntaxFaults
+pub mod StatementReadings
+pub mod SymbolFronts
