@@ -15,4 +15,5 @@ pub mod Obeying
 pub mod ExpressionFronts
 pub mod FullExpressions
 pub mod StatementFronts
+pub mod ProgramFronts
 pub mod FirstForms

@@ -10,3 +10,4 @@ pub mod ExpressionFaults
 pub mod SyntaxFaults
 pub mod StatementReadings
 pub mod SymbolFronts
+pub mod ProgramReadings

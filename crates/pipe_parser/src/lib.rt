@@ -9,6 +9,7 @@ mod lexis;
 mod names;
 mod parse_expression;
 mod parse_full;
+mod parse_program;
 mod parse_statement;
 mod program;
 mod rules;
