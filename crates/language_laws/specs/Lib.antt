@@ -1,3 +1,4 @@
 pub mod Examples
 pub mod SpellingLaws
+pub mod TokenLaws
 pub mod ProgramLaws

@@ -5,3 +5,4 @@
 pub mod examples;
 pub mod programs;
 pub mod spelling;
+pub mod tokens;

@@ -1,5 +1,5 @@
 -- The longest symbol of a table, row by row.
-use Rattle.std.proofs.Common.{◌≡◌, ℕ, ◌<◌, ◌≤◌, List, [], ◌∷◌, ◌++◌, length, get_or, refl, arith, Option, Some, None, IfSome, IfNone, Contains, All, length-append}
+use Rattle.std.proofs.Common.{ℕ, ◌<◌, ◌≤◌, List, [], ◌∷◌, ◌++◌, length, refl, arith, Option, Some, None, IfSome, IfNone, Contains}
 use Rattle.std.proofs.lemmas.List.Elements.{All-push, All-weaker, Contains-append_left, Contains-append_right}
 use Rattle.op_table.specs.declared.table.OpRow.{OpRow}
 use Rattle.op_table.specs.Tables.{text_of, IsFront, IsLongest, HasNoSymbol, IsBest, Outdoes}

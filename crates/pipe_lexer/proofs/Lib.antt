@@ -1,4 +1,5 @@
 pub mod FirstPlace
+pub mod EachSource
 pub mod Longest
 pub mod Numerals
 pub mod PieceLaws

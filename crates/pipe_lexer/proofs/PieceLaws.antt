@@ -1,17 +1,16 @@
 -- What stands at the front of bytes, by the kind of its first byte: comments, words, names and numbers.
-use Rattle.std.proofs.Common.{◌≡◌, ◌∙◌, ap, sym, subst, ℕ, ℤ, pos, ◌+◌, ◌<◌, ◌≤◌, ◌^◌, ◌-◌, ◌≤ℤ◌, Bool, true, false, not, List, [], ◌∷◌, ◌++◌, length, length-take-le, take, drop, refl, suc, arith, cond, position, Option, Some, None, ◌==◌, ◌&&◌}
-use Rattle.std.specs.List.{list_all, prefix_len}
+use Rattle.std.proofs.Common.{◌≡◌, ◌∙◌, ap, sym, ℕ, ℤ, pos, ◌+◌, ◌<◌, ◌≤◌, ◌^◌, ◌-◌, ◌≤ℤ◌, Bool, true, false, not, List, [], ◌∷◌, length, length-take-le, take, drop, refl, suc, arith, position, Option, Some, None, ◌==◌}
+use Rattle.std.specs.List.{prefix_len}
 use Rattle.std.specs.Str.{bytes_eq}
 use Rattle.std.proofs.lemmas.Bool.{not-false, and_parts}
 use Rattle.std.proofs.lemmas.Bool.Decides.{nat_tests}
-use Rattle.std.proofs.lemmas.Int.{ints}
 use Rattle.std.proofs.lemmas.List.{take-append-drop}
 use Rattle.std.proofs.lemmas.List.Sums.{prefix_len-le-length}
 use Rattle.pipe_model.specs.declared.symbol.Symbol.{Symbol}
 use Rattle.pipe_model.specs.declared.symbol.Symbol.TheVariants as symbols
 use Rattle.pipe_model.specs.declared.token.TokenKind.TheVariants as kinds
 use Rattle.pipe_model.specs.Lexis.{is_letter, is_digit, is_name_byte, number_of, reserved_words, symbol_of, word_or_name, word_symbol, IsLongest}
-use Rattle.pipe_model.specs.Tokens.{begins_comment, is_line_feed, kind_of, BeginsWith, EndsComment, IsComment, IsKindWithinBounds, IsToken}
+use Rattle.pipe_model.specs.Tokens.{begins_comment, is_line_feed, kind_of, BeginsWith, EndsComment, IsKindWithinBounds, IsToken}
 use Rattle.pipe_lexer.specs.declared.piece.Flaw.TheVariants as flaws
 use Rattle.pipe_lexer.specs.declared.piece.Piece.TheVariants as pieces
 use Rattle.pipe_lexer.specs.Pieces.{IsFlaw, IsPiece, AComment, AToken, NameIsLong, NumberIsWide}

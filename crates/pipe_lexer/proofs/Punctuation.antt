@@ -1,5 +1,5 @@
 -- Operators and signs at the front of bytes.
-use Rattle.std.proofs.Common.{◌≡◌, ◌≢◌, ◌∙◌, ap, sym, ℕ, ◌+◌, ◌<◌, ◌≤◌, Bool, true, false, List, [], ◌∷◌, ◌++◌, length, length-append, take, drop, refl, suc, arith, cond, ◌⊎◌, inl, inr, position, Option, Some, None, Contains, append_assoc}
+use Rattle.std.proofs.Common.{◌≡◌, ◌≢◌, ◌∙◌, ap, sym, ℕ, ◌+◌, ◌<◌, ◌≤◌, Bool, true, false, List, [], ◌∷◌, ◌++◌, length, length-append, take, drop, refl, arith, cond, ◌⊎◌, inl, inr, position, Option, Some, None, Contains, append_assoc}
 use Rattle.std.specs.Str.{bytes_eq}
 use Rattle.std.proofs.Math.Seq.{drop-append_seam, take-append_seam}
 use Rattle.std.proofs.lemmas.Bool.{false≢true}
@@ -8,7 +8,7 @@ use Rattle.pipe_model.specs.declared.symbol.Symbol.{Symbol}
 use Rattle.pipe_model.specs.declared.symbol.Symbol.TheVariants as symbols
 use Rattle.pipe_model.specs.declared.token.TokenKind.TheVariants as kinds
 use Rattle.pipe_model.specs.Lexis.{is_sign, operators, operator_or_sign, punctuation_symbol, symbol_of, IsLongest}
-use Rattle.pipe_model.specs.Tokens.{begins_comment, BeginsNothing, IsToken}
+use Rattle.pipe_model.specs.Tokens.{begins_comment, IsToken}
 use Rattle.op_table.specs.declared.operators.TheConstants.{OPS}
 use Rattle.op_table.specs.declared.table.OpRow.{OpRow}
 use Rattle.op_table.specs.Tables.{text_of, HasLongest, HasNoSymbol, IsFront, IsLongest as IsLongestRow}
@@ -101,12 +101,12 @@ operator_is_longest bytes first code begins h = record { longest = no_longer }
         let front : bytes ≡ text ++ after = longer_front bytes (text_of h.row) h.longest.front.0 more after h.longest.front.1 e in
         elim (punctuation_is text s (front_is_punctuation bytes text after first s begins front t)) [
           | inl o ↦ (
-            let r = o.1 in
-            let short = not_longer OPS.rows bytes h.row r.row h.longest r.among (after, rw r.same_text front) in
-            omega (arith, short, ap length r.same_text, length-append (text_of h.row) more, some_more more some))
+              let r = o.1 in
+              let short = not_longer OPS.rows bytes h.row r.row h.longest r.among (after, rw r.same_text front) in
+              omega (arith, short, ap length r.same_text, length-append (text_of h.row) more, some_more more some))
           | inr sign ↦ (
-            let none = some_more (text_of h.row) (operator_is_some h.row h.longest.among) in
-            omega (arith, none, ap length sign.is, length-append (text_of h.row) more, some_more more some))
+              let none = some_more (text_of h.row) (operator_is_some h.row h.longest.among) in
+              omega (arith, none, ap length sign.is, length-append (text_of h.row) more, some_more more some))
         ]
 
 -- so it is the token at the front
@@ -122,9 +122,9 @@ operator_piece bytes first code begins h =
     let front : take (operator_length code) bytes ≡ text = ap (λ x. take x bytes) n ∙ ap (λ x. take (length text) x) parts ∙ take-append_seam text rest in
     let behind : drop (operator_length code) bytes ≡ rest = ap (λ x. drop x bytes) n ∙ ap (λ x. drop (length text) x) parts ∙ drop-append_seam text rest in
     let symbol : symbol_of text ≡ Some (symbols.Operator code) =
-        punctuation_at_front bytes text rest first (symbols.Operator code) begins parts some (rw h.same at (row_symbol h.row among)) in
+    punctuation_at_front bytes text rest first (symbols.Operator code) begins parts some (rw h.same at (row_symbol h.row among)) in
     let token : IsToken text rest (symbols.Operator code) =
-        record { symbol = symbol; longest = operator_is_longest bytes first code begins h; no_comment = rw (← parts) begins.no_comment } in
+    record { symbol = symbol; longest = operator_is_longest bytes first code begins h; no_comment = rw (← parts) begins.no_comment } in
     AToken (symbols.Operator code) (operator_length code) (omega (arith, n, some_more text some))
     (omega (arith, n, ap length parts, length-append text rest)) (rw (front, behind) token) tt
 
@@ -136,9 +136,9 @@ only_sign : (bytes text rest : List ℕ) (first : ℕ) (s : Symbol) → BeginsPu
 only_sign bytes text rest first s begins none e t = elim (punctuation_is text s (front_is_punctuation bytes text rest first s begins e t)) [
   | inl o ↦ absurd (no_front OPS.rows bytes o.1.row none o.1.among (rest, rw o.1.same_text e))
   | inr sign ↦ (
-    let both : first ∷ begins.behind ≡ sign.byte ∷ rest = sym begins.parts ∙ e ∙ ap (λ x. x ++ rest) sign.is in
-    let same : sign.byte ≡ first = cc (both) in
-    (sign.is ∙ ap (λ (x : ℕ). x ∷ []) same, ap is_sign (sym same) ∙ sign.sign))
+      let both : first ∷ begins.behind ≡ sign.byte ∷ rest = sym begins.parts ∙ e ∙ ap (λ x. x ++ rest) sign.is in
+      let same : sign.byte ≡ first = cc (both) in
+      (sign.is ∙ ap (λ (x : ℕ). x ∷ []) same, ap is_sign (sym same) ∙ sign.sign))
 ]
 
 -- the one byte of a sign that is no operator
@@ -170,5 +170,9 @@ sign_piece bytes first begins none sign =
 
 -- otherwise nothing stands there
 pub nothing_stands : (bytes : List ℕ) (first : ℕ) → BeginsPunctuation first bytes → HasNoSymbol OPS.rows bytes → is_sign first ≡ false → IsFlaw bytes flaws.BadByte
-nothing_stands bytes first begins none sign = NothingStands (rw begins.parts (begins.no_blank, rw begins.parts at begins.no_comment, λ text rest s e t.
-    false≢true (sym sign ∙ (only_sign bytes text rest first s begins none (begins.parts ∙ e) t).1)))
+nothing_stands bytes first begins none sign = NothingStands (rw begins.parts (
+  begins.no_blank,
+  rw begins.parts at begins.no_comment,
+  λ text rest s e t.
+      false≢true (sym sign ∙ (only_sign bytes text rest first s begins none (begins.parts ∙ e) t).1),
+))

@@ -1,14 +1,11 @@
 -- Pieces taken off the front of a source, one after the other.
-use Rattle.std.proofs.Common.{◌≡◌, ◌∙◌, ap, sym, subst, ℕ, ◌+◌, ◌-◌, ◌<◌, ◌≤◌, List, [], ◌∷◌, ◌++◌, length, length-take-le, length-drop, take, drop, refl, arith, zero, suc, All, append-nil, append_assoc}
+use Rattle.std.proofs.Common.{◌≡◌, ◌∙◌, ap, sym, subst, ℕ, ◌+◌, ◌-◌, ◌<◌, ◌≤◌, List, [], ◌∷◌, ◌++◌, length, length-take-le, length-drop, take, drop, refl, arith, All, append-nil, append_assoc}
 use Rattle.std.proofs.lemmas.List.{drop-drop, take-append-drop}
 use Rattle.std.proofs.lemmas.List.Elements.{All-push}
-use Rattle.pipe_model.specs.declared.symbol.Symbol.{Symbol}
 use Rattle.pipe_model.specs.declared.token.Token.{Token}
-use Rattle.pipe_model.specs.Tokens.{kind_of, token_at, IsKindWithinBounds, IsLexed, IsReached, IsToken, IsTokenWithinBounds, HasBadByte, HasLongName, HasWideNumber, Scans, Stops, Blank, Comment, Taken}
+use Rattle.pipe_model.specs.Tokens.{kind_of, token_at, IsLexed, IsReached, IsTokenWithinBounds, HasBadByte, HasLongName, HasWideNumber, Scans, Stops, Blank, Comment, Taken}
 use Rattle.pipe_lexer.specs.declared.piece.Flaw.{Flaw}
-use Rattle.pipe_lexer.specs.declared.piece.Flaw.TheVariants as flaws
 use Rattle.pipe_lexer.specs.declared.piece.Piece.{Piece}
-use Rattle.pipe_lexer.specs.declared.piece.Piece.TheVariants as pieces
 use Rattle.pipe_lexer.specs.Faults.{fault_at, IsFaultOf}
 use Rattle.pipe_lexer.specs.Pieces.{length_of, tokens_of, IsFlaw, IsPiece, ABlank, AComment, AToken, NothingStands, NumberIsWide, NameIsLong}
 

@@ -3,6 +3,7 @@
 
 mod bytes;
 pub mod fault;
+pub mod law;
 mod number;
 mod piece;
 pub mod scan;

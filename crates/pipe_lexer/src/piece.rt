@@ -4,7 +4,9 @@ ghost use Rattle.std.specs.Prelude.{◌≡◌, ◌∷◌, IfErr, IfOk, true, fal
 ghost use Rattle.pipe_model.specs.Lexis.{is_digit, is_letter};
 ghost use Rattle.pipe_lexer.specs.Pieces.{BeginsPunctuation, IsFlaw, IsPiece, length_of, operator_length};
 
-use crate::bytes::{begins_comment, digits, is_blank, is_digit, is_letter, is_sign, line_bytes, name_bytes};
+use crate::bytes::{
+    begins_comment, digits, is_blank, is_digit, is_letter, is_sign, line_bytes, name_bytes,
+};
 use crate::number::number_value;
 use crate::words::reserved_place;
 use op_table::operators::OPS;

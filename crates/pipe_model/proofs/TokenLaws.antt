@@ -1,5 +1,5 @@
 -- A source has at most one list of tokens, or else at most one fault.
-use Rattle.std.proofs.Common.{◌≡◌, ◌∙◌, ap, sym, subst, ℕ, ◌+◌, ◌<◌, ◌≤◌, pos, Bool, true, false, not, List, [], ◌∷◌, ◌++◌, length, take, drop, refl, arith, cond, ◌⊎◌, inl, inr, Option, Some, None, All, ◌==◌, ◌&&◌, append-nil, append_assoc, length-append, length-drop, position}
+use Rattle.std.proofs.Common.{◌≡◌, ◌∙◌, ap, sym, subst, ℕ, ◌+◌, ◌<◌, pos, Bool, true, false, not, List, [], ◌∷◌, ◌++◌, length, take, drop, refl, arith, cond, ◌⊎◌, inl, inr, Option, Some, None, All, ◌==◌, ◌&&◌, append-nil, append_assoc, length-append, length-drop, position}
 use Rattle.std.specs.List.{list_all}
 use Rattle.std.specs.Str.{bytes_eq}
 use Rattle.std.proofs.Math.Seq.{drop-append_seam, take-append_seam}
@@ -12,7 +12,7 @@ use Rattle.pipe_model.specs.declared.symbol.Symbol.{Symbol}
 use Rattle.pipe_model.specs.declared.symbol.Symbol.TheVariants as symbols
 use Rattle.pipe_model.specs.declared.token.Token.{Token}
 use Rattle.pipe_model.specs.Lexis.{is_blank, is_letter, is_digit, is_name_byte, is_sign, number_of, operators, operator_or_sign, punctuation_symbol, reserved_words, symbol_of, word_or_name, word_symbol, IsWithinBounds}
-use Rattle.pipe_model.specs.Tokens.{begins_comment, is_line_feed, kind_of, symbol_as, symbol_in, text_in, token_at, BeginsNothing, BeginsWith, HasTokens, IsComment, IsLexed, IsReached, IsToken, IsTokenWithinBounds, LexicalFault, BadByte, TooWide, SourceTooLong, NameTooLong, HasFault, IsTooLong, HasBadByte, HasWideNumber, HasLongName, Scans, Stops, Blank, Comment, Taken}
+use Rattle.pipe_model.specs.Tokens.{begins_comment, is_line_feed, kind_of, symbol_as, symbol_in, text_in, token_at, BeginsNothing, BeginsWith, HasTokens, IsComment, IsLexed, IsReached, IsToken, IsTokenWithinBounds, LexicalFault, StandsIn, BadByte, TooWide, SourceTooLong, NameTooLong, HasFault, IsTooLong, HasBadByte, HasWideNumber, HasLongName, Scans, Stops, Blank, Comment, Taken}
 use Rattle.pipe_model.proofs.Divisions.{GoesOn, one_goes_on, blank_begins_no_symbol, one_longest}
 
 -- ---- the text of a symbol
@@ -394,12 +394,7 @@ token_symbol source text rest place s e h =
     let same : text_in source (token_at place text s) ≡ text = ap (λ x. take (length text) x) e ∙ take-append_seam text rest in
     ap symbol_of same ∙ h ∙ sym (ap Some (ap (λ x. symbol_as (kind_of s) x) same ∙ symbol_of_kind text s h))
 
--- a token stands in its source with the text of its symbol
-pub record StandsIn (source : List ℕ) (token : Token) : Type 0 where
-  pub symbol : symbol_of (text_in source token) ≡ Some (symbol_in source token)
-  pub within : token.place + token.length ≤ length source
-
--- so does each of these
+-- what is taken stands in the source
 stands_in : (source text rest : List ℕ) (place : ℕ) (s : Symbol) → drop place source ≡ text ++ rest → symbol_of text ≡ Some s → StandsIn source (token_at place text s)
 stands_in source [] rest place s e h = (let none : None ≡ Some s = h in cc (none))
 stands_in source (b ∷ text) rest place s e h = record {

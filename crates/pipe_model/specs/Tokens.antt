@@ -1,4 +1,5 @@
--- Tokens: which tokens a source has, each with its kind, place and length, among blanks and comments; and which fault stands first in a source that has none within the bounds.
+-- Tokens: which tokens a source has, each with its kind, place and length, among blanks and comments; and which fault a
+-- source has that has no tokens within the bounds.
 use Rattle.std.specs.Prelude.{◌≡◌, ℕ, ◌+◌, ◌-◌, ◌<◌, ◌≤◌, ◌^◌, pos, ◌≤ℤ◌, Bool, true, false, not, List, [], ◌∷◌, ◌++◌, length, take, drop, map, ◌==◌, ◌&&◌, Some, All}
 use Rattle.std.specs.List.{list_all}
 use Rattle.pipe_model.specs.Lexis.{is_blank, symbol_of, IsLongest}
@@ -56,10 +57,10 @@ pub data Scans : ℕ → List ℕ → List Token → List ℕ → Type 0 where
   Stops : (place : ℕ) (rest : List ℕ) → Scans place rest [] rest
   Blank : {place : ℕ} {bytes rest : List ℕ} {tokens : List Token} (b : ℕ) → is_blank b ≡ true → Scans (place + 1) bytes tokens rest
       → Scans place (b ∷ bytes) tokens rest
-  Comment : {place : ℕ} {bytes rest : List ℕ} {tokens : List Token} (text : List ℕ) → IsComment text bytes → Scans (place + length text) bytes tokens rest
-      → Scans place (text ++ bytes) tokens rest
-  Taken : {place : ℕ} {bytes rest : List ℕ} {tokens : List Token} (text : List ℕ) (s : Symbol) → IsToken text bytes s → Scans (place + length text) bytes tokens rest
-      → Scans place (text ++ bytes) (token_at place text s ∷ tokens) rest
+  Comment : {place : ℕ} {bytes rest : List ℕ} {tokens : List Token} (text : List ℕ) → IsComment text bytes
+      → Scans (place + length text) bytes tokens rest → Scans place (text ++ bytes) tokens rest
+  Taken : {place : ℕ} {bytes rest : List ℕ} {tokens : List Token} (text : List ℕ) (s : Symbol) → IsToken text bytes s
+      → Scans (place + length text) bytes tokens rest → Scans place (text ++ bytes) (token_at place text s ∷ tokens) rest
 
 -- the whole source is these tokens, among blanks and comments
 abbrev pub HasTokens : List ℕ → List Token → Type 0
@@ -110,6 +111,11 @@ symbol_in source token = symbol_as token.kind (text_in source token)
 -- the symbols of tokens in their source
 abbrev pub symbols_in : List ℕ → List Token → List Symbol
 symbols_in source tokens = map (symbol_in source) tokens
+
+-- a token stands in its source, and its text there is that of its symbol
+pub record StandsIn (source : List ℕ) (token : Token) : Type 0 where
+  pub symbol : symbol_of (text_in source token) ≡ Some (symbol_in source token)
+  pub within : token.place + token.length ≤ length source
 
 -- ---- faults
 

@@ -1,4 +1,4 @@
-use Rattle.std.proofs.Common.{◌≡◌, ◌++◌, ◌∙◌, ap, true, List, ℕ, length, drop}
+use Rattle.std.proofs.Common.{◌++◌, ◌∙◌, ap, length, drop}
 use Rattle.std.proofs.lemmas.Bool.Decides.{Decides-eqb}
 use Rattle.std.proofs.lemmas.Slice.Eq.{starts_is}
 use Rattle.op_table.specs.Tables.{text_of}

@@ -1,7 +1,6 @@
-use Rattle.std.proofs.Common.{rules, ◌≡◌, ◌∙◌, sym, false, ◌<◌, ◌≤◌, ◌+◌, ◌++◌, ◌∷◌, [], length, take, get_or, arith}
+use Rattle.std.proofs.Common.{rules, ◌≡◌, ◌∙◌, sym, ◌<◌, ◌≤◌, ◌+◌, ◌++◌, ◌∷◌, [], length, take, get_or}
 use Rattle.std.proofs.lemmas.Bool.{false≢true}
 use Rattle.std.proofs.lemmas.List.{take_more, take_all}
-use Rattle.op_table.specs.Tables.{text_of, IsFront, IsBest}
 use Rattle.op_table.proofs.BestRows.{takes, keeps, best_is_longest, best_is_none}
 use Rattle.op_table.proofs.table.OpTable.longest.Goals as goal
 use Rattle.op_table.proofs.table.OpTable.longest.Goals.{then-begins+then-outdoes, else-begins, else-begins-via-then-begins+else-outdoes, else-begins-via-else-begins}

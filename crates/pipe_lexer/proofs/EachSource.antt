@@ -1,0 +1,142 @@
+-- Each source has tokens within the bounds, or a fault.
+use Rattle.std.proofs.Common.{◌≡◌, ◌∙◌, ap, sym, ℕ, ◌+◌, ◌-◌, ◌<◌, ◌≤◌, ◌^◌, Bool, true, false, List, [], ◌∷◌, ◌++◌, length, length-drop, take, drop, refl, zero, suc, arith, ◌⊎◌, inl, inr, Option, Some, None, append-nil, append_assoc}
+use Rattle.std.specs.List.{prefix_len}
+use Rattle.std.specs.Str.{bytes_eq}
+use Rattle.std.proofs.lemmas.Bool.{cases_lt, false≢true}
+use Rattle.std.proofs.lemmas.Int.{ints}
+use Rattle.std.proofs.lemmas.List.{take-append-drop}
+use Rattle.std.proofs.Math.Seq.{take-append_seam}
+use Rattle.std.proofs.lemmas.Slice.Eq.{bytes_eq-Decides}
+use Rattle.pipe_model.specs.declared.token.Token.{Token}
+use Rattle.pipe_model.specs.Lexis.{is_blank, is_digit, is_letter, is_name_byte, is_sign, number_of}
+use Rattle.pipe_model.specs.Tokens.{begins_comment, HasFault, LexicalFault, IsTooLong}
+use Rattle.op_table.specs.declared.operators.TheConstants.{OPS}
+use Rattle.op_table.specs.declared.table.OpRow.{OpRow}
+use Rattle.op_table.specs.Tables.{text_of, IsBest, IsFront, Outdoes}
+use Rattle.op_table.proofs.BestRows.{takes, keeps}
+use Rattle.pipe_lexer.specs.declared.piece.Flaw.{Flaw}
+use Rattle.pipe_lexer.specs.declared.piece.Flaw.TheVariants as flaws
+use Rattle.pipe_lexer.specs.declared.piece.Piece.{Piece}
+use Rattle.pipe_lexer.specs.Law.{IsLexedOrHasFault}
+use Rattle.pipe_lexer.specs.Pieces.{length_of, tokens_of, BeginsPunctuation, IsFlaw, IsPiece, ABlank}
+use Rattle.pipe_lexer.proofs.PieceLaws.{comment_piece, name_flaw, name_piece, number_flaw, number_piece, word_piece, word_place}
+use Rattle.pipe_lexer.proofs.Punctuation.{nothing_stands, operator_piece, sign_piece}
+use Rattle.pipe_lexer.proofs.ScanLaws.{at_end, at_flaw, at_start, past_piece, piece_within, Reaches}
+
+-- ---- the longest symbol of a table
+
+-- bytes begin with a text or not
+front_or_not : (text bytes : List ℕ) → IsFront text bytes ⊎ (IsFront text bytes → ⊥)
+front_or_not text bytes = by_test (bytes_eq (take (length text) bytes) text) refl
+  where
+    by_test : (b : Bool) → bytes_eq (take (length text) bytes) text ≡ b → IsFront text bytes ⊎ (IsFront text bytes → ⊥)
+    by_test true e =
+        let same = (bytes_eq-Decides (take (length text) bytes) text).0 e in
+        inl (drop (length text) bytes, sym (take-append-drop (length text) bytes) ∙ ap (λ x. x ++ drop (length text) bytes) same)
+    by_test false e = inr (λ front.
+        let same : take (length text) bytes ≡ text = ap (λ x. take (length text) x) front.1 ∙ take-append_seam text front.0 in
+        false≢true (sym e ∙ (bytes_eq-Decides (take (length text) bytes) text).1 same))
+
+-- a row outdoes another or not
+outdoes_or_not : (row : OpRow) (best : Option OpRow) → Outdoes row best ⊎ (Outdoes row best → ⊥)
+outdoes_or_not row None = inl tt
+outdoes_or_not row (Some other) = elim (cases_lt (length (text_of other)) (length (text_of row))) [ inl h ↦ inl h | inr h ↦ inr (λ less. omega (arith, h, less)) ]
+
+-- one more row
+one_more_row : (seen : List OpRow) (bytes : List ℕ) (best : Option OpRow) (row : OpRow) → IsBest seen bytes best → (other : Option OpRow) × IsBest (seen ++ row ∷ []) bytes other
+one_more_row seen bytes best row h = by_both (front_or_not (text_of row) bytes) (outdoes_or_not row best)
+  where
+    by_both : IsFront (text_of row) bytes ⊎ (IsFront (text_of row) bytes → ⊥) → Outdoes row best ⊎ (Outdoes row best → ⊥)
+        → (other : Option OpRow) × IsBest (seen ++ row ∷ []) bytes other
+    by_both (inl front) (inl out) = (Some row, takes seen bytes best row h front out)
+    by_both (inl front) (inr not_out) = (best, keeps seen bytes best row h (λ front out. not_out out))
+    by_both (inr no_front) out = (best, keeps seen bytes best row h (λ front out. no_front front))
+
+-- of all rows
+best_of : (rows seen : List OpRow) (bytes : List ℕ) (best : Option OpRow) → IsBest seen bytes best → (other : Option OpRow) × IsBest (seen ++ rows) bytes other
+best_of [] seen bytes best h = (best, rw (append-nil seen) h)
+best_of (row ∷ rows) seen bytes best h =
+    let one = one_more_row seen bytes best row h in
+    let all = best_of rows (seen ++ row ∷ []) bytes one.0 one.1 in
+    (all.0, rw (← append_assoc seen (row ∷ []) rows) all.1)
+
+-- ---- what stands at the front of bytes
+
+-- a piece stands there, or something is wrong
+abbrev PieceOrFlaw : List ℕ → Type 0
+PieceOrFlaw bytes = ((piece : Piece) × IsPiece bytes piece) ⊎ ((flaw : Flaw) × IsFlaw bytes flaw)
+
+-- so it is where punctuation begins
+punctuation_or_flaw : (bytes : List ℕ) (first : ℕ) → BeginsPunctuation first bytes → PieceOrFlaw bytes
+punctuation_or_flaw bytes first begins =
+    let best = best_of OPS.rows [] bytes None (λ k d within. absurd (omega arith)) in by_best best.0 best.1
+  where
+    by_sign : (b : Bool) → is_sign first ≡ b → IsBest OPS.rows bytes None → PieceOrFlaw bytes
+    by_sign true e none = inl (_, sign_piece bytes first begins none e)
+    by_sign false e none = inr (_, nothing_stands bytes first begins none e)
+
+    by_best : (best : Option OpRow) → IsBest OPS.rows bytes best → PieceOrFlaw bytes
+    by_best (Some row) h = inl (_, operator_piece bytes first row.code begins (record { row = row; longest = h; same = refl }))
+    by_best None h = by_sign (is_sign first) refl h
+
+-- a word or name begins there
+word_or_flaw : (bytes behind : List ℕ) (b : ℕ) → bytes ≡ b ∷ behind → is_letter b ≡ true → PieceOrFlaw bytes
+word_or_flaw bytes behind b e letter = by_place (word_place (take (1 + prefix_len is_name_byte behind) bytes)) refl
+  where
+    by_length : word_place (take (1 + prefix_len is_name_byte behind) bytes) ≡ None
+        → (64 < length (take (1 + prefix_len is_name_byte behind) bytes)) ⊎ (length (take (1 + prefix_len is_name_byte behind) bytes) ≤ 64) → PieceOrFlaw bytes
+    by_length h (inl long) = inr (_, name_flaw bytes behind _ b _ e letter refl refl h long)
+    by_length h (inr short) = inl (_, name_piece bytes behind _ b _ e letter refl refl h short)
+
+    by_place : (o : Option ℕ) → word_place (take (1 + prefix_len is_name_byte behind) bytes) ≡ o → PieceOrFlaw bytes
+    by_place (Some k) h = inl (_, word_piece bytes behind _ b _ k e letter refl refl h)
+    by_place None h = by_length h (cases_lt 64 (length (take (1 + prefix_len is_name_byte behind) bytes)))
+
+-- a number begins there
+number_or_flaw : (bytes behind : List ℕ) (b : ℕ) → bytes ≡ b ∷ behind → is_letter b ≡ false → is_digit b ≡ true → PieceOrFlaw bytes
+number_or_flaw bytes behind b e letter digit = by_value (cases_lt (number_of (take (1 + prefix_len is_digit behind) bytes)) (2 ^ 63))
+  where
+    by_value : (number_of (take (1 + prefix_len is_digit behind) bytes) < 2 ^ 63) ⊎ (2 ^ 63 ≤ number_of (take (1 + prefix_len is_digit behind) bytes)) → PieceOrFlaw bytes
+    by_value (inl fits) = inl (_, number_piece bytes behind _ b _ _ e letter digit refl refl refl (omega (arith, ints, fits)))
+    by_value (inr wide) = inr (_, number_flaw bytes behind _ b _ e letter digit refl refl wide)
+
+-- whatever the first byte is
+piece_or_flaw : (b : ℕ) (behind : List ℕ) → PieceOrFlaw (b ∷ behind)
+piece_or_flaw b behind = by_tests (is_blank b) (begins_comment (b ∷ behind)) (is_letter b) (is_digit b) refl refl refl refl
+  where
+    by_tests : (blank comment letter digit : Bool) → is_blank b ≡ blank → begins_comment (b ∷ behind) ≡ comment → is_letter b ≡ letter → is_digit b ≡ digit
+        → PieceOrFlaw (b ∷ behind)
+    by_tests true comment letter digit h i j k = inl (_, ABlank b behind refl h)
+    by_tests false true letter digit h i j k = inl (_, comment_piece (b ∷ behind) _ i refl)
+    by_tests false false true digit h i j k = word_or_flaw (b ∷ behind) behind b refl j
+    by_tests false false false true h i j k = number_or_flaw (b ∷ behind) behind b refl j k
+    by_tests false false false false h i j k =
+        punctuation_or_flaw (b ∷ behind) b (record { behind = behind; parts = refl; no_blank = h; no_comment = i; no_letter = j; no_digit = k })
+
+-- ---- whole sources
+
+-- the flaw that is reached is a fault
+flaw_is_fault : (source : List ℕ) (found : List Token) (rest : List ℕ) (flaw : Flaw) → Reaches source found rest → IsFlaw rest flaw
+    → (fault : LexicalFault) × HasFault source fault
+flaw_is_fault source found rest flaws.BadByte r f = (_, at_flaw source found rest flaws.BadByte _ r f refl)
+flaw_is_fault source found rest flaws.TooWide r f = (_, at_flaw source found rest flaws.TooWide _ r f refl)
+flaw_is_fault source found rest flaws.NameTooLong r f = (_, at_flaw source found rest flaws.NameTooLong _ r f refl)
+
+-- from what is reached on, with so many bytes left at most
+goes_on : (bound : ℕ) (source : List ℕ) (found : List Token) (rest : List ℕ) → length rest ≤ bound → Reaches source found rest → IsLexedOrHasFault source
+goes_on bound source found [] h r = inl (found, at_end source found r)
+goes_on zero source found (b ∷ behind) h r = absurd (omega arith)
+goes_on (suc bound) source found (b ∷ behind) h r = elim (piece_or_flaw b behind) [
+  | inl p ↦ (
+      let within = piece_within p.1 in
+      goes_on bound source (found ++ tokens_of p.0 (length source - length (b ∷ behind))) (drop (length_of p.0) (b ∷ behind))
+      (omega (arith, h, within.0, within.1, length-drop (length_of p.0) (b ∷ behind))) (past_piece source found (b ∷ behind) p.0 _ r p.1 refl))
+  | inr f ↦ inr (flaw_is_fault source found (b ∷ behind) f.0 r f.1)
+]
+
+-- each source has tokens or a fault
+pub lexed_or_fault : (source : List ℕ) → IsLexedOrHasFault source
+lexed_or_fault source = elim (cases_lt 1048576 (length source)) [
+  | inl long ↦ inr (_, IsTooLong long)
+  | inr short ↦ goes_on (length source) source [] source (omega arith) (at_start source short)
+]
