@@ -23,3 +23,4 @@ pub mod FaultRules
 pub mod TokenLaws
 pub mod ExpressionWindows
 pub mod NestedBlocks
+pub mod OpenBrackets
