@@ -16,4 +16,6 @@ pub mod ExpressionFronts
 pub mod FullExpressions
 pub mod StatementFronts
 pub mod ProgramFronts
+pub mod Depths
+pub mod Parses
 pub mod FirstForms

@@ -13,7 +13,7 @@ use Rattle.pipe_model.proofs.FullExpressions.{passes_full, stage_number, passes_
 use Rattle.pipe_model.proofs.ProgramPassing.{passes_block}
 use Rattle.pipe_parser.specs.declared.fault.SyntaxFault.{SyntaxFault}
 use Rattle.pipe_parser.specs.declared.fault.SyntaxFault.TheVariants as faults
-use Rattle.pipe_parser.specs.StatementReadings.{test, element, stage, block, repetition, choice, ReadsTest, ReadsStage}
+use Rattle.pipe_parser.specs.StatementReadings.{element, stage, block, repetition, choice, ReadsTest, ReadsStage}
 use Rattle.pipe_parser.specs.SyntaxFaults.{Stops}
 
 -- ---- statements one after the other, as the loop of a block reads them

@@ -11,3 +11,5 @@ pub mod SyntaxFaults
 pub mod StatementReadings
 pub mod SymbolFronts
 pub mod ProgramReadings
+pub mod Depths
+pub mod Parses

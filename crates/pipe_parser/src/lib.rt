@@ -1,12 +1,14 @@
 //! Programs from their text.
 #![tactic(auto)]
 
+mod depth;
 mod expression;
 mod fault;
 pub mod first_form;
 mod front;
 mod lexis;
 mod names;
+pub mod parse;
 mod parse_expression;
 mod parse_full;
 mod parse_program;

@@ -1,7 +1,7 @@
 //! Symbols of a source: its tokens, as the grammar speaks of them.
 
 ghost use Rattle.std.specs.Prelude.{◌≡◌, ◌∷◌, [], IfSome, IfNone, drop, length, take};
-ghost use Rattle.pipe_model.specs.Tokens.{symbol_as, text_in};
+ghost use Rattle.pipe_model.specs.Tokens.{symbol_as, symbols_in, text_in};
 ghost use Rattle.pipe_model.specs.WholeReading.{NoSign, NoWord};
 ghost use Rattle.pipe_model.specs.declared.symbol.Symbol.TheVariants.{Name, Number, Operator, Sign, Word};
 ghost use Rattle.pipe_parser.specs.SymbolFronts.{NoName, NoNumber, NoOperator};
@@ -57,6 +57,13 @@ fn behind(tokens: &[Token], count: usize) -> &[Token]
 }
 
 impl<'a> Symbols<'a> {
+    /// The symbols of the tokens of a source.
+    pub fn new(source: &'a [u8], tokens: &'a [Token]) -> Symbols<'a>
+        ensures { result ≡ symbols_in source.now tokens.now }
+    {
+        Symbols { source, tokens }
+    }
+
     /// How many symbols there are.
     pub fn len(&self) -> usize
         ensures { result ≡ length self.now }

@@ -1,4 +1,4 @@
-use Rattle.std.proofs.Common.{rules, ◌≡◌, ◌∙◌, ◌++◌, ◌∷◌, [], List}
+use Rattle.std.proofs.Common.{rules, ◌≡◌, ◌∙◌, ◌++◌, ◌∷◌, []}
 use Rattle.std.proofs.lemmas.Result.{err_from_is_err_and}
 use Rattle.pipe_parser.proofs.ProgramFronts.{one_more_cell, passes_one_cell, cells_read, fault_cell}
 use Rattle.pipe_parser.proofs.parse_program.read_cells.Goals as goal

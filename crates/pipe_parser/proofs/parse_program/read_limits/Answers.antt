@@ -1,4 +1,3 @@
-use Rattle.std.proofs.Common.{rules, ◌≡◌, ◌∙◌}
 use Rattle.std.proofs.lemmas.Result.{err_from_is_err_and}
 use Rattle.pipe_parser.proofs.ProgramFronts.{fault_emits}
 use Rattle.pipe_parser.proofs.parse_program.read_limits.Goals as goal

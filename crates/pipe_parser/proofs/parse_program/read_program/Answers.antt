@@ -1,4 +1,4 @@
-use Rattle.std.proofs.Common.{rules, ◌≡◌, ◌∙◌, ◌<◌, length, sym, arith, List}
+use Rattle.std.proofs.Common.{◌≡◌, ◌<◌, length, arith}
 use Rattle.std.proofs.lemmas.Result.{err_from_is_err_and}
 use Rattle.pipe_parser.proofs.ProgramFronts.{refuses_limits, refuses_cells, refuses_init, refuses_loop, refuses_last, refuses_more, program_read}
 use Rattle.pipe_parser.proofs.parse_program.read_program.Goals as goal

@@ -1,8 +1,8 @@
-use Rattle.std.proofs.Common.{pos, rules, w64, ◌≡◌, ap, IfOk, IfErr}
+use Rattle.std.proofs.Common.{pos, rules, w64}
 use Rattle.std.proofs.Math.IntN.{◌-ℤ◌}
 use mir.Val.{SFits}
 use Rattle.std.proofs.lemmas.Int.{to_z-of_z}
-use Rattle.pipe_parser.proofs.ProgramFronts.{value_read, fault_value, minus_read, refused_minus, refused_negative}
+use Rattle.pipe_parser.proofs.ProgramFronts.{value_read, fault_value, minus_read}
 use Rattle.pipe_parser.proofs.Results.{if_ok, if_err}
 use Rattle.pipe_parser.proofs.parse_program.read_value.Goals as goal
 

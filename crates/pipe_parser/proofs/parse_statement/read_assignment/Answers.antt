@@ -1,5 +1,4 @@
-use Rattle.std.proofs.Common.{rules, ◌≡◌, ◌∙◌, ap, sym, ℕ, List, [], ◌∷◌, ◌++◌, length, arith}
-use Rattle.std.proofs.lemmas.Result.{err_from_is_err_and}
+use Rattle.std.proofs.Common.{rules, ◌≡◌}
 use Rattle.pipe_parser.proofs.StatementFronts.{assign_read}
 use Rattle.pipe_parser.proofs.parse_statement.read_assignment.Goals as goal
 

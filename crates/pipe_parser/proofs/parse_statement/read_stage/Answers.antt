@@ -1,4 +1,3 @@
-use Rattle.std.proofs.Common.{rules, ◌≡◌, ◌∙◌, ap, sym, ℕ, List, [], ◌∷◌, ◌++◌, length, arith}
 use Rattle.std.proofs.lemmas.Result.{err_from_is_err_and}
 use Rattle.pipe_parser.proofs.StatementFronts.{fault_number, fault_behind_number}
 use Rattle.pipe_parser.proofs.parse_statement.read_stage.Goals as goal
