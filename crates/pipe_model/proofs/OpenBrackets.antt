@@ -9,7 +9,7 @@ use Rattle.pipe_model.proofs.FaultRules.{IsShallowBefore}
 -- one more symbol counts one more, or not
 pub count_one_more : (p : Symbol → Bool) (ts : List Symbol) (t : Symbol) → count_by p (ts ++ t ∷ []) ≡ count_by p ts + cond (p t) 1 0
 count_one_more p ts t =
-    sum_by-append (λ x. cond (p x) 1 0) ts (t ∷ []) ∙ ap (λ n. count_by p ts + n) (omega (arith) )
+    sum_by-append (λ x. cond (p x) 1 0) ts (t ∷ []) ∙ ap (λ n. count_by p ts + n) (omega (arith))
 
 -- a front of symbols and one more is a front of the symbols, or all
 pub front_of_more : (ts : List Symbol) (t : Symbol) (b a : List Symbol) → ts ++ t ∷ [] ≡ b ++ a → (a ≡ []) ⊎ ((more : List Symbol) × (ts ≡ b ++ more))

@@ -11,7 +11,7 @@ pub data Want : Type 0 where
   Word : ℕ → Want
   AnyName : Want
   AnyNumber : Want
-  Natural : Want         -- a number that is not negative
+  Natural : Want  -- a number that is not negative
   FullExpression : Want
   StageNumber : Want
   Target : Want  -- what stands behind a name that is assigned to

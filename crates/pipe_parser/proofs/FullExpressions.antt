@@ -73,8 +73,8 @@ pub stuck_in_window : (ts : List Symbol) (left : ℕ) → 256 < length ts → 0 
 stuck_in_window ts left l p s =
     let many : left + length (drop 257 ts) ≡ left + (length ts - 257) = omega (arith, length-drop 257 ts) in
     let all : expression.IsStuck whole ts (left + length (drop 257 ts)) =
-        subst (λ x. expression.IsStuck whole x (left + length (drop 257 ts))) (take-append-drop 257 ts)
-        (stuck_more whole (take 257 ts) (drop 257 ts) left p s) in
+    subst (λ x. expression.IsStuck whole x (left + length (drop 257 ts))) (take-append-drop 257 ts)
+    (stuck_more whole (take 257 ts) (drop 257 ts) left p s) in
     record { refused = λ below. stuck_full 256 ts (left + length (drop 257 ts)) below all (omega (arith, length-drop 257 ts, l, p)) ∙ ap machine.Unexpected many }
 
 -- an expression that ends in the window
@@ -83,11 +83,11 @@ pub read_in_window : (ts rest : List Symbol) (e : Expression) → 256 < length t
 read_in_window ts rest e l r p =
     let t = sound r in
     let all : ts ≡ t.taken ++ (rest ++ drop 257 ts) =
-        sym (take-append-drop 257 ts) ∙ ap (λ x. x ++ drop 257 ts) t.split ∙ append_assoc t.taken rest (drop 257 ts) in
+    sym (take-append-drop 257 ts) ∙ ap (λ x. x ++ drop 257 ts) t.split ∙ append_assoc t.taken rest (drop 257 ts) in
     let window : length (take 257 ts) ≡ 257 = length-take-le 257 ts (omega (arith, l)) in
     let many : length t.taken ≡ 257 - length rest = omega (arith, ap length t.split, length-append t.taken rest, window, p) in
     let behind : drop (257 - length rest) ts ≡ rest ++ drop 257 ts =
-        ap (λ n. drop n ts) (sym many) ∙ ap (drop (length t.taken)) all ∙ drop-append_seam t.taken (rest ++ drop 257 ts) in
+    ap (λ n. drop n ts) (sym many) ∙ ap (drop (length t.taken)) all ∙ drop-append_seam t.taken (rest ++ drop 257 ts) in
     record {
       read = subst (λ x. Reads 6 ts e x) (sym behind)
           (subst (λ x. Reads 6 x e (rest ++ drop 257 ts)) (take-append-drop 257 ts) (reads_more r (some rest p) (drop 257 ts)));

@@ -13,6 +13,8 @@ mod parse_expression;
 mod parse_full;
 mod parse_program;
 mod parse_statement;
+#[cfg(test)]
+mod parse_tests;
 mod program;
 mod rules;
 mod statement;

@@ -113,7 +113,13 @@ impl<'a> Symbols<'a> {
         ensures none { IfNone result (NoSign sign self.now) }
     {
         match self.first() {
-            Some(First { kind: TokenKind::Sign(b), behind, .. }) if b == sign => Some(behind),
+            Some(
+                First {
+                    kind: TokenKind::Sign(b),
+                    behind,
+                    ..
+                },
+            ) if b == sign => Some(behind),
             _ => None,
         }
     }
@@ -124,7 +130,13 @@ impl<'a> Symbols<'a> {
         ensures none { IfNone result (NoWord word self.now) }
     {
         match self.first() {
-            Some(First { kind: TokenKind::Word(k), behind, .. }) if k == word => Some(behind),
+            Some(
+                First {
+                    kind: TokenKind::Word(k),
+                    behind,
+                    ..
+                },
+            ) if k == word => Some(behind),
             _ => None,
         }
     }
@@ -135,11 +147,13 @@ impl<'a> Symbols<'a> {
         ensures none { IfNone result (NoName self.now) }
     {
         match self.first() {
-            Some(First {
-                kind: TokenKind::Name,
-                text,
-                behind,
-            }) => Some((text, behind)),
+            Some(
+                First {
+                    kind: TokenKind::Name,
+                    text,
+                    behind,
+                },
+            ) => Some((text, behind)),
             _ => None,
         }
     }
@@ -150,11 +164,13 @@ impl<'a> Symbols<'a> {
         ensures none { IfNone result (NoNumber self.now) }
     {
         match self.first() {
-            Some(First {
-                kind: TokenKind::Number(n),
-                behind,
-                ..
-            }) => Some((n, behind)),
+            Some(
+                First {
+                    kind: TokenKind::Number(n),
+                    behind,
+                    ..
+                },
+            ) => Some((n, behind)),
             _ => None,
         }
     }
@@ -165,11 +181,13 @@ impl<'a> Symbols<'a> {
         ensures none { IfNone result (NoOperator code self.now) }
     {
         match self.first() {
-            Some(First {
-                kind: TokenKind::Operator(other),
-                behind,
-                ..
-            }) if other == code => Some(behind),
+            Some(
+                First {
+                    kind: TokenKind::Operator(other),
+                    behind,
+                    ..
+                },
+            ) if other == code => Some(behind),
             _ => None,
         }
     }

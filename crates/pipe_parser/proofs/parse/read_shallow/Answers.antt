@@ -6,13 +6,13 @@ use Rattle.pipe_parser.proofs.parse.read_shallow.Goals as goal
 pub overflow_sub-result : goal.overflow_sub-result
 overflow_sub-result c =
     let verdict : judge 256 c.args.symbols.now (Outside program) ≡ Unexpected c.in-Err-Unexpected.left =
-        rw c.in-Err-Unexpected.field-0-is at c.in-Err-Unexpected.ensures.err in
+    rw c.in-Err-Unexpected.field-0-is at c.in-Err-Unexpected.ensures.err in
     omega (arith, c.len-all.ensures, unexpected_within c.args.symbols.now c.in-Err-Unexpected.left verdict)
 
 pub overflow_sub-result-in-Err-TooLong : goal.overflow_sub-result-in-Err-TooLong
 overflow_sub-result-in-Err-TooLong c =
     let verdict : judge 256 c.args.symbols.now (Outside program) ≡ TooLong c.in-Err-TooLong.left =
-        rw c.in-Err-TooLong.field-0-is at c.in-Err-TooLong.ensures.err in
+    rw c.in-Err-TooLong.field-0-is at c.in-Err-TooLong.ensures.err in
     let within = too_long_within c.args.symbols.now c.in-Err-TooLong.left verdict in
     omega (arith, c.len-all.ensures, within.1)
 
