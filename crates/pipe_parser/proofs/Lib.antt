@@ -14,4 +14,8 @@ pub mod NameSets
 pub mod Obeying
 pub mod ExpressionFronts
 pub mod FullExpressions
+pub mod StatementFronts
+pub mod ProgramFronts
+pub mod Depths
+pub mod Parses
 pub mod FirstForms

@@ -8,3 +8,8 @@ pub mod SameNames
 pub mod Stages
 pub mod ExpressionFaults
 pub mod SyntaxFaults
+pub mod StatementReadings
+pub mod SymbolFronts
+pub mod ProgramReadings
+pub mod Depths
+pub mod Parses

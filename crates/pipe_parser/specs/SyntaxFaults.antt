@@ -1,8 +1,8 @@
 -- What the readers of statements and programs say of symbols.
-use Rattle.std.specs.Prelude.{List}
+use Rattle.std.specs.Prelude.{◌≡◌, List}
 use Rattle.pipe_model.specs.declared.symbol.Symbol.{Symbol}
 use Rattle.pipe_model.specs.ProgramMachine as machine
-use Rattle.pipe_model.specs.ProgramMachine.{Want, IsRefused}
+use Rattle.pipe_model.specs.ProgramMachine.{Want, IsRefused, Outside, judge, program}
 use Rattle.pipe_parser.specs.declared.fault.SyntaxFault.{SyntaxFault}
 use Rattle.pipe_parser.specs.declared.fault.SyntaxFault.TheVariants as faults
 
@@ -11,3 +11,9 @@ abbrev pub Stops : List Want → List Symbol → SyntaxFault → Type 0
 Stops wants ts (faults.Unexpected left) = IsRefused 256 wants ts (machine.Unexpected left)
 Stops wants ts (faults.TooLong left) = IsRefused 256 wants ts (machine.TooLong left)
 Stops wants ts faults.NoMemory = Unit {0}
+
+-- the fault of reading a program from all of the symbols
+abbrev pub Refuses : List Symbol → SyntaxFault → Type 0
+Refuses ts (faults.Unexpected left) = judge 256 ts (Outside program) ≡ machine.Unexpected left
+Refuses ts (faults.TooLong left) = judge 256 ts (Outside program) ≡ machine.TooLong left
+Refuses ts faults.NoMemory = Unit {0}

@@ -1,9 +1,10 @@
 //! Symbols of a source: its tokens, as the grammar speaks of them.
 
 ghost use Rattle.std.specs.Prelude.{◌≡◌, ◌∷◌, [], IfSome, IfNone, drop, length, take};
-ghost use Rattle.pipe_model.specs.Tokens.{symbol_as, text_in};
+ghost use Rattle.pipe_model.specs.Tokens.{symbol_as, symbols_in, text_in};
 ghost use Rattle.pipe_model.specs.WholeReading.{NoSign, NoWord};
-ghost use Rattle.pipe_model.specs.declared.symbol.Symbol.TheVariants.{Sign, Word};
+ghost use Rattle.pipe_model.specs.declared.symbol.Symbol.TheVariants.{Name, Number, Operator, Sign, Word};
+ghost use Rattle.pipe_parser.specs.SymbolFronts.{NoName, NoNumber, NoOperator};
 
 use pipe_model::token::{Token, TokenKind};
 use std::marker::Model;
@@ -56,6 +57,13 @@ fn behind(tokens: &[Token], count: usize) -> &[Token]
 }
 
 impl<'a> Symbols<'a> {
+    /// The symbols of the tokens of a source.
+    pub fn new(source: &'a [u8], tokens: &'a [Token]) -> Symbols<'a>
+        ensures { result ≡ symbols_in source.now tokens.now }
+    {
+        Symbols { source, tokens }
+    }
+
     /// How many symbols there are.
     pub fn len(&self) -> usize
         ensures { result ≡ length self.now }
@@ -129,6 +137,57 @@ impl<'a> Symbols<'a> {
                     ..
                 },
             ) if k == word => Some(behind),
+            _ => None,
+        }
+    }
+
+    /// The text of the name that stands first, and what stands behind it; `None` where no name stands first.
+    pub fn after_name(&self) -> Option<(&'a [u8], Symbols<'a>)>
+        ensures some { IfSome result (λ r. self.now ≡ Name r.0.now ∷ r.1) }
+        ensures none { IfNone result (NoName self.now) }
+    {
+        match self.first() {
+            Some(
+                First {
+                    kind: TokenKind::Name,
+                    text,
+                    behind,
+                },
+            ) => Some((text, behind)),
+            _ => None,
+        }
+    }
+
+    /// The number that stands first, and what stands behind it; `None` where no number stands first.
+    pub fn after_number(&self) -> Option<(i64, Symbols<'a>)>
+        ensures some { IfSome result (λ r. self.now ≡ Number r.0 ∷ r.1) }
+        ensures none { IfNone result (NoNumber self.now) }
+    {
+        match self.first() {
+            Some(
+                First {
+                    kind: TokenKind::Number(n),
+                    behind,
+                    ..
+                },
+            ) => Some((n, behind)),
+            _ => None,
+        }
+    }
+
+    /// What stands behind the operator, where it stands first.
+    pub fn after_operator(&self, code: u8) -> Option<Symbols<'a>>
+        ensures some { IfSome result (λ behind. self.now ≡ Operator code ∷ behind) }
+        ensures none { IfNone result (NoOperator code self.now) }
+    {
+        match self.first() {
+            Some(
+                First {
+                    kind: TokenKind::Operator(other),
+                    behind,
+                    ..
+                },
+            ) if other == code => Some(behind),
             _ => None,
         }
     }

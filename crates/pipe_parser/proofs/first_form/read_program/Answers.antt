@@ -1,4 +1,4 @@
-use Rattle.std.proofs.Common.{◌≡◌, ◌∙◌, sym}
+use Rattle.std.proofs.Common.{◌∙◌, sym}
 use Rattle.pipe_model.specs.Grammar.{DerivesProgram}
 use Rattle.pipe_model.specs.SyntaxTree.{tree_of}
 use Rattle.pipe_parser.specs.Cuts.{DividesInto}

@@ -1,0 +1,91 @@
+-- Counting brackets in a loop.
+use Rattle.std.proofs.Common.{◌≡◌, ℕ, ◌+◌, ◌-◌, ◌<◌, ◌≤◌, List, [], ◌∷◌, ◌++◌, length, append_assoc, append-nil, length-append, refl, sym, ap, ◌∙◌, arith, subst, Bool, true, false, cond}
+use Rattle.std.specs.List.{count_by}
+use Rattle.std.proofs.lemmas.List.Sums.{count_by-le-length}
+use Rattle.pipe_model.specs.declared.symbol.Symbol.{Symbol}
+use Rattle.pipe_model.specs.declared.token.TokenKind.{TokenKind}
+use Rattle.pipe_model.specs.declared.token.TokenKind.TheVariants as kinds
+use Rattle.pipe_model.specs.Tokens.{symbol_as}
+use Rattle.pipe_model.specs.WholeSpelling.{is_opening, is_closing, IsShallow}
+use Rattle.pipe_model.proofs.OpenBrackets.{count_one_more, shallow_more, no_symbols_shallow}
+use Rattle.pipe_parser.specs.Depths.{OpensTooMany}
+
+-- the symbols before the rest are shallow, and so many of them open and close
+pub record Counted (all rest : List Symbol) (opened closed : ℕ) : Type 0 where
+  pub before : List Symbol
+  pub split : all ≡ before ++ rest
+  pub shallow : IsShallow before
+  pub opens : opened ≡ count_by is_opening before
+  pub closes : closed ≡ count_by is_closing before
+
+-- before all symbols
+pub counted_none : (all : List Symbol) → Counted all all 0 0
+counted_none all = record { before = []; split = refl; shallow = no_symbols_shallow; opens = refl; closes = refl }
+
+-- how many of one symbol are counted
+pub opened_more : (p : Symbol → Bool) (before : List Symbol) (t : Symbol) (n m : ℕ) → n ≡ count_by p before → m ≡ n + cond (p t) 1 0
+    → m ≡ count_by p (before ++ t ∷ [])
+opened_more p before t n m h i = i ∙ ap (λ x. x + cond (p t) 1 0) h ∙ sym (count_one_more p before t)
+
+-- one symbol more
+pub counted_more : (all rest behind : List Symbol) (t : Symbol) (opened closed o c : ℕ) → Counted all rest opened closed → rest ≡ t ∷ behind
+    → o ≡ opened + cond (is_opening t) 1 0 → c ≡ closed + cond (is_closing t) 1 0 → o - c ≤ 64
+    → Counted all behind o c
+counted_more all rest behind t opened closed o c k h i j l =
+    let opens = opened_more is_opening k.before t opened o k.opens i in
+    let closes = opened_more is_closing k.before t closed c k.closes j in
+    record {
+      before = k.before ++ t ∷ [];
+      split = k.split ∙ ap (λ x. k.before ++ x) h ∙ sym (append_assoc k.before (t ∷ []) behind);
+      shallow = shallow_more k.before t k.shallow (omega (arith, l, opens, closes));
+      opens = opens;
+      closes = closes;
+    }
+
+-- the symbol with which too many are open
+pub counted_too_many : (all rest behind : List Symbol) (t : Symbol) (opened closed o c : ℕ) → Counted all rest opened closed → rest ≡ t ∷ behind
+    → o ≡ opened + cond (is_opening t) 1 0 → c ≡ closed + cond (is_closing t) 1 0 → 64 < o - c
+    → OpensTooMany all (length all - length behind)
+counted_too_many all rest behind t opened closed o c k h i j l =
+    let opens = opened_more is_opening k.before t opened o k.opens i in
+    let closes = opened_more is_closing k.before t closed c k.closes j in
+    let many : length all ≡ length k.before + length rest = ap length k.split ∙ length-append k.before rest in
+    record {
+      before = k.before;
+      t = t;
+      after = behind;
+      split = k.split ∙ ap (λ x. k.before ++ x) h;
+      many = omega (arith, many, ap length h);
+      shallow = k.shallow;
+      deep = omega (arith, l, opens, closes);
+    }
+
+-- behind all symbols
+pub counted_all : (all : List Symbol) (rest : List Symbol) (opened closed : ℕ) → Counted all rest opened closed → rest ≡ [] → IsShallow all
+counted_all all rest opened closed k h =
+    subst IsShallow (sym (k.split ∙ ap (λ x. k.before ++ x) h ∙ append-nil k.before)) k.shallow
+
+-- no more are counted than there are symbols
+pub counted_within : (all rest : List Symbol) (opened closed : ℕ) → Counted all rest opened closed → (opened + length rest ≤ length all) × (closed + length rest ≤ length all)
+counted_within all rest opened closed k =
+    let many : length all ≡ length k.before + length rest = ap length k.split ∙ length-append k.before rest in
+    (omega (arith, many, k.opens, count_by-le-length is_opening k.before), omega (arith, many, k.closes, count_by-le-length is_closing k.before))
+
+-- what is no sign neither opens nor closes
+pub opens_nothing : (kind : TokenKind) → ((b : ℕ) → kind ≡ kinds.Sign b → ⊥) → (text : List ℕ) → false ≡ is_opening (symbol_as kind text)
+opens_nothing kinds.Name h text = refl
+opens_nothing (kinds.Word k) h text = refl
+opens_nothing (kinds.Number n) h text = refl
+opens_nothing (kinds.Operator code) h text = refl
+opens_nothing (kinds.Sign b) h text = absurd (h b refl)
+
+pub closes_nothing : (kind : TokenKind) → ((b : ℕ) → kind ≡ kinds.Sign b → ⊥) → (text : List ℕ) → false ≡ is_closing (symbol_as kind text)
+closes_nothing kinds.Name h text = refl
+closes_nothing (kinds.Word k) h text = refl
+closes_nothing (kinds.Number n) h text = refl
+closes_nothing (kinds.Operator code) h text = refl
+closes_nothing (kinds.Sign b) h text = absurd (h b refl)
+
+pub one_at_most : (b : Bool) → cond b 1 0 ≤ 1
+one_at_most true = omega arith
+one_at_most false = omega arith

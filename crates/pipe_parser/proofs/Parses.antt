@@ -1,0 +1,97 @@
+-- What was read of symbols, with the bound on brackets.
+use Rattle.std.proofs.Common.{◌≡◌, ◌≢◌, ℕ, zero, suc, ◌+◌, ◌-◌, ◌<◌, ◌≤◌, List, [], ◌∷◌, ◌++◌, length, take, append_assoc, append-nil, length-append, refl, sym, ap, ◌∙◌, arith, subst, inl, inr}
+use Rattle.std.proofs.Math.Seq.{take-append_seam}
+use Rattle.pipe_model.specs.declared.symbol.Symbol.{Symbol}
+use Rattle.pipe_model.specs.ProgramMachine.{Outside, Verdict, Accepted, Unexpected, TooLong, judge, program}
+use Rattle.pipe_model.specs.SyntaxTree.{SyntaxTree}
+use Rattle.pipe_model.specs.WholeReading.{ReadsProgram}
+use Rattle.pipe_model.specs.WholeSpelling.{Spells, IsShallow, FirstFault, Rule, Expected, Shallow, Short}
+use Rattle.pipe_model.proofs.FaultRules.{IsShallowBefore, ComesToLast, first_unexpected, first_unexpected_end, first_too_long, first_too_deep}
+use Rattle.pipe_model.proofs.FirstFaults.{is_unexpected, is_too_long}
+use Rattle.pipe_model.proofs.OpenBrackets.{shallow_before_one, shallow_is_before}
+use Rattle.pipe_model.proofs.ProgramPassing.{accepts_program}
+use Rattle.pipe_model.proofs.WholeProgramReading.{sound_program}
+use Rattle.pipe_parser.specs.Depths.{OpensTooMany}
+
+-- a program that was read of shallow symbols is spelled
+pub spelled : (ts : List Symbol) (p : SyntaxTree) → ReadsProgram 256 ts p → IsShallow ts → Spells ts p
+spelled ts p r h = let t = sound_program r in record { pieces = t.taken; split = t.split; derived = t.derived; short = t.short; shallow = h }
+
+-- no more symbols are left than there are
+pub unexpected_within : (ts : List Symbol) (n : ℕ) → judge 256 ts (Outside program) ≡ Unexpected n → n ≤ length ts
+unexpected_within ts n v = let u = is_unexpected ts n v in omega (arith, u.many, ap length u.split, length-append u.before u.rest)
+
+pub too_long_within : (ts : List Symbol) (n : ℕ) → judge 256 ts (Outside program) ≡ TooLong n → (0 < n) × (n ≤ length ts)
+too_long_within ts n v =
+    let x = is_too_long ts n v in
+    let many : length ts ≡ length x.before + length (x.t ∷ x.after) = ap length x.split ∙ length-append x.before (x.t ∷ x.after) in
+    (omega (arith, x.many), omega (arith, x.many, many))
+
+without_more : {ts : List Symbol} {rule : Rule} {k : ℕ} → FirstFault (ts ++ []) rule k → FirstFault ts rule k
+without_more {ts} {rule} {k} f = subst (λ x. FirstFault x rule k) (append-nil ts) f
+
+at_place : {ts : List Symbol} {rule : Rule} {k m : ℕ} → k ≡ m → FirstFault ts rule k → FirstFault ts rule m
+at_place {ts} {rule} h f = subst (FirstFault ts rule) h f
+
+-- ---- symbols that never open too many brackets
+pub shallow_unexpected : (ts : List Symbol) (n : ℕ) → judge 256 ts (Outside program) ≡ Unexpected n → IsShallow ts → FirstFault ts Expected (length ts - n)
+shallow_unexpected ts n v h = by_left n refl
+  where
+    by_left : (m : ℕ) → n ≡ m → FirstFault ts Expected (length ts - n)
+    by_left zero e = at_place (omega (arith, e)) (first_unexpected_end ts (v ∙ ap Unexpected e) h)
+    by_left (suc m) e =
+        without_more (first_unexpected ts [] n (length ts - n) v (omega (arith, e)) (omega (arith, unexpected_within ts n v)) (shallow_is_before ts h))
+
+pub shallow_too_long : (ts : List Symbol) (n : ℕ) → judge 256 ts (Outside program) ≡ TooLong n → IsShallow ts → FirstFault ts Short (length ts - n)
+shallow_too_long ts n v h =
+    without_more (first_too_long ts [] n (length ts - n) v (inr (h.shallow ts [] (sym (append-nil ts)))) (omega (arith, (too_long_within ts n v).1))
+    (shallow_is_before ts h))
+
+-- ---- symbols that open too many
+
+-- up to the bracket too many
+cut_is : (ts : List Symbol) (k : ℕ) → (o : OpensTooMany ts k) → take k ts ≡ o.before ++ o.t ∷ []
+cut_is ts k o =
+    let all : ts ≡ (o.before ++ o.t ∷ []) ++ o.after = o.split ∙ sym (append_assoc o.before (o.t ∷ []) o.after) in
+    let many : k ≡ length (o.before ++ o.t ∷ []) = omega (arith, o.many, length-append o.before (o.t ∷ [])) in
+    ap (λ n. take n ts) many ∙ ap (take (length (o.before ++ o.t ∷ []))) all ∙ take-append_seam (o.before ++ o.t ∷ []) o.after
+
+cut_many : (ts : List Symbol) (k : ℕ) → OpensTooMany ts k → length (take k ts) ≡ k
+cut_many ts k o = omega (arith, ap length (cut_is ts k o), length-append o.before (o.t ∷ []), o.many)
+
+cut_more : (ts : List Symbol) (k : ℕ) → (o : OpensTooMany ts k) → take k ts ++ o.after ≡ ts
+cut_more ts k o = ap (λ x. x ++ o.after) (cut_is ts k o) ∙ append_assoc o.before (o.t ∷ []) o.after ∙ sym o.split
+
+cut_shallow : (ts : List Symbol) (k : ℕ) → (o : OpensTooMany ts k) → IsShallowBefore (take k ts)
+cut_shallow ts k o = subst IsShallowBefore (sym (cut_is ts k o)) (shallow_before_one o.before o.t o.shallow)
+
+of_all : {ts us : List Symbol} {rule : Rule} {k : ℕ} → us ≡ ts → FirstFault us rule k → FirstFault ts rule k
+of_all {rule = rule} {k = k} h f = subst (λ x. FirstFault x rule k) h f
+
+pub cut_within : (ts : List Symbol) (k n : ℕ) → OpensTooMany ts k → judge 256 (take k ts) (Outside program) ≡ Unexpected n → n ≤ k
+cut_within ts k n o v = omega (arith, cut_many ts k o, unexpected_within (take k ts) n v)
+
+pub cut_long_within : (ts : List Symbol) (k n : ℕ) → OpensTooMany ts k → judge 256 (take k ts) (Outside program) ≡ TooLong n → n ≤ k
+cut_long_within ts k n o v = omega (arith, cut_many ts k o, (too_long_within (take k ts) n v).1)
+
+pub cut_unexpected : (ts : List Symbol) (k n : ℕ) → OpensTooMany ts k → judge 256 (take k ts) (Outside program) ≡ Unexpected n → 0 < n
+    → FirstFault ts Expected (k - n)
+cut_unexpected ts k n o v l =
+    of_all (cut_more ts k o) (first_unexpected (take k ts) o.after n (k - n) v l (omega (arith, cut_many ts k o, cut_within ts k n o v))
+    (cut_shallow ts k o))
+
+pub cut_too_long : (ts : List Symbol) (k n : ℕ) → OpensTooMany ts k → judge 256 (take k ts) (Outside program) ≡ TooLong n → n ≢ 1
+    → FirstFault ts Short (k - n)
+cut_too_long ts k n o v l =
+    let some = (too_long_within (take k ts) n v).0 in
+    of_all (cut_more ts k o) (first_too_long (take k ts) o.after n (k - n) v (inl (grind (arith, l, some)))
+    (omega (arith, cut_many ts k o, cut_long_within ts k n o v)) (cut_shallow ts k o))
+
+pub cut_too_deep : (ts : List Symbol) (k : ℕ) (v : Verdict) → OpensTooMany ts k → judge 256 (take k ts) (Outside program) ≡ v → ComesToLast v
+    → FirstFault ts Shallow (k - 1)
+cut_too_deep ts k v o e c =
+    let same : judge 256 (o.before ++ o.t ∷ []) (Outside program) ≡ v = ap (λ x. judge 256 x (Outside program)) (sym (cut_is ts k o)) ∙ e in
+    of_all (sym o.split) (at_place (omega (arith, o.many)) (first_too_deep o.before o.t o.after v same c (shallow_before_one o.before o.t o.shallow) o.deep))
+
+pub cut_read : (ts : List Symbol) (k : ℕ) (p : SyntaxTree) → OpensTooMany ts k → ReadsProgram 256 (take k ts) p → FirstFault ts Shallow (k - 1)
+cut_read ts k p o r = cut_too_deep ts k Accepted o (accepts_program r) tt

@@ -1,0 +1,165 @@
+-- Readings of statements and the faults of their readers, by what stands at the front.
+use Rattle.std.proofs.Common.{◌≡◌, ap, sym, ◌∙◌, subst, ℕ, List, [], ◌∷◌, ◌++◌, append_assoc, refl, Option, Some, None}
+use Rattle.pipe_model.specs.declared.node.Kind.TheVariants as kinds
+use Rattle.pipe_model.specs.declared.symbol.Symbol.{Symbol}
+use Rattle.pipe_model.specs.declared.symbol.Symbol.TheVariants as symbols
+use Rattle.pipe_model.specs.declared.tree.Expr.{Expr}
+use Rattle.pipe_model.specs.declared.tree.Stmt.{Stmt}
+use Rattle.pipe_model.specs.ProgramMachine as machine
+use Rattle.pipe_model.specs.ProgramMachine.{Want, Sign, FullExpression, Part, Outside, judge}
+use Rattle.pipe_model.specs.SyntaxTree.{Expression, Statements, Empty, Then, Let, Assign, AssignElement, Emit, If, While, statement_of, statements_of, stage_statement}
+use Rattle.pipe_model.specs.WholeReading.{ReadsFull, ReadsStatement, ReadsLet, ReadsAssign, ReadsAssignElement, ReadsEmit, ReadsIf, ReadsWhile, ReadsWait, ReadsWaitNext, ReadsContinue, ReadsContinueNext, ReadsStatements, ReadsClose, ReadsBlock, ReadsBraces, ReadsPart, ReadsNoPart, ReadsPartIs, NoSign, NoWord}
+use Rattle.pipe_model.proofs.FullExpressions.{passes_full, stage_number, passes_stage_number}
+use Rattle.pipe_model.proofs.ProgramPassing.{passes_block}
+use Rattle.pipe_parser.specs.declared.fault.SyntaxFault.{SyntaxFault}
+use Rattle.pipe_parser.specs.declared.fault.SyntaxFault.TheVariants as faults
+use Rattle.pipe_parser.specs.StatementReadings.{element, stage, block, repetition, choice, ReadsTest, ReadsStage}
+use Rattle.pipe_parser.specs.SyntaxFaults.{Stops}
+
+-- ---- statements one after the other, as the loop of a block reads them
+
+-- statements in front of others
+abbrev pub before : List Stmt → Statements → Statements
+before [] ss = ss
+before (s ∷ found) ss = Then (statement_of s) (before found ss)
+
+pub before_one : (found : List Stmt) (s : Stmt) (ss : Statements) → before (found ++ s ∷ []) ss ≡ before found (Then (statement_of s) ss)
+before_one [] s ss = refl
+before_one (t ∷ found) s ss = ap (Then (statement_of t)) (before_one found s ss)
+
+before_none : (found : List Stmt) → before found Empty ≡ statements_of found
+before_none [] = refl
+before_none (s ∷ found) = ap (Then (statement_of s)) (before_none found)
+
+-- at the closing brace the statements that were found are all
+pub block_read : (ts all rest behind : List Symbol) (found : List Stmt) → ts ≡ symbols.Sign 123 ∷ all
+    → ((ss : Statements) (end : List Symbol) → ReadsStatements 256 rest ss end → ReadsStatements 256 all (before found ss) end)
+    → rest ≡ symbols.Sign 125 ∷ behind
+    → ReadsBlock 256 ts (statements_of found) behind
+block_read ts all rest behind found h f e =
+    let closed : ReadsStatements 256 rest Empty behind = subst (λ x. ReadsStatements 256 x Empty behind) (sym e) (ReadsClose behind) in
+    rw h (ReadsBraces (subst (λ x. ReadsStatements 256 all x behind) (before_none found) (f Empty behind closed)))
+
+-- ---- faults
+
+-- a fault behind what was passed is the fault of the whole
+pub fault_behind : (wants others : List Want) (ts us : List Symbol)
+    → ((below : List Want) → judge 256 ts (Outside (wants ++ below)) ≡ judge 256 us (Outside (others ++ below))) → (f : SyntaxFault) → Stops others us f
+    → Stops wants ts f
+fault_behind wants others ts us h (faults.Unexpected left) x = record { refused = λ below. h below ∙ x.refused below }
+fault_behind wants others ts us h (faults.TooLong left) x = record { refused = λ below. h below ∙ x.refused below }
+fault_behind wants others ts us h faults.NoMemory x = tt
+
+-- what is refused in front is refused before more that has to come
+pub fault_before : (wants more : List Want) (ts : List Symbol) (f : SyntaxFault) → Stops wants ts f → Stops (wants ++ more) ts f
+fault_before wants more ts =
+    let same = λ (below : List Want). ap (λ x. judge 256 ts (Outside x)) (append_assoc wants more below) in
+    λ f x. by_cases same f x
+  where
+    by_cases : ((below : List Want) → judge 256 ts (Outside ((wants ++ more) ++ below)) ≡ judge 256 ts (Outside (wants ++ (more ++ below))))
+        → (f : SyntaxFault) → Stops wants ts f → Stops (wants ++ more) ts f
+    by_cases same (faults.Unexpected left) x = record { refused = λ below. same below ∙ x.refused (more ++ below) }
+    by_cases same (faults.TooLong left) x = record { refused = λ below. same below ∙ x.refused (more ++ below) }
+    by_cases same faults.NoMemory x = tt
+
+-- behind a full expression
+pub fault_full : (others : List Want) (e : Expression) (ts mid : List Symbol) → ReadsFull 256 ts e mid → (f : SyntaxFault) → Stops others mid f
+    → Stops (FullExpression ∷ others) ts f
+fault_full others e ts mid r = fault_behind (FullExpression ∷ others) others ts mid (λ below. passes_full r (others ++ below))
+
+-- behind an index and the sign behind it
+pub fault_index : (index : Expression) (ts mid : List Symbol) → ReadsFull 256 ts index (symbols.Sign 93 ∷ mid) → (f : SyntaxFault) → Stops (Sign 61 ∷ []) mid f
+    → Stops element ts f
+fault_index index ts mid r f x =
+    fault_behind element (Sign 61 ∷ FullExpression ∷ Sign 59 ∷ []) ts mid (λ below. passes_full r (Sign 93 ∷ Sign 61 ∷ FullExpression ∷ Sign 59 ∷ below)) f
+    (fault_before (Sign 61 ∷ []) (FullExpression ∷ Sign 59 ∷ []) mid f x)
+
+pub fault_assigned : (index : Expression) (ts mid inside : List Symbol) → ReadsFull 256 ts index (symbols.Sign 93 ∷ mid) → mid ≡ symbols.Sign 61 ∷ inside
+    → (f : SyntaxFault) → Stops (FullExpression ∷ Sign 59 ∷ []) inside f
+    → Stops element ts f
+fault_assigned index ts mid inside r h =
+    fault_behind element (FullExpression ∷ Sign 59 ∷ []) ts inside
+    (λ below. passes_full r (Sign 93 ∷ Sign 61 ∷ FullExpression ∷ Sign 59 ∷ below)
+    ∙ ap (λ x. judge 256 x (Outside (Sign 61 ∷ FullExpression ∷ Sign 59 ∷ below))) h)
+
+-- a stage number and what is behind it
+pub fault_number : (ts inside : List Symbol) → ts ≡ symbols.Sign 40 ∷ inside → NoSign 41 inside → (f : SyntaxFault)
+    → Stops (FullExpression ∷ Sign 41 ∷ []) inside f
+    → Stops stage ts f
+fault_number ts inside h n f x =
+    fault_behind stage (FullExpression ∷ Sign 41 ∷ Sign 59 ∷ []) ts inside
+    (λ below. ap (λ y. judge 256 y (Outside (stage ++ below))) h ∙ stage_number 256 inside (Sign 59 ∷ below) n) f
+    (fault_before (FullExpression ∷ Sign 41 ∷ []) (Sign 59 ∷ []) inside f x)
+
+pub fault_behind_number : (e : Expression) (ts inside mid : List Symbol) → ts ≡ symbols.Sign 40 ∷ inside → ReadsFull 256 inside e (symbols.Sign 41 ∷ mid)
+    → (f : SyntaxFault) → Stops (Sign 59 ∷ []) mid f
+    → Stops stage ts f
+fault_behind_number e ts inside mid h r =
+    fault_behind stage (Sign 59 ∷ []) ts mid
+    (λ below. ap (λ y. judge 256 y (Outside (stage ++ below))) h ∙ passes_stage_number r (Sign 59 ∷ below))
+
+-- a test is passed
+pub passes_test : (e : Expression) (ts mid : List Symbol) → ReadsTest ts e mid → (below : List Want)
+    → judge 256 ts (Outside (Sign 40 ∷ FullExpression ∷ Sign 41 ∷ below)) ≡ judge 256 mid (Outside below)
+passes_test e ts mid t below =
+    ap (λ x. judge 256 x (Outside (Sign 40 ∷ FullExpression ∷ Sign 41 ∷ below))) t.opens ∙ passes_full t.reads (Sign 41 ∷ below)
+
+pub fault_body : (e : Expression) (ts mid : List Symbol) → ReadsTest ts e mid → (f : SyntaxFault) → Stops block mid f → Stops repetition ts f
+fault_body e ts mid t = fault_behind repetition block ts mid (λ below. passes_test e ts mid t (block ++ below))
+
+pub fault_then : (e : Expression) (ts mid : List Symbol) → ReadsTest ts e mid → (f : SyntaxFault) → Stops block mid f → Stops choice ts f
+fault_then e ts mid t f x = fault_before repetition (Part 14 ∷ []) ts f (fault_body e ts mid t f x)
+
+pub fault_else : (e : Expression) (a : Statements) (ts mid behind : List Symbol) → ReadsTest ts e mid → ReadsBlock 256 mid a behind → (f : SyntaxFault)
+    → Stops (Part 14 ∷ []) behind f
+    → Stops choice ts f
+fault_else e a ts mid behind t b =
+    fault_behind choice (Part 14 ∷ []) ts behind
+    (λ below. passes_test e ts mid t (Sign 123 ∷ machine.Statements ∷ Sign 125 ∷ Part 14 ∷ below) ∙ passes_block b (Part 14 ∷ below))
+
+-- ---- readings
+pub let_read : (name : List ℕ) (e : Expression) (ts behind inside rest : List Symbol) → ts ≡ symbols.Name name ∷ behind → behind ≡ symbols.Sign 61 ∷ inside
+    → ReadsFull 256 inside e (symbols.Sign 59 ∷ rest)
+    → ReadsStatement 256 (symbols.Word 12 ∷ ts) (Let name e) rest
+let_read name e ts behind inside rest h i r = rw (h, i) (ReadsLet name r)
+
+pub assign_read : (name : List ℕ) (e : Expression) (ts inside rest : List Symbol) → ts ≡ symbols.Sign 61 ∷ inside
+    → ReadsFull 256 inside e (symbols.Sign 59 ∷ rest)
+    → ReadsStatement 256 (symbols.Name name ∷ ts) (Assign name e) rest
+assign_read name e ts inside rest h r = rw h (ReadsAssign name r)
+
+pub element_read : (name : List ℕ) (index e : Expression) (ts mid inside rest : List Symbol) → ReadsFull 256 ts index (symbols.Sign 93 ∷ mid)
+    → mid ≡ symbols.Sign 61 ∷ inside → ReadsFull 256 inside e (symbols.Sign 59 ∷ rest)
+    → ReadsStatement 256 (symbols.Name name ∷ symbols.Sign 91 ∷ ts) (AssignElement name index e) rest
+element_read name index e ts mid inside rest r h r' =
+    ReadsAssignElement name (subst (λ x. ReadsFull 256 ts index (symbols.Sign 93 ∷ x)) h r) r'
+
+pub emit_read : (e : Expression) (ts rest : List Symbol) → ReadsFull 256 ts e (symbols.Sign 59 ∷ rest)
+    → ReadsStatement 256 (symbols.Word 16 ∷ ts) (Emit e) rest
+emit_read e ts rest r = ReadsEmit r
+
+pub wait_read : (number : Option Expr) (ts us rest : List Symbol) → us ≡ symbols.Word 9 ∷ ts → ReadsStage ts number rest
+    → ReadsStatement 256 us (stage_statement kinds.Wait number) rest
+wait_read None ts us rest h s = rw (h, s) (ReadsWaitNext rest)
+wait_read (Some e) ts us rest h s = rw (h, s.opens) (ReadsWait s.reads)
+
+pub continue_read : (number : Option Expr) (ts us rest : List Symbol) → us ≡ symbols.Word 10 ∷ ts → ReadsStage ts number rest
+    → ReadsStatement 256 us (stage_statement kinds.Continue number) rest
+continue_read None ts us rest h s = rw (h, s) (ReadsContinueNext rest)
+continue_read (Some e) ts us rest h s = rw (h, s.opens) (ReadsContinue s.reads)
+
+pub while_read : (e : Expression) (a : Statements) (ts mid rest : List Symbol) → ReadsTest ts e mid → ReadsBlock 256 mid a rest
+    → ReadsStatement 256 (symbols.Word 15 ∷ ts) (While e a) rest
+while_read e a ts mid rest t b = rw t.opens (ReadsWhile t.reads b)
+
+pub if_read : (e : Expression) (a b : Statements) (ts mid behind rest : List Symbol) → ReadsTest ts e mid → ReadsBlock 256 mid a behind
+    → ReadsPart 256 14 behind b rest
+    → ReadsStatement 256 (symbols.Word 13 ∷ ts) (If e a b) rest
+if_read e a b ts mid behind rest t c p = rw t.opens (ReadsIf t.reads c p)
+
+pub part_read : (word : ℕ) (ss : Statements) (ts behind rest : List Symbol) → ts ≡ symbols.Word word ∷ behind → ReadsBlock 256 behind ss rest
+    → ReadsPart 256 word ts ss rest
+part_read word ss ts behind rest h b = rw h (ReadsPartIs b)
+
+pub part_missing : (word : ℕ) (ts : List Symbol) → NoWord word ts → ReadsPart 256 word ts Empty ts
+part_missing word ts h = ReadsNoPart ts h

@@ -1,0 +1,14 @@
+-- The first symbol with which too many brackets are open.
+use Rattle.std.specs.Prelude.{◌≡◌, ◌+◌, ◌<◌, ℕ, List, [], ◌∷◌, ◌++◌, length}
+use Rattle.pipe_model.specs.declared.symbol.Symbol.{Symbol}
+use Rattle.pipe_model.specs.WholeSpelling.{IsShallow, open_brackets}
+
+-- the first symbol with which more than 64 brackets are open is the last of so many
+pub record OpensTooMany (ts : List Symbol) (k : ℕ) : Type 0 where
+  pub before : List Symbol
+  pub t : Symbol
+  pub after : List Symbol
+  pub split : ts ≡ before ++ t ∷ after
+  pub many : length before + 1 ≡ k
+  pub shallow : IsShallow before
+  pub deep : 64 < open_brackets (before ++ t ∷ [])

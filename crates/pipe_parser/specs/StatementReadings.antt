@@ -1,0 +1,41 @@
+-- Parts of statements as their readers take them.
+use Rattle.std.specs.Prelude.{◌≡◌, List, [], ◌∷◌, Option, Some, None}
+use Rattle.pipe_model.specs.declared.symbol.Symbol.{Symbol}
+use Rattle.pipe_model.specs.declared.tree.Expr.{Expr}
+use Rattle.pipe_model.specs.ProgramMachine.{Want, Sign, AnyName, FullExpression, StageNumber, Statements, Part}
+use Rattle.pipe_model.specs.SyntaxTree.{Expression, expression_of}
+use Rattle.pipe_model.specs.WholeReading.{ReadsFull}
+use Rattle.pipe_model.specs.Words.{open_round, close_round, semicolon}
+
+-- what a test, an assignment and parts of other statements are
+abbrev pub test : List Want
+test = Sign 40 ∷ FullExpression ∷ Sign 41 ∷ []
+
+abbrev pub binding : List Want
+binding = AnyName ∷ Sign 61 ∷ FullExpression ∷ Sign 59 ∷ []
+
+abbrev pub element : List Want
+element = FullExpression ∷ Sign 93 ∷ Sign 61 ∷ FullExpression ∷ Sign 59 ∷ []
+
+abbrev pub stage : List Want
+stage = Sign 40 ∷ StageNumber ∷ Sign 41 ∷ Sign 59 ∷ []
+
+abbrev pub block : List Want
+block = Sign 123 ∷ Statements ∷ Sign 125 ∷ []
+
+abbrev pub repetition : List Want
+repetition = Sign 40 ∷ FullExpression ∷ Sign 41 ∷ Sign 123 ∷ Statements ∷ Sign 125 ∷ []
+
+abbrev pub choice : List Want
+choice = Sign 40 ∷ FullExpression ∷ Sign 41 ∷ Sign 123 ∷ Statements ∷ Sign 125 ∷ Part 14 ∷ []
+
+-- a test in brackets
+pub record ReadsTest (ts : List Symbol) (e : Expression) (rest : List Symbol) : Type 0 where
+  pub inside : List Symbol
+  pub opens : ts ≡ open_round ∷ inside
+  pub reads : ReadsFull 256 inside e (close_round ∷ rest)
+
+-- a stage number in brackets, or none, and the semicolon behind it
+abbrev pub ReadsStage : List Symbol → Option Expr → List Symbol → Type 0
+ReadsStage ts None rest = ts ≡ open_round ∷ close_round ∷ semicolon ∷ rest
+ReadsStage ts (Some e) rest = ReadsTest ts (expression_of e) (semicolon ∷ rest)

@@ -1,0 +1,60 @@
+//! How many brackets are open.
+
+ghost use Rattle.std.specs.Prelude.{◌≡◌, IfNone, IfSome, List, cond, ℕ};
+ghost use Rattle.pipe_model.specs.Tokens.{symbol_as};
+ghost use Rattle.pipe_model.specs.WholeSpelling.{is_opening, is_closing, IsShallow};
+ghost use Rattle.pipe_parser.specs.Depths.{OpensTooMany};
+
+use crate::symbols::Symbols;
+use pipe_model::token::TokenKind;
+
+/// The most brackets that may be open at once.
+const DEEPEST: usize = 64;
+
+/// Whether this is `(`, `[` or `{`.
+fn is_opening(kind: TokenKind) -> bool
+    ensures { (text : List ℕ) → result ≡ is_opening (symbol_as kind text) }
+{
+    match kind {
+        TokenKind::Sign(b) => matches!(b, b'(' | b'[' | b'{'),
+        _ => false,
+    }
+}
+
+/// Whether this is `)`, `]` or `}`.
+fn is_closing(kind: TokenKind) -> bool
+    ensures { (text : List ℕ) → result ≡ is_closing (symbol_as kind text) }
+{
+    match kind {
+        TokenKind::Sign(b) => matches!(b, b')' | b']' | b'}'),
+        _ => false,
+    }
+}
+
+/// One where it is so, and else none.
+fn one_where(is_so: bool) -> usize
+    ensures { result ≡ cond is_so 1 0 }
+{
+    if is_so { 1 } else { 0 }
+}
+
+/// How many symbols there are up to the first with which too many brackets are open, this one counted in; `None` where
+/// there is none.
+pub fn first_too_deep(symbols: &Symbols) -> Option<usize>
+    ensures some { IfSome result (λ k. OpensTooMany symbols.now k) }
+    ensures none { IfNone result (IsShallow symbols.now) }
+{
+    let all = symbols.len();
+    let mut opened: usize = 0;
+    let mut closed: usize = 0;
+    let mut rest = symbols.behind(0);
+    while let Some(first) = rest.first() {
+        opened += one_where(is_opening(first.kind));
+        closed += one_where(is_closing(first.kind));
+        if DEEPEST < opened.saturating_sub(closed) {
+            return Some(all - first.behind.len());
+        }
+        rest = first.behind;
+    }
+    None
+}

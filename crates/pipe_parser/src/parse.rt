@@ -1,0 +1,178 @@
+//! Programs of the whole language, parsed from the tokens of their source.
+
+ghost use Rattle.std.specs.Prelude.{◌≡◌, ◌<◌, IfErr, IfOk, length};
+ghost use Rattle.pipe_model.specs.Marks.{is_mark, mark_places};
+ghost use Rattle.pipe_model.specs.SyntaxTree.{tree_of};
+ghost use Rattle.pipe_model.specs.Tokens.{IsLexed, symbols_in};
+ghost use Rattle.pipe_model.specs.WholeSpelling.{IsShallow, Spells};
+ghost use Rattle.pipe_parser.specs.Depths.{OpensTooMany};
+ghost use Rattle.pipe_parser.specs.Parses.{IsRefusal, IsFault, fault_place, IsFaultAt};
+ghost use Rattle.pipe_parser.specs.declared.parse.ParseFault.TheVariants as faults;
+
+use crate::depth::first_too_deep;
+use crate::fault::SyntaxFault;
+use crate::parse_program::read_program;
+use crate::symbols::Symbols;
+use pipe_model::list::Numbers;
+use pipe_model::token::{Token, TokenKind, Tokens};
+use pipe_model::tree::Program;
+use std::alloc::{AllocError, AllocFailed, Global};
+use thiserror::Error;
+
+/// A program and the places of its marks, in bytes from 0, in the order of the text. A mark is a token that is a name
+/// or one of the words `iter`, `pipe_wait` and `pipe_continue`.
+#[derive(Drop)]
+pub struct Parsed {
+    pub program: Program,
+    pub places: Numbers,
+}
+
+/// Why tokens are no program. The first token that breaks a rule counts; at one token the rules count in this order.
+#[derive(Clone, Copy, PartialEq, Eq, Debug, Error)]
+pub enum ParseFault {
+    /// The token at this place may not come there; or the source, which has so many bytes, ends too early.
+    #[error("what stands at byte {0} is unexpected")]
+    Unexpected(u32),
+    /// With the token at this place more than 64 brackets are open.
+    #[error("the bracket at byte {0} is too deep")]
+    TooDeep(u32),
+    /// The token at this place is number 257 of an expression that is no part of another.
+    #[error("the expression is too long at byte {0}")]
+    TooLong(u32),
+    /// Memory was refused.
+    #[error("memory was refused")]
+    NoMemory,
+}
+
+impl From<AllocError> for ParseFault {
+    ghost from_gives = { λ _ fault. fault ≡ faults.NoMemory };
+
+    fn from(_refused: AllocError) -> Self {
+        ParseFault::NoMemory
+    }
+}
+
+impl<T: Drop> From<AllocFailed<T>> for ParseFault {
+    ghost from_gives = { λ _ fault. fault ≡ faults.NoMemory };
+
+    fn from(_refused: AllocFailed<T>) -> Self {
+        ParseFault::NoMemory
+    }
+}
+
+/// Why symbols are no program, with how many of them stand before the first that breaks a rule.
+#[derive(Clone, Copy, PartialEq, Eq, Debug)]
+enum Refusal {
+    Unexpected(usize),
+    TooDeep(usize),
+    TooLong(usize),
+    NoMemory,
+}
+
+/// The program of symbols that never open too many brackets.
+fn read_shallow(alloc: Global, symbols: &Symbols) -> Result<Program, Refusal>
+    requires { IsShallow symbols.now }
+    ensures ok { IfOk result (λ program. Spells symbols.now (tree_of program)) }
+    ensures err { IfErr result (λ refusal. IsRefusal symbols.now refusal) }
+{
+    let all = symbols.len();
+    match read_program(alloc, symbols) {
+        Ok(program) => Ok(program),
+        Err(SyntaxFault::Unexpected(left)) => Err(Refusal::Unexpected(all - left)),
+        Err(SyntaxFault::TooLong(left)) => Err(Refusal::TooLong(all - left)),
+        Err(SyntaxFault::NoMemory) => Err(Refusal::NoMemory),
+    }
+}
+
+/// Why symbols are no program of which the last of so many opens a bracket too many. Nothing behind that one is read.
+fn refusal_up_to(alloc: Global, symbols: &Symbols, count: usize) -> Refusal
+    requires { OpensTooMany symbols.now count }
+    ensures { IsRefusal symbols.now result }
+{
+    let cut = symbols.front(count);
+    let Err(fault) = read_program(alloc, &cut) else {
+        return Refusal::TooDeep(count - 1);
+    };
+    match fault {
+        SyntaxFault::Unexpected(0) => Refusal::TooDeep(count - 1),
+        SyntaxFault::Unexpected(left) => Refusal::Unexpected(count - left),
+        SyntaxFault::TooLong(1) => Refusal::TooDeep(count - 1),
+        SyntaxFault::TooLong(left) => Refusal::TooLong(count - left),
+        SyntaxFault::NoMemory => Refusal::NoMemory,
+    }
+}
+
+/// The program of symbols.
+fn read_bounded(alloc: Global, symbols: &Symbols) -> Result<Program, Refusal>
+    ensures ok { IfOk result (λ program. Spells symbols.now (tree_of program)) }
+    ensures err { IfErr result (λ refusal. IsRefusal symbols.now refusal) }
+{
+    match first_too_deep(symbols) {
+        Some(count) => Err(refusal_up_to(alloc, symbols, count)),
+        None => read_shallow(alloc, symbols),
+    }
+}
+
+/// The place of a token, in bytes; behind the last token the length of the source.
+fn place_at(source: &[u8], tokens: &[Token], before: usize) -> u32
+    requires { length source.now < 4294967296 }
+    ensures { result ≡ fault_place source.now tokens.now before }
+{
+    match tokens.get(before) {
+        Some(token) => token.place,
+        None => source.len() as u32,
+    }
+}
+
+/// The refusal with its place in the source.
+fn fault_of(source: &[u8], tokens: &[Token], refusal: Refusal) -> ParseFault
+    requires { length source.now < 4294967296 }
+    ensures { IsFaultAt source.now tokens.now refusal result }
+{
+    match refusal {
+        Refusal::Unexpected(before) => ParseFault::Unexpected(place_at(source, tokens, before)),
+        Refusal::TooDeep(before) => ParseFault::TooDeep(place_at(source, tokens, before)),
+        Refusal::TooLong(before) => ParseFault::TooLong(place_at(source, tokens, before)),
+        Refusal::NoMemory => ParseFault::NoMemory,
+    }
+}
+
+/// Whether a token of this kind is a mark.
+fn is_mark(kind: TokenKind) -> bool
+    ensures { result ≡ is_mark kind }
+{
+    matches!(kind, TokenKind::Name | TokenKind::Word(9 | 10 | 19))
+}
+
+/// The places of the marks.
+fn places_of_marks(alloc: Global, tokens: &[Token]) -> Result<Numbers, ParseFault>
+    ensures ok { IfOk result (λ places. places ≡ mark_places tokens.now) }
+    ensures err { IfErr result (λ fault. fault ≡ faults.NoMemory) }
+{
+    let mut places = Numbers::new(alloc);
+    for token in tokens {
+        if is_mark(token.kind) {
+            places.push(i64::from(token.place))?;
+        }
+    }
+    Ok(places)
+}
+
+/// Parses the tokens of a source. The program is the one that they spell; otherwise the fault is that of the first token
+/// that breaks a rule, with its place in bytes, or with the source's length where the source ends too early.
+/// `NoMemory` is the answer where memory was refused, whatever the tokens.
+pub fn parse(alloc: Global, source: &[u8], tokens: &Tokens) -> Result<Parsed, ParseFault>
+    requires lexed { IsLexed source.now tokens.now }
+    ensures program { IfOk result (λ parsed. Spells (symbols_in source.now tokens.now) (tree_of parsed.program)) }
+    ensures places { IfOk result (λ parsed. parsed.places ≡ mark_places tokens.now) }
+    ensures fault { IfErr result (λ fault. IsFault source.now tokens.now fault) }
+{
+    let symbols = Symbols::new(source, tokens.as_slice());
+    match read_bounded(alloc, &symbols) {
+        Ok(program) => {
+            let places = places_of_marks(alloc, tokens.as_slice())?;
+            Ok(Parsed { program, places })
+        }
+        Err(refusal) => Err(fault_of(source, tokens.as_slice(), refusal)),
+    }
+}
