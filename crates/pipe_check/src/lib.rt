@@ -1,0 +1,11 @@
+//! The rules that a program obeys beside its grammar: limits in their ranges, and names that are declared once, before they are
+//! used, and used as what they are.
+#![tactic(auto)]
+
+mod cells;
+mod expression;
+mod fault;
+mod scope;
+mod statement;
+
+pub use fault::CheckFault;
