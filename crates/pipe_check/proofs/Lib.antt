@@ -1,3 +1,4 @@
+pub mod LimitOrder
 pub mod Results
 pub mod Faults
 pub mod Expressions
@@ -6,3 +7,4 @@ pub mod Scopes
 pub mod Blocks
 pub mod Statements
 pub mod CellTables
+pub mod Regions

@@ -3,9 +3,14 @@
 #![tactic(auto)]
 
 mod cells;
+mod checked;
 mod expression;
 mod fault;
+mod limits;
+mod program;
 mod scope;
 mod statement;
 
+pub use program::check;
+pub use checked::Checked;
 pub use fault::CheckFault;

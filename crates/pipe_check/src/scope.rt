@@ -19,14 +19,14 @@ const MOST_LOCALS: usize = 64;
 /// What is known at a place of a program's text: its region, the cells, the locals in scope, and the names of all the `let`
 /// statements of the region so far.
 #[derive(Drop)]
-pub struct Scope<'a> {
+pub struct Scope<'a, 'b> {
     region: Region,
-    cells: &'a Cells<'a>,
+    cells: &'a Cells<'b>,
     visible: Vec<Name>,
     lets: Vec<Name>,
 }
 
-impl<'a> Model for Scope<'a> {
+impl<'a, 'b> Model for Scope<'a, 'b> {
     ghost use Rattle.pipe_model.specs.Marks.{Scope as Known};
 
     ghost Value = { Known };
@@ -41,9 +41,9 @@ fn is_among(names: &[Name], name: &Name) -> bool
     names.iter().any(|other| other.is(name))
 }
 
-impl<'a> Scope<'a> {
+impl<'a, 'b> Scope<'a, 'b> {
     /// What is known at the beginning of a region.
-    pub fn opening(alloc: Global, region: Region, cells: &'a Cells<'a>) -> Self
+    pub fn opening(alloc: Global, region: Region, cells: &'a Cells<'b>) -> Self
         ensures { result ≡ opening region cells.now }
     {
         Scope {
