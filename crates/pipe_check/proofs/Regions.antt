@@ -43,7 +43,7 @@ region_fits : (k : ℕ) (a b all : List Mark) → AreLeft k (a ++ b) all → Fit
 region_fits k a b all at = fits_first k a b at.fit
 
 -- as many marks as declarations
-cells_length : (before cells : List Declaration) → length (marks_of_cells before cells) ≡ length cells
+pub cells_length : (before cells : List Declaration) → length (marks_of_cells before cells) ≡ length cells
 cells_length before [] = refl
 cells_length before (d ∷ ds) = let rest = cells_length (before ++ d ∷ []) ds in omega (arith, rest)
 

@@ -10,7 +10,9 @@ mod limits;
 mod program;
 mod scope;
 mod statement;
+#[cfg(test)]
+mod tests;
 
-pub use program::check;
 pub use checked::Checked;
 pub use fault::CheckFault;
+pub use program::check;

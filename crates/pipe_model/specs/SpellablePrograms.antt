@@ -1,6 +1,6 @@
 -- What holds of every program that a source spells, whether it obeys the rules or not: its operators are those of the language,
 -- no number of its declarations is negative where the grammar has no sign, and its size is bounded as a source's length is.
-use Rattle.std.specs.Prelude.{◌≡◌, ◌≤◌, ◌≤ℤ◌, ℕ, ℤ, pos, Bool, true, ◌&&◌, List, [], ◌∷◌, ◌++◌, length, map, sum, All, Option, Some, None, ◌+◌, nat_le}
+use Rattle.std.specs.Prelude.{◌≡◌, ◌≤◌, ◌≤ℤ◌, ℕ, ℤ, pos, Bool, true, ◌&&◌, List, [], ◌∷◌, ◌++◌, length, sum_by, All, Option, Some, None, ◌+◌, nat_le}
 use Rattle.pipe_model.specs.declared.tree.Declaration.{Declaration}
 use Rattle.pipe_model.specs.Marks.{marks_of}
 use Rattle.pipe_model.specs.SyntaxTree.{Expression, Number, Name, Element, And, Or, Binary, Unary, More, Take, Iter, Statement, Let, Assign, AssignElement, Emit, If, While, Stage, NextStage, Statements, Empty, Then, SyntaxTree}
@@ -72,7 +72,7 @@ expressions_of tree = expressions_of_statements tree.init ++ (tree.test ∷ (exp
 -- how many marks, nodes of expressions and statements a program has
 abbrev pub size_of : SyntaxTree → ℕ
 size_of tree =
-    length (marks_of tree) + (sum (map node_count (expressions_of tree))
+    length (marks_of tree) + (sum_by node_count (expressions_of tree)
     + (statement_counts tree.init + (statement_counts tree.body + statement_counts tree.last)))
 
 -- the size of an array is not negative
