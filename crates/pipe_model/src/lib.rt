@@ -8,6 +8,7 @@ pub mod list;
 pub mod memory;
 pub mod name;
 pub mod node;
+pub mod region;
 pub mod report;
 pub mod symbol;
 pub mod token;

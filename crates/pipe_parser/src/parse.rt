@@ -1,7 +1,7 @@
 //! Programs of the whole language, parsed from the tokens of their source.
 
 ghost use Rattle.std.specs.Prelude.{◌≡◌, ◌<◌, IfErr, IfOk, length};
-ghost use Rattle.pipe_model.specs.Marks.{is_mark, mark_places};
+ghost use Rattle.pipe_model.specs.MarkPlaces.{is_mark, mark_places};
 ghost use Rattle.pipe_model.specs.SyntaxTree.{tree_of};
 ghost use Rattle.pipe_model.specs.Tokens.{IsLexed, symbols_in};
 ghost use Rattle.pipe_model.specs.WholeSpelling.{IsShallow, Spells};

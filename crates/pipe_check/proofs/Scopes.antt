@@ -1,0 +1,35 @@
+-- Statements bring locals into scope behind those that are in scope already, so the first ones are those of the place where they began.
+use Rattle.std.proofs.Common.{◌≡◌, ◌∙◌, ℕ, List, [], ◌∷◌, ◌++◌, length, take, refl, sym, ap, append_assoc, append-nil}
+use Rattle.std.proofs.Math.Seq.{take-append_seam}
+use Rattle.pipe_model.specs.Marks.{Scope, after_statement, after_statements}
+use Rattle.pipe_model.specs.SyntaxTree.{Statement, Let, Assign, AssignElement, Emit, If, While, Stage, NextStage, Statements, Empty, Then}
+
+record Extends (before after : List (List ℕ)) : Type 0 where
+  pub more : List (List ℕ)
+  pub is : after ≡ before ++ more
+
+same : (names : List (List ℕ)) → Extends names names
+same names = record { more = []; is = sym (append-nil names) }
+
+extends_once : (scope : Scope) (s : Statement) → Extends scope.visible (after_statement scope s).visible
+extends_once scope (Let x e) = record { more = x ∷ []; is = refl }
+extends_once scope (Assign x e) = same scope.visible
+extends_once scope (AssignElement x i e) = same scope.visible
+extends_once scope (Emit e) = same scope.visible
+extends_once scope (If e a b) = same scope.visible
+extends_once scope (While e a) = same scope.visible
+extends_once scope (Stage kind e) = same scope.visible
+extends_once scope (NextStage kind) = same scope.visible
+
+extends : (scope : Scope) (ss : Statements) → Extends scope.visible (after_statements scope ss).visible
+extends scope Empty = same scope.visible
+extends scope (Then s ss) =
+    let one = extends_once scope s in
+    let rest = extends (after_statement scope s) ss in
+    record { more = one.more ++ rest.more; is = rest.is ∙ ap (λ names. names ++ rest.more) one.is ∙ append_assoc scope.visible one.more rest.more }
+
+-- at the end of a block the first locals are those that were in scope at its beginning
+pub first_visible : (scope : Scope) (ss : Statements) → take (length scope.visible) (after_statements scope ss).visible ≡ scope.visible
+first_visible scope ss =
+    let all = extends scope ss in
+    ap (take (length scope.visible)) all.is ∙ take-append_seam scope.visible all.more

@@ -1,0 +1,4 @@
+pub mod Passing
+pub mod CellTables
+pub mod Accepted
+pub mod Weights

@@ -1,0 +1,110 @@
+//! The declared cells of a program.
+
+ghost use Rattle.std.specs.Prelude.{◌≡◌, ◌≤◌, ◌<◌, [], None, All, IfOk, IfErr, IfSome, IfNone, OnOk, length};
+ghost use Rattle.pipe_check.specs.Passing.{Tells};
+ghost use Rattle.pipe_model.specs.CheckingRules.{cell_total, first_fault, size_in};
+ghost use Rattle.pipe_model.specs.Marks.{marks_of_cells};
+ghost use Rattle.pipe_model.specs.Programs.{declared_size};
+ghost use Rattle.pipe_model.specs.SpellablePrograms.{HasNoNegativeSize};
+ghost use Rattle.pipe_model.specs.declared.tree.Declaration.{Declaration as Declared};
+
+use crate::fault::CheckFault;
+use pipe_model::name::Name;
+use pipe_model::tree::Declaration;
+use std::alloc::Global;
+use std::collections::BTreeMap;
+use std::marker::Model;
+
+/// The most cells of a program, array elements counted.
+const MOST_CELLS: u32 = 65_536;
+
+/// The declared cells of a program, found by their names. Contracts see the declarations.
+#[derive(Drop)]
+pub struct Cells<'a> {
+    declared: &'a [Declaration],
+    sizes: BTreeMap<&'a [u8], Option<i64>>,
+    total: u32,
+}
+
+impl<'a> Model for Cells<'a> {
+    ghost use Rattle.std.specs.Prelude.{List};
+    ghost use Rattle.pipe_model.specs.declared.tree.Declaration.{Declaration};
+
+    ghost Value = { List Declaration };
+
+    ghost use Rattle.pipe_check.specs.CellTables.{IsTable};
+
+    ghost view = { λ c. c.declared.now };
+
+    ghost invariant = { λ c. IsTable c.sizes c.total c.declared.now };
+}
+
+/// How many cells a declaration has, where they are at most so many.
+fn count_of(size: Option<i64>, most: u32) -> Option<u32>
+    requires size { HasNoNegativeSize size }
+    ensures some { IfSome result (λ count. count ≡ declared_size size) }
+    ensures within { IfSome result (λ count. count ≤ most) }
+    ensures none { IfNone result (most < declared_size size) }
+{
+    let count = size.unwrap_or(1);
+    if count > i64::from(most) {
+        return None;
+    }
+    Some(count as u32)
+}
+
+impl<'a> Cells<'a> {
+    /// The cells that are declared, each once, or the first fault of the declarations.
+    pub fn of(alloc: Global, declared: &'a [Declaration]) -> Result<Self, CheckFault>
+        requires sizes { All (λ (d : Declared). HasNoNegativeSize d.size) declared.now }
+        requires few { length declared.now ≤ 4194304 }
+        ensures cells { IfOk result (λ cells. cells ≡ declared.now) }
+        ensures ok { OnOk result (first_fault 0 (marks_of_cells [] declared.now) ≡ None) }
+        ensures err { IfErr result (λ fault. Tells fault (first_fault 0 (marks_of_cells [] declared.now))) }
+    {
+        let mut sizes = BTreeMap::new(alloc);
+        let mut total = 0;
+        let mut next = 0;
+        for cell in declared {
+            if sizes.contains_key(cell.name.as_bytes()) {
+                return Err(CheckFault::Twice(next));
+            }
+            let Some(count) = count_of(cell.size, MOST_CELLS - total) else {
+                return Err(CheckFault::TooManyCells(next));
+            };
+            if count == 0 {
+                return Err(CheckFault::ZeroSize(next));
+            }
+            sizes.insert(cell.name.as_bytes(), cell.size)?;
+            total += count;
+            next += 1;
+        }
+        Ok(Cells {
+            declared,
+            sizes,
+            total,
+        })
+    }
+
+    /// How many names are declared.
+    pub fn len(&self) -> usize
+        ensures { result ≡ length self.now }
+    {
+        self.declared.len()
+    }
+
+    /// How many cells there are, array elements counted: at most 65,536.
+    pub fn total(&self) -> u32
+        ensures total { result ≡ cell_total self.now }
+        ensures few { result ≤ 65536 }
+    {
+        self.total
+    }
+
+    /// The size with which the name is declared, where it is the name of a cell; a plain cell has none.
+    pub fn size_of(&self, name: &Name) -> Option<Option<i64>>
+        ensures { result ≡ size_in self.now name.now }
+    {
+        self.sizes.get(name.as_bytes()).copied()
+    }
+}

@@ -1,0 +1,43 @@
+//! The limits of a program.
+
+ghost use Rattle.std.specs.Prelude.{◌≡◌};
+ghost use Rattle.pipe_model.specs.CheckingRules.{limit_out};
+ghost use Rattle.pipe_model.specs.Rules.{is_between};
+
+use pipe_model::tree::Limits;
+
+/// The most stage instances of a run.
+const MOST_INSTANCES: i64 = 262_144;
+
+/// The most emitted numbers.
+const MOST_EMITS: i64 = 1_048_576;
+
+/// Whether the number is from low to high, both counted in.
+fn is_between(low: i64, high: i64, number: i64) -> bool
+    ensures { result ≡ is_between low high number }
+{
+    low <= number && number <= high
+}
+
+/// The first limit that is out of its range: 1 the iterations, 2 the stages, 3 the product of the two, 4 the steps, 5 the emitted
+/// numbers.
+pub fn limit_out(limits: &Limits) -> Option<u32>
+    ensures { result ≡ limit_out limits.now }
+{
+    if !is_between(1, 65_536, limits.iterations) {
+        return Some(1);
+    }
+    if !is_between(1, 4096, limits.stages) {
+        return Some(2);
+    }
+    if limits.iterations * limits.stages > MOST_INSTANCES {
+        return Some(3);
+    }
+    if !is_between(1, 1_000_000, limits.steps) {
+        return Some(4);
+    }
+    if limits.emits > MOST_EMITS {
+        return Some(5);
+    }
+    None
+}

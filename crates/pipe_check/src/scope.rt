@@ -1,0 +1,147 @@
+//! What is known at a place of a program's text.
+
+ghost use Rattle.std.specs.Prelude.{◌≡◌, ◌<◌, ◌∷◌, [], OnOk, length, take};
+ghost use Rattle.pipe_check.specs.Passing.{Passes};
+ghost use Rattle.pipe_model.specs.Marks.{DeclaredLocal, Indexed, IterWord, Plain, StageWord, at, opening, with_local};
+ghost use Rattle.pipe_model.specs.Rules.{is_among};
+
+use crate::cells::Cells;
+use crate::fault::CheckFault;
+use pipe_model::memory::NoMemory;
+use pipe_model::name::Name;
+use pipe_model::region::Region;
+use std::alloc::Global;
+use std::marker::Model;
+
+/// The most `let` statements of `init`, of the loop's body and of `final`.
+const MOST_LOCALS: usize = 64;
+
+/// What is known at a place of a program's text: its region, the cells, the locals in scope, and the names of all the `let`
+/// statements of the region so far.
+#[derive(Drop)]
+pub struct Scope<'a, 'b> {
+    region: Region,
+    cells: &'a Cells<'b>,
+    visible: Vec<Name>,
+    lets: Vec<Name>,
+}
+
+impl<'a, 'b> Model for Scope<'a, 'b> {
+    ghost use Rattle.pipe_model.specs.Marks.{Scope as Known};
+
+    ghost Value = { Known };
+
+    ghost view = { λ s. record { region = s.region; cells = s.cells.now; visible = s.visible.items; lets = s.lets.items } };
+}
+
+/// Whether the name is one of these.
+fn is_among(names: &[Name], name: &Name) -> bool
+    ensures { result ≡ is_among names.now name.now }
+{
+    names.iter().any(|other| other.is(name))
+}
+
+impl<'a, 'b> Scope<'a, 'b> {
+    /// What is known at the beginning of a region.
+    pub fn opening(alloc: Global, region: Region, cells: &'a Cells<'b>) -> Self
+        ensures { result ≡ opening region cells.now }
+    {
+        Scope {
+            region,
+            cells,
+            visible: Vec::new(alloc),
+            lets: Vec::new(alloc),
+        }
+    }
+
+    /// The mark of a used name without an index.
+    pub fn check_plain(&self, next: u32, name: &Name) -> Result<u32, CheckFault>
+        requires { next < 4194304 }
+        ensures { Passes result next (at self.now (Plain name.now) ∷ []) }
+    {
+        if is_among(&self.visible, name) {
+            return Ok(next + 1);
+        }
+        match self.cells.size_of(name) {
+            None => Err(CheckFault::Unknown(next)),
+            Some(None) => Ok(next + 1),
+            Some(Some(_)) => Err(CheckFault::NeedsIndex(next)),
+        }
+    }
+
+    /// The mark of a used name with an index.
+    pub fn check_indexed(&self, next: u32, name: &Name) -> Result<u32, CheckFault>
+        requires { next < 4194304 }
+        ensures { Passes result next (at self.now (Indexed name.now) ∷ []) }
+    {
+        if is_among(&self.visible, name) {
+            return Err(CheckFault::NotAnArray(next));
+        }
+        match self.cells.size_of(name) {
+            None => Err(CheckFault::Unknown(next)),
+            Some(None) => Err(CheckFault::NotAnArray(next)),
+            Some(Some(_)) => Ok(next + 1),
+        }
+    }
+
+    /// The mark of `iter`.
+    pub fn check_iter(&self, next: u32) -> Result<u32, CheckFault>
+        requires { next < 4194304 }
+        ensures { Passes result next (at self.now IterWord ∷ []) }
+    {
+        match self.region {
+            Region::Test | Region::Body => Ok(next + 1),
+            Region::Cells | Region::Init | Region::Last => Err(CheckFault::PipeOutside(next)),
+        }
+    }
+
+    /// The mark of the word of a stage statement.
+    pub fn check_stage(&self, next: u32) -> Result<u32, CheckFault>
+        requires { next < 4194304 }
+        ensures { Passes result next (at self.now StageWord ∷ []) }
+    {
+        match self.region {
+            Region::Body => Ok(next + 1),
+            Region::Cells | Region::Init | Region::Test | Region::Last => {
+                Err(CheckFault::PipeOutside(next))
+            }
+        }
+    }
+
+    /// The mark of the name that a `let` declares.
+    pub fn check_local(&self, next: u32, name: &Name) -> Result<u32, CheckFault>
+        requires { next < 4194304 }
+        ensures { Passes result next (at self.now (DeclaredLocal name.now) ∷ []) }
+    {
+        if self.cells.size_of(name).is_some() || is_among(&self.lets, name) {
+            return Err(CheckFault::Twice(next));
+        }
+        if self.lets.len() >= MOST_LOCALS {
+            return Err(CheckFault::TooManyLocals(next));
+        }
+        Ok(next + 1)
+    }
+
+    /// Brings a local into scope.
+    pub fn declare(&mut self, alloc: Global, name: &Name) -> Result<(), NoMemory>
+        ensures { OnOk result (self.new ≡ with_local self.old name.now) }
+    {
+        self.visible.push(Name::new(alloc, name.as_bytes())?)?;
+        self.lets.push(Name::new(alloc, name.as_bytes())?)?;
+        Ok(())
+    }
+
+    /// How many locals are in scope.
+    pub fn visible_len(&self) -> usize
+        ensures { result ≡ length self.now.visible }
+    {
+        self.visible.len()
+    }
+
+    /// Takes all locals out of scope but the first ones.
+    pub fn leave(&mut self, kept: usize)
+        ensures { self.new ≡ record { region = self.old.region; cells = self.old.cells; visible = take kept self.old.visible; lets = self.old.lets } }
+    {
+        self.visible.truncate(kept);
+    }
+}

@@ -1,0 +1,123 @@
+//! The marks of statements.
+
+ghost use Rattle.std.specs.Prelude.{◌≡◌, OnOk};
+ghost use Rattle.pipe_check.specs.Passing.{Fits, Passes};
+ghost use Rattle.pipe_model.specs.Marks.{after_block, after_statement, marks_of_statement, marks_of_statements};
+ghost use Rattle.pipe_model.specs.SyntaxTree.{Assign, AssignElement, Let, expression_of, stage_statement, statement_of, statements_of};
+ghost use Rattle.pipe_model.specs.declared.node.Kind.TheVariants as kinds;
+
+use crate::expression::check_expression;
+use crate::fault::CheckFault;
+use crate::scope::Scope;
+use pipe_model::name::Name;
+use pipe_model::tree::{Block, Expr, Stmt};
+use std::alloc::Global;
+
+// a declaration of a local, which is in scope behind its expression
+fn check_let(
+    alloc: Global,
+    scope: &mut Scope,
+    next: u32,
+    name: &Name,
+    e: &Expr,
+) -> Result<u32, CheckFault>
+    requires fits { Fits next (marks_of_statement scope.old (Let name.now (expression_of e.now))) }
+    ensures marks { Passes result next (marks_of_statement scope.old (Let name.now (expression_of e.now))) }
+    ensures behind { OnOk result (scope.new ≡ after_statement scope.old (Let name.now (expression_of e.now))) }
+{
+    let next = scope.check_local(next, name)?;
+    let next = check_expression(scope, next, e)?;
+    scope.declare(alloc, name)?;
+    Ok(next)
+}
+
+// an assignment to a local or a plain cell
+fn check_assign(scope: &Scope, next: u32, name: &Name, e: &Expr) -> Result<u32, CheckFault>
+    requires fits { Fits next (marks_of_statement scope.now (Assign name.now (expression_of e.now))) }
+    ensures { Passes result next (marks_of_statement scope.now (Assign name.now (expression_of e.now))) }
+{
+    let next = scope.check_plain(next, name)?;
+    check_expression(scope, next, e)
+}
+
+// an assignment to an element of an array
+fn check_element(
+    scope: &Scope,
+    next: u32,
+    name: &Name,
+    i: &Expr,
+    e: &Expr,
+) -> Result<u32, CheckFault>
+    requires fits { Fits next (marks_of_statement scope.now (AssignElement name.now (expression_of i.now) (expression_of e.now))) }
+    ensures { Passes result next (marks_of_statement scope.now (AssignElement name.now (expression_of i.now) (expression_of e.now))) }
+{
+    let next = scope.check_indexed(next, name)?;
+    let next = check_expression(scope, next, i)?;
+    check_expression(scope, next, e)
+}
+
+// a stage statement, with or without a number
+fn check_stage(scope: &Scope, next: u32, number: &Option<Expr>) -> Result<u32, CheckFault>
+    requires fits { Fits next (marks_of_statement scope.now (stage_statement kinds.Wait number.now)) }
+    ensures { Passes result next (marks_of_statement scope.now (stage_statement kinds.Wait number.now)) }
+{
+    let next = scope.check_stage(next)?;
+    match number {
+        Some(e) => check_expression(scope, next, e),
+        None => Ok(next),
+    }
+}
+
+/// The marks of a statement, from the one with this number on: the number behind them, or the first fault. The scope is then that
+/// behind the statement.
+#[cycle(walk)]
+fn check_statement(
+    alloc: Global,
+    scope: &mut Scope,
+    next: u32,
+    s: &Stmt,
+) -> Result<u32, CheckFault>
+    requires fits { Fits next (marks_of_statement scope.old (statement_of s.now)) }
+    ensures marks { Passes result next (marks_of_statement scope.old (statement_of s.now)) }
+    ensures behind { OnOk result (scope.new ≡ after_statement scope.old (statement_of s.now)) }
+{
+    match s {
+        Stmt::Let(name, e) => check_let(alloc, scope, next, name, e),
+        Stmt::Assign(name, e) => check_assign(scope, next, name, e),
+        Stmt::AssignElement(name, i, e) => check_element(scope, next, name, i, e),
+        Stmt::Emit(e) => check_expression(scope, next, e),
+        Stmt::If(e, a, b) => {
+            let next = check_expression(scope, next, e)?;
+            let next = check_block(alloc, scope, next, a)?;
+            check_block(alloc, scope, next, b)
+        }
+        Stmt::While(e, a) => {
+            let next = check_expression(scope, next, e)?;
+            check_block(alloc, scope, next, a)
+        }
+        Stmt::Wait(number) => check_stage(scope, next, number),
+        Stmt::Continue(number) => check_stage(scope, next, number),
+    }
+}
+
+/// The marks of a block, from the one with this number on: the number behind them, or the first fault. Its locals are then out of
+/// scope.
+#[cycle(walk)]
+pub fn check_block(
+    alloc: Global,
+    scope: &mut Scope,
+    next: u32,
+    block: &Block,
+) -> Result<u32, CheckFault>
+    requires fits { Fits next (marks_of_statements scope.old (statements_of block.now.statements.items)) }
+    ensures marks { Passes result next (marks_of_statements scope.old (statements_of block.now.statements.items)) }
+    ensures behind { OnOk result (scope.new ≡ after_block scope.old (statements_of block.now.statements.items)) }
+{
+    let visible = scope.visible_len();
+    let mut next = next;
+    for s in &block.statements {
+        next = check_statement(alloc, scope, next, s)?;
+    }
+    scope.leave(visible);
+    Ok(next)
+}

@@ -1,0 +1,18 @@
+-- The places of marks: of the tokens that the rules of programs speak of, which are the names and the words `iter`, `pipe_wait` and `pipe_continue`.
+use Rattle.std.specs.Prelude.{ℕ, ℤ, pos, List, [], ◌∷◌, Bool, true, false, ◌==◌, ◌||◌, if◌then◌else◌}
+use Rattle.pipe_model.specs.declared.token.Token.{Token}
+use Rattle.pipe_model.specs.declared.token.TokenKind.{TokenKind}
+use Rattle.pipe_model.specs.declared.token.TokenKind.TheVariants as kinds
+
+-- a token of this kind is a mark
+abbrev pub is_mark : TokenKind → Bool
+is_mark kinds.Name = true
+is_mark (kinds.Word k) = (k == 9) || ((k == 10) || (k == 19))
+is_mark (kinds.Number n) = false
+is_mark (kinds.Operator code) = false
+is_mark (kinds.Sign b) = false
+
+-- the places of the marks, in the order of the text
+abbrev pub mark_places : List Token → List ℤ
+mark_places [] = []
+mark_places (token ∷ tokens) = if is_mark token.kind then pos token.place ∷ mark_places tokens else mark_places tokens
