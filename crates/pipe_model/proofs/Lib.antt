@@ -21,3 +21,4 @@ pub mod ProgramFaults
 pub mod FirstFaults
 pub mod FaultRules
 pub mod TokenLaws
+pub mod NestedBlocks
