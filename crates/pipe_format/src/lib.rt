@@ -4,4 +4,6 @@
 mod expression;
 pub mod program;
 mod statement;
+#[cfg(test)]
+mod tests;
 mod text;

@@ -22,3 +22,7 @@ pub mod FirstFaults
 pub mod FaultRules
 pub mod TokenLaws
 pub mod NestedBlocks
+pub mod CanonicalDerivations
+pub mod WrittenTokens
+pub mod Writings
+pub mod CanonicalDivision
