@@ -50,7 +50,7 @@ is_none (Some x) h = absurd (let e : true ≡ false = h in cc (e))
 pub table_more : (sizes grown : BTreeMap (Bor (List ℕ)) (Option ℤ)) (total count : ℕ) (ds : List Declaration) (d : Declaration) (key : Bor (List ℕ))
     → IsTable sizes total ds → key.now ≡ d.name → is_cell ds d.name ≡ false → count ≡ declared_size d.size → total + count ≤ 65536
     → ((x : Bor (List ℕ)) → get (λ a b. slice_cmp nat_cmp a.now b.now) grown x
-        ≡ cond (is_eq (slice_cmp nat_cmp key.now x.now)) (Some d.size) (get (λ a b. slice_cmp nat_cmp a.now b.now) sizes x))
+    ≡ cond (is_eq (slice_cmp nat_cmp key.now x.now)) (Some d.size) (get (λ a b. slice_cmp nat_cmp a.now b.now) sizes x))
     → IsTable grown (total + count) (ds ++ d ∷ [])
 table_more sizes grown total count ds d key table named new counted few updates = record {
   found = λ x. updates x ∙ ap (λ o. cond (is_eq (slice_cmp nat_cmp key.now x.now)) (Some d.size) o) (table.found x)

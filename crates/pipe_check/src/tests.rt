@@ -45,7 +45,9 @@ fn weigh_statement(s: &Stmt) -> Option<u32>
         Stmt::Let(_, e) => weigh_whole(e)?.checked_add(1),
         Stmt::Assign(_, e) => weigh_whole(e)?.checked_add(1),
         Stmt::Emit(e) => weigh_whole(e)?.checked_add(1),
-        Stmt::AssignElement(_, i, e) => weigh_whole(i)?.checked_add(weigh_whole(e)?)?.checked_add(1),
+        Stmt::AssignElement(_, i, e) => weigh_whole(i)?
+            .checked_add(weigh_whole(e)?)?
+            .checked_add(1),
         Stmt::Wait(Some(e)) => weigh_whole(e)?.checked_add(1),
         Stmt::Continue(Some(e)) => weigh_whole(e)?.checked_add(1),
         Stmt::Wait(None) | Stmt::Continue(None) => Some(1),
@@ -53,7 +55,9 @@ fn weigh_statement(s: &Stmt) -> Option<u32>
             let blocks = weigh_all(&a.statements)?.checked_add(weigh_all(&b.statements)?)?;
             weigh_whole(e)?.checked_add(blocks)?.checked_add(1)
         }
-        Stmt::While(e, a) => weigh_whole(e)?.checked_add(weigh_all(&a.statements)?)?.checked_add(1),
+        Stmt::While(e, a) => weigh_whole(e)?
+            .checked_add(weigh_all(&a.statements)?)?
+            .checked_add(1),
     }
 }
 
@@ -74,8 +78,12 @@ fn weigh_program(program: &Program) -> Option<u32>
         (statement_counts (statements_of program.now.init.statements.items) + (statement_counts (statements_of program.now.body.statements.items)
         + statement_counts (statements_of program.now.last.statements.items)))) }
 {
-    let loop_weight = weigh_all(&program.body.statements)?.checked_add(weigh_all(&program.last.statements)?)?;
-    weigh_all(&program.init.statements)?.checked_add(weigh_whole(&program.test)?.checked_add(loop_weight)?)
+    let loop_weight = weigh_all(&program.body.statements)?.checked_add(weigh_all(
+        &program.last.statements,
+    )?)?;
+    weigh_all(&program.init.statements)?.checked_add(weigh_whole(&program.test)?.checked_add(
+        loop_weight,
+    )?)
 }
 
 // Whether no size is negative.

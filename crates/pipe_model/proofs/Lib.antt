@@ -24,3 +24,7 @@ pub mod TokenLaws
 pub mod ExpressionWindows
 pub mod NestedBlocks
 pub mod OpenBrackets
+pub mod CanonicalDerivations
+pub mod WrittenTokens
+pub mod Writings
+pub mod CanonicalDivision

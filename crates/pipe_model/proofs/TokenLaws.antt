@@ -23,7 +23,7 @@ word_is_text (Some k) text name e = cc (e)
 word_is_text None text name e = cc (e)
 
 -- punctuation is no name
-no_name : (o : Option ℕ) (text name : List ℕ) → operator_or_sign o text ≡ Some (symbols.Name name) → ⊥
+pub no_name : (o : Option ℕ) (text name : List ℕ) → operator_or_sign o text ≡ Some (symbols.Name name) → ⊥
 no_name (Some k) text name e = cc (e)
 no_name None [] name e = cc (e)
 no_name None (b ∷ []) name e = by_sign (is_sign b) e
@@ -403,7 +403,7 @@ stands_in source (b ∷ text) rest place s e h = record {
 }
 
 -- what stands behind a front
-behind_front : (source text rest : List ℕ) (place : ℕ) → drop place source ≡ text ++ rest → drop (place + length text) source ≡ rest
+pub behind_front : (source text rest : List ℕ) (place : ℕ) → drop place source ≡ text ++ rest → drop (place + length text) source ≡ rest
 behind_front source text rest place e = sym (drop-drop (length text) place source) ∙ ap (λ x. drop (length text) x) e ∙ drop-append_seam text rest
 
 -- each token of a scan stands in the source

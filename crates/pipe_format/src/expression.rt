@@ -1,0 +1,117 @@
+//! The text of expressions.
+
+ghost use Rattle.std.specs.Prelude.{◌≡◌, ◌+◌, ◌++◌, codes, OnOk};
+ghost use Rattle.pipe_model.specs.CanonicalText.{at_level, expression_text, level_in, one_place_text, operator_text, tightest};
+ghost use Rattle.pipe_model.specs.SyntaxTree.{expression_of};
+ghost use Rattle.pipe_model.specs.WholeGrammar.{level_of};
+
+use crate::text::push_number;
+use pipe_model::memory::NoMemory;
+use pipe_model::name::Name;
+use pipe_model::tree::Expr;
+
+/// The level that binds more tightly than each two-place operator.
+const TIGHTEST: u8 = 7;
+
+macro_rules! level_by_code {
+    (($code:expr) $($row:literal $symbol:literal $length:literal $level:literal;)*) => {
+        match $code {
+            $($row => $level,)*
+            _ => 0,
+        }
+    };
+}
+
+macro_rules! symbol_by_code {
+    (($code:expr) $($row:literal $symbol:literal $length:literal $level:literal;)*) => {
+        match $code {
+            $($row => &$symbol[..$length],)*
+            _ => b"",
+        }
+    };
+}
+
+/// The level of the two-place operator of a code; 0 where no operator has the code.
+fn level_of(code: u8) -> u8
+    ensures { result ≡ level_of code }
+{
+    op_table::operators!(level_by_code, code)
+}
+
+/// The symbol of the two-place operator of a code; empty where no operator has the code.
+fn symbol_of(code: u8) -> &'static [u8]
+    ensures { result.now ≡ operator_text code }
+{
+    op_table::operators!(symbol_by_code, code)
+}
+
+/// The symbol of the one-place operator of a code.
+fn one_place_symbol(code: u8) -> &'static [u8]
+    ensures { result.now ≡ one_place_text code }
+{
+    if code == 1 { b"-" } else { b"!" }
+}
+
+/// How tightly an expression holds together: as its two-place operator binds, if it is one.
+fn level_in(e: &Expr) -> u8
+    ensures { result ≡ level_in (expression_of e.now) }
+{
+    match e {
+        Expr::Binary(code, _, _) => level_of(*code),
+        _ => TIGHTEST,
+    }
+}
+
+/// Adds an element of an array, from its name and its index.
+#[cycle(expression)]
+pub fn push_element(text: &mut Vec<u8>, name: &Name, index: &Expr) -> Result<(), NoMemory>
+    ensures { OnOk result (text.new.items
+        ≡ text.old.items ++ (name.now ++ (codes "[" ++ (expression_text (expression_of index.now) ++ codes "]")))) }
+{
+    text.extend_from_slice(name.as_bytes())?;
+    text.push(b'[')?;
+    push_expression(text, index)?;
+    text.push(b']')?;
+    Ok(())
+}
+
+/// Adds an expression where a level is needed: in round brackets where its own is lower.
+#[cycle(expression)]
+fn push_at_level(text: &mut Vec<u8>, needed: u8, e: &Expr) -> Result<(), NoMemory>
+    ensures { OnOk result (text.new.items
+        ≡ text.old.items ++ at_level needed (level_in (expression_of e.now)) (expression_text (expression_of e.now))) }
+{
+    if needed <= level_in(e) {
+        return push_expression(text, e);
+    }
+    text.push(b'(')?;
+    push_expression(text, e)?;
+    text.push(b')')?;
+    Ok(())
+}
+
+/// Adds an expression.
+#[cycle(expression)]
+pub fn push_expression(text: &mut Vec<u8>, e: &Expr) -> Result<(), NoMemory>
+    ensures { OnOk result (text.new.items ≡ text.old.items ++ expression_text (expression_of e.now)) }
+{
+    match e {
+        Expr::Number(number) => push_number(text, *number),
+        Expr::Name(name) => Ok(text.extend_from_slice(name.as_bytes())?),
+        Expr::Element(name, index) => push_element(text, name, index),
+        Expr::Binary(code, left, right) => {
+            push_at_level(text, level_of(*code), left)?;
+            text.push(b' ')?;
+            text.extend_from_slice(symbol_of(*code))?;
+            text.push(b' ')?;
+            push_at_level(text, level_of(*code) + 1, right)
+        }
+        Expr::Unary(code, operand) => {
+            text.extend_from_slice(one_place_symbol(*code))?;
+            push_at_level(text, TIGHTEST, operand)
+        }
+        Expr::More => Ok(text.extend_from_slice(b"more()")?),
+        Expr::Take => Ok(text.extend_from_slice(b"take()")?),
+        Expr::Iter => Ok(text.extend_from_slice(b"iter()")?),
+    }
+}

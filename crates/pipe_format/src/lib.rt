@@ -1,0 +1,9 @@
+//! The canonical text of a program.
+#![tactic(auto)]
+
+mod expression;
+pub mod program;
+mod statement;
+#[cfg(test)]
+mod tests;
+mod text;
