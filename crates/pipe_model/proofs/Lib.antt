@@ -24,3 +24,4 @@ pub mod TokenLaws
 pub mod ExpressionWindows
 pub mod NestedBlocks
 pub mod OpenBrackets
+pub mod OneSourceSpelling
