@@ -28,3 +28,4 @@ pub mod CanonicalDerivations
 pub mod WrittenTokens
 pub mod Writings
 pub mod CanonicalDivision
+pub mod OneSourceSpelling

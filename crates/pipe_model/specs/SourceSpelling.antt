@@ -1,19 +1,12 @@
--- Which source spells which program: its tokens are the symbols of the program, within the bounds on tokens, brackets and full expressions.
-use Rattle.std.specs.Prelude.{◌≡◌, ℕ, List}
-use Rattle.pipe_model.specs.declared.symbol.Symbol.{Symbol}
+-- A source spells a program of the whole language where its tokens are within their bounds and the symbols that they are spell it.
+use Rattle.std.specs.Prelude.{ℕ, List}
 use Rattle.pipe_model.specs.declared.token.Token.{Token}
 use Rattle.pipe_model.specs.SyntaxTree.{SyntaxTree}
 use Rattle.pipe_model.specs.Tokens.{IsLexed, symbols_in}
 use Rattle.pipe_model.specs.WholeSpelling.{Spells}
 
--- the tokens of the source are these symbols
-pub record IsSourceOf (source : List ℕ) (found : List Symbol) : Type 0 where
+-- the source spells the program
+pub record SourceSpells (source : List ℕ) (tree : SyntaxTree) : Type 0 where
   pub tokens : List Token
   pub lexed : IsLexed source tokens
-  pub same : symbols_in source tokens ≡ found
-
--- the source spells the program
-pub record SpellsProgram (source : List ℕ) (tree : SyntaxTree) : Type 0 where
-  pub found : List Symbol
-  pub source_of : IsSourceOf source found
-  pub spelled : Spells found tree
+  pub spelled : Spells (symbols_in source tokens) tree
