@@ -26,3 +26,7 @@ pub mod CanonicalDerivations
 pub mod WrittenTokens
 pub mod Writings
 pub mod CanonicalDivision
+pub mod CanonicalBounds
+pub mod CanonicalPieces
+pub mod WritablePrograms
+pub mod CanonicalSpelling

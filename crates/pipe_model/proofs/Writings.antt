@@ -26,7 +26,7 @@ bounded_token place text (symbols.Operator code) e w = tt
 bounded_token place text (symbols.Sign b) e w = tt
 
 -- a token is its symbol in the source
-token_is_symbol : (source text rest : List ℕ) (place : ℕ) (s : Symbol) → drop place source ≡ text ++ rest → symbol_of text ≡ Some s
+pub token_is_symbol : (source text rest : List ℕ) (place : ℕ) (s : Symbol) → drop place source ≡ text ++ rest → symbol_of text ≡ Some s
     → symbol_in source (token_at place text s) ≡ s
 token_is_symbol source text rest place s e h =
     ap (λ x. symbol_as (kind_of s) (take (length text) x)) e ∙ ap (λ x. symbol_as (kind_of s) x) (take-append_seam text rest) ∙ symbol_of_kind text s h
