@@ -1,5 +1,5 @@
 -- The canonical text is written symbol by symbol: its tokens are the symbols of the canonical pieces.
-use Rattle.std.proofs.Common.{◌≡◌, ◌∙◌, ap, sym, refl, subst, ℕ, zero, suc, ◌+◌, ◌-◌, ◌<◌, ◌≤◌, ◌^◌, ◌≤ℤ◌, ℤ, pos, negsuc, Bool, true, false, List, [], ◌∷◌, ◌++◌, append_assoc, length, ◌==◌, ◌⊎◌, inl, inr, Option, Some, None, arith, codes, nat_le, if◌then◌else◌, replicate}
+use Rattle.std.proofs.Common.{◌≡◌, ◌∙◌, ap, sym, refl, subst, ℕ, zero, suc, ◌+◌, ◌-◌, ◌<◌, ◌≤◌, ◌^◌, ◌≤ℤ◌, ℤ, pos, negsuc, Bool, true, false, List, [], ◌∷◌, ◌++◌, append_assoc, append-nil, length, ◌==◌, ◌⊎◌, inl, inr, Option, Some, None, arith, codes, nat_le, if◌then◌else◌, replicate}
 use Rattle.std.specs.Fmt.{decimal, signed_decimal}
 use Rattle.std.specs.List.{flat_map}
 use Rattle.std.proofs.lemmas.Int.{ints}
@@ -13,9 +13,9 @@ use Rattle.pipe_model.specs.CanonicalText.{operator_text, one_place_text, tighte
 use Rattle.pipe_model.specs.Lexis.{is_name_byte, symbol_of}
 use Rattle.pipe_model.specs.SyntaxTree.{Expression, Number, Name, Element, And, Or, Binary, Unary, More, Take, Iter, Statement, Let, Assign, AssignElement, Emit, If, While, Stage, NextStage, Statements, Empty, Then, SyntaxTree}
 use Rattle.pipe_model.specs.WholeGrammar.{level_of, Piece, Single, FullExpression, flat}
-use Rattle.pipe_model.specs.Words.{word_pipe_wait, word_pipe_continue, word_let, word_if, word_while, word_emit, word_more, word_take, word_iter, word_cell, minus, open_round, close_round, comma, semicolon, equals, open_square, close_square, open_brace, close_brace}
+use Rattle.pipe_model.specs.Words.{word_limits, word_iterations, word_stages, word_steps, word_emits, word_pipe_while, word_pipe_wait, word_pipe_continue, word_let, word_if, word_while, word_emit, word_more, word_take, word_iter, word_cell, minus, open_round, close_round, comma, semicolon, equals, open_square, close_square, open_brace, close_brace}
 use Rattle.pipe_model.proofs.Pieces.{flat_append}
-use Rattle.pipe_model.proofs.Writings.{Writes, Done, Space, Puts}
+use Rattle.pipe_model.proofs.Writings.{IsSourceOf, Writes, Done, Space, Puts, written_source}
 use Rattle.pipe_model.proofs.WrittenTokens.{begins_letter, Opens, name_opens, decimal_opens, word_token, name_token, number_token, closed_token, spaced_token, not_token, operator_token}
 
 -- a byte that stands in no name comes next
@@ -308,3 +308,101 @@ mutual
   statements_writing n Empty h = nothing
   statements_writing n (Then s ss) h =
       same (sym (flat_append (statement_pieces s) (statements_pieces ss))) (next (statement_writing n s h.0) (statements_writing n ss h.1))
+
+-- ---- programs
+
+-- a field of the limits
+field : {u : List ℕ} {us : List Symbol} (text : List ℕ) (k : ℕ) (z : ℤ) → begins_letter text ≡ true → symbol_of text ≡ Some (symbols.Word k) → IsNumeral z
+    → Writing Any u us → ((rest : List ℕ) → Edge (u ++ rest)) → Writing Any (text ++ (codes " " ++ (signed_decimal z ++ u))) (symbols.Word k ∷ symbols.Number z ∷ us)
+field text k z l t h w f = word_then text k l t (both (number z h) w (λ rest g. f rest))
+
+-- the line of limits
+limits_writing : (tree : SyntaxTree) → IsWritableProgram tree
+    → Writing Any (limits_text tree.limits)
+    (word_limits ∷ word_iterations ∷ symbols.Number tree.limits.iterations ∷ comma ∷ word_stages ∷ symbols.Number tree.limits.stages ∷ comma ∷ word_steps
+    ∷ symbols.Number tree.limits.steps ∷ comma ∷ word_emits ∷ symbols.Number tree.limits.emits ∷ semicolon ∷ [])
+limits_writing tree h =
+    line_writing 0 (any_edge (word_then (codes "limits") 1 refl refl
+    (field (codes "iterations") 2 tree.limits.iterations refl refl h.iterations
+    (next comma_sign (next space (field (codes "stages") 3 tree.limits.stages refl refl h.stages
+    (next comma_sign (next space (field (codes "steps") 4 tree.limits.steps refl refl h.steps
+    (next comma_sign (next space (field (codes "emits") 5 tree.limits.emits refl refl h.emits end (λ rest. refl)))) (λ rest. refl)))) (λ rest. refl)))) (λ rest. refl))))
+
+-- a declared value before a sign
+value_writing : {u : List ℕ} {us : List Symbol} (z : ℤ) → IsDeclaredValue z → Writing Any u us → ((rest : List ℕ) → Edge (u ++ rest))
+    → Writing Any (signed_decimal z ++ u) (flat (value_pieces z) ++ us)
+value_writing z (Positive n h) w f = both (numeral n h) w (λ rest g. f rest)
+value_writing z (Negative n h) w f = next minus_sign (both (numeral (suc n) h) w (λ rest g. f rest))
+
+-- a size, where there is one, before a space
+size_writing : {u : List ℕ} {us : List Symbol} (size : Option ℤ) → IsWritableSize size → Writing Any u us → Writing Any (size_text size ++ u) (flat (size_pieces size) ++ us)
+size_writing None h w = w
+size_writing (Some z) h w = next (next index (both (number z h) index_end (λ rest g. refl))) w
+
+-- a declaration
+cell_writing : (d : Declaration) → IsName d.name → IsWritableSize d.size → IsDeclaredValue d.value
+    → Writing Any (cell_text d) (word_cell ∷ symbols.Name d.name ∷ (flat (size_pieces d.size) ++ (equals ∷ (flat (value_pieces d.value) ++ semicolon ∷ []))))
+cell_writing d n s v =
+    line_writing 0 (any_edge (word_then (codes "cell") 6 refl refl
+    (both (name d.name n) (size_writing d.size s (next is (value_writing d.value v end (λ rest. refl))))
+    (λ rest g. edge_behind d.size rest))))
+  where
+    edge_behind : (size : Option ℤ) (rest : List ℕ) → Edge ((size_text size ++ (codes " = " ++ (signed_decimal d.value ++ codes ";"))) ++ rest)
+    edge_behind None rest = refl
+    edge_behind (Some z) rest = refl
+
+-- the pieces of a declaration before those of others
+cell_symbols : (d : Declaration) (more : List Piece)
+    → word_cell ∷ symbols.Name d.name ∷ ((flat (size_pieces d.size) ++ (equals ∷ (flat (value_pieces d.value) ++ semicolon ∷ []))) ++ flat more)
+    ≡ flat (Single word_cell ∷ Single (symbols.Name d.name) ∷ (size_pieces d.size ++ Single equals ∷ (value_pieces d.value ++ Single semicolon ∷ more)))
+cell_symbols d more =
+    ap (λ x. word_cell ∷ symbols.Name d.name ∷ x)
+    (append_assoc (flat (size_pieces d.size)) (equals ∷ (flat (value_pieces d.value) ++ semicolon ∷ [])) (flat more)
+    ∙ ap (λ x. flat (size_pieces d.size) ++ (equals ∷ x))
+    (append_assoc (flat (value_pieces d.value)) (semicolon ∷ []) (flat more) ∙ sym (flat_append (value_pieces d.value) (Single semicolon ∷ more)))
+    ∙ sym (flat_append (size_pieces d.size) (Single equals ∷ (value_pieces d.value ++ Single semicolon ∷ more))))
+
+cells_writing : (ds : List Declaration) → AreWritableCells ds → Writing Any (flat_map cell_text ds) (flat (cells_pieces ds))
+cells_writing [] h = nothing
+cells_writing (d ∷ ds) h = same (cell_symbols d (cells_pieces ds)) (next (cell_writing d h.0 h.1 h.2) (cells_writing ds h.3))
+
+-- a part, where it is not empty
+part_writing : (text : List ℕ) (k : ℕ) (ss : Statements) → begins_letter text ≡ true → symbol_of text ≡ Some (symbols.Word k) → AreWritable ss
+    → Writing Any (part_text text ss) (flat (part_pieces k ss (statements_pieces ss)))
+part_writing text k Empty l t h = nothing
+part_writing text k (Then s ss) l t h =
+    same (ap (λ x. symbols.Word k ∷ open_brace ∷ x) (sym (flat_append (statements_pieces (Then s ss)) (Single close_brace ∷ []))))
+    (next (line_writing 0 (any_edge (word_then text k l t brace))) (next (statements_writing 2 (Then s ss) h) (closing_line 0)))
+
+loop_writing : (test : Expression) (body : Statements) → IsWritable test → AreWritable body
+    → Writing Any (loop_text test body) (word_pipe_while ∷ open_round ∷ (expression_symbols test ++ close_round ∷ flat (block_pieces (statements_pieces body))))
+loop_writing test body h b =
+    same (ap (λ x. word_pipe_while ∷ open_round ∷ x) (block_symbols (expression_symbols test) (statements_pieces body)))
+    (next (test_line 0 (codes "pipe_while") 8 test refl refl h) (next (statements_writing 2 body b) (closing_line 0)))
+
+-- the symbols of the parts of a program, one after the other
+program_symbols : (cs is bs ls : List Piece) (ts : List Symbol)
+    → flat cs ++ (flat is ++ ((word_pipe_while ∷ open_round ∷ (ts ++ close_round ∷ flat bs)) ++ flat ls))
+    ≡ flat (cs ++ (is ++ Single word_pipe_while ∷ Single open_round ∷ FullExpression ts ∷ Single close_round ∷ (bs ++ ls)))
+program_symbols cs is bs ls ts =
+    ap (λ x. flat cs ++ (flat is ++ word_pipe_while ∷ open_round ∷ x)) (append_assoc ts (close_round ∷ flat bs) (flat ls) ∙ ap (λ x. ts ++ close_round ∷ x) (sym (flat_append bs ls)))
+    ∙ ap (λ x. flat cs ++ x) (sym (flat_append is (Single word_pipe_while ∷ Single open_round ∷ FullExpression ts ∷ Single close_round ∷ (bs ++ ls))))
+    ∙ sym (flat_append cs (is ++ Single word_pipe_while ∷ Single open_round ∷ FullExpression ts ∷ Single close_round ∷ (bs ++ ls)))
+
+-- the text of a program writes its symbols
+program_writing : (tree : SyntaxTree) → IsWritableProgram tree → Writing Any (program_text tree) (flat (program_pieces tree))
+program_writing tree h =
+    same (ap (λ x. word_limits ∷ word_iterations ∷ symbols.Number tree.limits.iterations ∷ comma ∷ word_stages ∷ symbols.Number tree.limits.stages ∷ comma ∷ word_steps
+    ∷ symbols.Number tree.limits.steps ∷ comma ∷ word_emits ∷ symbols.Number tree.limits.emits ∷ semicolon ∷ x)
+    (program_symbols (cells_pieces tree.cells) (part_pieces 7 tree.init (statements_pieces tree.init)) (block_pieces (statements_pieces tree.body))
+    (part_pieces 11 tree.last (statements_pieces tree.last)) (expression_symbols tree.test)))
+    (next (limits_writing tree h) (next (cells_writing tree.cells h.cells) (next (part_writing (codes "init") 7 tree.init refl refl h.init)
+    (next (loop_writing tree.test tree.body h.test h.body) (part_writing (codes "final") 11 tree.last refl refl h.last)))))
+
+-- so these are its tokens, where it is not too long
+pub program_source : (tree : SyntaxTree) → IsWritableProgram tree → length (program_text tree) ≤ 1048576 → IsSourceOf (program_text tree) (flat (program_pieces tree))
+program_source tree h short =
+    let w = program_writing tree h in
+    written_source (program_text tree) (flat (program_pieces tree)) short
+    (subst (λ x. Writes x (flat (program_pieces tree))) (append-nil (program_text tree))
+    (subst (λ x. Writes (program_text tree ++ []) x) (append-nil (flat (program_pieces tree))) (w.writes [] [] tt Done)))

@@ -29,3 +29,7 @@ pub mod WrittenTokens
 pub mod Writings
 pub mod CanonicalDivision
 pub mod OneSourceSpelling
+pub mod CanonicalBounds
+pub mod CanonicalPieces
+pub mod WritablePrograms
+pub mod CanonicalSpelling

@@ -243,7 +243,7 @@ one_list source tokens others d e = elim (scans_meet d e refl) [
 -- ---- one fault
 
 -- a token within its bounds is a symbol within its bounds
-bounded_symbol : (place : ℕ) (text : List ℕ) (s : Symbol) → symbol_of text ≡ Some s → IsTokenWithinBounds (token_at place text s) → IsWithinBounds s
+pub bounded_symbol : (place : ℕ) (text : List ℕ) (s : Symbol) → symbol_of text ≡ Some s → IsTokenWithinBounds (token_at place text s) → IsWithinBounds s
 bounded_symbol place text (symbols.Name name) e w = rw (name_is_text text name e) w
 bounded_symbol place text (symbols.Word k) e w = tt
 bounded_symbol place text (symbols.Number n) e w = w

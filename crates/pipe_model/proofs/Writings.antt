@@ -10,6 +10,12 @@ use Rattle.pipe_model.specs.Tokens.{Scans, Stops, Blank, Taken, HasTokens, IsTok
 use Rattle.pipe_model.specs.SourceSpelling.{IsSourceOf}
 use Rattle.pipe_model.proofs.TokenLaws.{behind_front, name_is_text, symbol_of_kind}
 
+-- the tokens of the source are these symbols
+pub record IsSourceOf (source : List ℕ) (found : List Symbol) : Type 0 where
+  pub tokens : List Token
+  pub lexed : IsLexed source tokens
+  pub same : symbols_in source tokens ≡ found
+
 -- the bytes are these symbols, each the longest at its place and within its bounds, with blanks between them
 pub data Writes : List ℕ → List Symbol → Type 0 where
   Done : Writes [] []
@@ -26,7 +32,7 @@ bounded_token place text (symbols.Operator code) e w = tt
 bounded_token place text (symbols.Sign b) e w = tt
 
 -- a token is its symbol in the source
-token_is_symbol : (source text rest : List ℕ) (place : ℕ) (s : Symbol) → drop place source ≡ text ++ rest → symbol_of text ≡ Some s
+pub token_is_symbol : (source text rest : List ℕ) (place : ℕ) (s : Symbol) → drop place source ≡ text ++ rest → symbol_of text ≡ Some s
     → symbol_in source (token_at place text s) ≡ s
 token_is_symbol source text rest place s e h =
     ap (λ x. symbol_as (kind_of s) (take (length text) x)) e ∙ ap (λ x. symbol_as (kind_of s) x) (take-append_seam text rest) ∙ symbol_of_kind text s h

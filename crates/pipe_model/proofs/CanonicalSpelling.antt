@@ -1,0 +1,36 @@
+-- The canonical text of a program that some source spells is a source that spells it, where it is not too long.
+use Rattle.std.proofs.Common.{◌≡◌, ℕ, ◌≤◌, refl, subst, List, length}
+use Rattle.pipe_model.specs.CanonicalSymbols.{program_pieces}
+use Rattle.pipe_model.specs.CanonicalText.{program_text}
+use Rattle.pipe_model.specs.SourceSpelling.{SourceSpells}
+use Rattle.pipe_model.specs.SyntaxTree.{SyntaxTree}
+use Rattle.pipe_model.specs.WholeGrammar.{flat}
+use Rattle.pipe_model.specs.WholeSpelling.{IsShallow}
+use Rattle.pipe_model.proofs.CanonicalBounds.{no_deeper_shallow}
+use Rattle.pipe_model.proofs.CanonicalDerivations.{program_derived}
+use Rattle.pipe_model.proofs.CanonicalDivision.{program_source}
+use Rattle.pipe_model.proofs.CanonicalPieces.{leaner_program}
+use Rattle.pipe_model.proofs.WritablePrograms.{writable_program}
+use Rattle.pipe_model.proofs.Writings.{IsSourceOf}
+
+pub canonical_spells : (source : List ℕ) (tree : SyntaxTree) → SourceSpells source tree → length (program_text tree) ≤ 1048576 → SourceSpells (program_text tree) tree
+canonical_spells source tree h short =
+    let s = h.spelled in
+    let symbols : List Symbol = symbols_in source h.tokens in
+    let of : IsSourceOf source symbols = record { tokens = h.tokens; lexed = h.lexed; same = refl } in
+    let w = writable_program source symbols s.pieces tree of s.split s.derived in
+    let l = leaner_program s.derived in
+    let made = program_source tree w short in
+    let spelled : Spells (flat (program_pieces tree)) tree = record {
+      pieces = program_pieces tree;
+      split = refl;
+      derived = program_derived tree w;
+      short = l.short s.short;
+      shallow = no_deeper_shallow (flat (program_pieces tree)) (flat s.pieces) l.deep (subst IsShallow s.split s.shallow);
+    } in
+    record { tokens = made.tokens; lexed = made.lexed; spelled = subst (λ x. Spells x tree) (sym made.same) spelled }
+
+-- so what is read from the canonical text has the same text
+pub same_text : (source : List ℕ) (tree other : SyntaxTree) → SourceSpells source tree → length (program_text tree) ≤ 1048576
+    → SourceSpells (program_text tree) other → program_text other ≡ program_text tree
+same_text source tree other h short o = ap program_text (one_source_spelling (program_text tree) other tree o (canonical_spells source tree h short))
