@@ -7,7 +7,6 @@ use Rattle.pipe_model.specs.declared.symbol.Symbol.TheVariants as symbols
 use Rattle.pipe_model.specs.declared.token.Token.{Token}
 use Rattle.pipe_model.specs.Lexis.{is_blank, symbol_of, IsWithinBounds}
 use Rattle.pipe_model.specs.Tokens.{Scans, Stops, Blank, Taken, HasTokens, IsToken, IsTokenWithinBounds, IsLexed, token_at, kind_of, symbol_as, symbol_in, symbols_in}
-use Rattle.pipe_model.specs.SourceSpelling.{IsSourceOf}
 use Rattle.pipe_model.proofs.TokenLaws.{behind_front, name_is_text, symbol_of_kind}
 
 -- the tokens of the source are these symbols
