@@ -22,3 +22,5 @@ pub mod FirstFaults
 pub mod FaultRules
 pub mod TokenLaws
 pub mod ExpressionWindows
+pub mod FirstFormCounts
+pub mod FirstFormLaws
