@@ -1,8 +1,9 @@
 -- How many symbols of a kind stand among others, and how brackets open and close along the symbols of the first form.
-use Rattle.std.proofs.Common.{◌≡◌, ◌∙◌, refl, sym, ap, ℕ, suc, ◌+◌, ◌≤◌, Bool, true, false, not, cond, ◌&&◌, List, [], ◌∷◌, ◌++◌, arith}
+use Rattle.std.proofs.Common.{◌≡◌, ◌∙◌, refl, sym, ap, ℕ, suc, ◌+◌, ◌≤◌, Bool, true, false, not, cond, ◌==◌, ◌&&◌, List, [], ◌∷◌, ◌++◌, arith}
 use Rattle.std.specs.List.{count_by}
 use Rattle.std.proofs.lemmas.List.Sums.{sum_by-cons}
 use Rattle.pipe_model.specs.declared.symbol.Symbol.{Symbol}
+use Rattle.pipe_model.specs.declared.symbol.Symbol.TheVariants as symbols
 use Rattle.pipe_model.specs.FirstForm.{is_open_round, begins_part}
 use Rattle.pipe_model.specs.WholeGrammar.{Piece, flat}
 use Rattle.pipe_model.specs.WholeSpelling.{is_opening, is_closing, IsShallow}
@@ -33,9 +34,17 @@ tally_flat p ps qs = ap (tally p) (flat_append ps qs) ∙ tally_append p (flat p
 
 -- ---- brackets along symbols
 
--- neither a bracket nor the word of a part
+-- the operator `/`
+abbrev pub is_slash : Symbol → Bool
+is_slash (symbols.Operator code) = code == 12
+is_slash (symbols.Name name) = false
+is_slash (symbols.Word k) = false
+is_slash (symbols.Number n) = false
+is_slash (symbols.Sign b) = false
+
+-- neither a bracket nor the word of a part nor `/`
 abbrev pub is_quiet : Symbol → Bool
-is_quiet t = not (is_opening t) && (not (is_closing t) && (not (begins_part t) && not (is_open_round t)))
+is_quiet t = not (is_opening t) && (not (is_closing t) && (not (begins_part t) && (not (is_open_round t) && not (is_slash t))))
 
 -- each of them is so
 abbrev pub are_quiet : List Symbol → Bool
@@ -73,21 +82,23 @@ quiet_front [] h p = p
 quiet_front (t ∷ front) h p = let h = both (is_quiet t) (are_quiet front) h in Quiet t h.0 (quiet_front front h.1 p)
 
 -- what a quiet symbol is not
-record IsNone (a b c d : Bool) : Type 0 where
+record IsNone (a b c d e : Bool) : Type 0 where
   pub opening : a ≡ false
   pub closing : b ≡ false
   pub part : c ≡ false
   pub round : d ≡ false
+  pub slash : e ≡ false
 
-none_of : (a b c d : Bool) → (not a && (not b && (not c && not d))) ≡ true → IsNone a b c d
-none_of false false false false h = record { opening = refl; closing = refl; part = refl; round = refl }
-none_of true b c d h = cc (h)
-none_of false true c d h = cc (h)
-none_of false false true d h = cc (h)
-none_of false false false true h = cc (h)
+none_of : (a b c d e : Bool) → (not a && (not b && (not c && (not d && not e)))) ≡ true → IsNone a b c d e
+none_of false false false false false h = record { opening = refl; closing = refl; part = refl; round = refl; slash = refl }
+none_of true b c d e h = cc (h)
+none_of false true c d e h = cc (h)
+none_of false false true d e h = cc (h)
+none_of false false false true e h = cc (h)
+none_of false false false false true h = cc (h)
 
-quiet_is : (t : Symbol) → is_quiet t ≡ true → IsNone (is_opening t) (is_closing t) (begins_part t) (is_open_round t)
-quiet_is t h = none_of (is_opening t) (is_closing t) (begins_part t) (is_open_round t) h
+quiet_is : (t : Symbol) → is_quiet t ≡ true → IsNone (is_opening t) (is_closing t) (begins_part t) (is_open_round t) (is_slash t)
+quiet_is t h = none_of (is_opening t) (is_closing t) (begins_part t) (is_open_round t) (is_slash t) h
 
 skipped : (a : Bool) (x y : ℕ) → a ≡ false → x ≡ y → bit a + x ≡ y
 skipped false x y h e = omega (arith, e)
@@ -101,6 +112,15 @@ no_part_among (OpensRound p) = let more = no_part_among p in omega (arith, more)
 no_part_among (ClosesRound p) = let more = no_part_among p in omega (arith, more)
 no_part_among (OpensBrace p) = let more = no_part_among p in omega (arith, more)
 no_part_among (ClosesBrace p) = let more = no_part_among p in omega (arith, more)
+
+-- no `/` stands among the symbols
+pub no_slash_among : {r n s m : ℕ} {ts : List Symbol} → Passes r n ts s m → tally is_slash ts ≡ 0
+no_slash_among Ends = refl
+no_slash_among (Quiet {ts = ts} t h p) = skipped (is_slash t) (tally is_slash ts) 0 (quiet_is t h).slash (no_slash_among p)
+no_slash_among (OpensRound p) = let more = no_slash_among p in omega (arith, more)
+no_slash_among (ClosesRound p) = let more = no_slash_among p in omega (arith, more)
+no_slash_among (OpensBrace p) = let more = no_slash_among p in omega (arith, more)
+no_slash_among (ClosesBrace p) = let more = no_slash_among p in omega (arith, more)
 
 skipped_before : (a : Bool) (x n m : ℕ) → a ≡ false → n ≡ x + m → n ≡ (bit a + x) + m
 skipped_before false x n m h e = omega (arith, e)

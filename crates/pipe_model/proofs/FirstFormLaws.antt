@@ -12,7 +12,7 @@ use Rattle.pipe_model.specs.WholeGrammar as whole
 use Rattle.pipe_model.specs.WholeGrammar.{Piece, Single, FullExpression, flat, limits_before}
 use Rattle.pipe_model.specs.WholeSpelling.{AreShort, Spells}
 use Rattle.pipe_model.specs.Words.{word_cell, word_pipe_while, word_pipe_wait, word_pipe_continue, word_let, word_emit, minus, open_round, close_round, semicolon, equals, open_brace, close_brace}
-use Rattle.pipe_model.proofs.FirstFormCounts.{bit, tally, tally_is_count, tally_append, tally_flat, Passes, Ends, Quiet, OpensRound, ClosesRound, OpensBrace, ClosesBrace, passes_append, both, two, quiet_front, no_part_among, rounds_among, shallow}
+use Rattle.pipe_model.proofs.FirstFormCounts.{bit, tally, tally_is_count, tally_append, tally_flat, Passes, Ends, Quiet, OpensRound, ClosesRound, OpensBrace, ClosesBrace, is_quiet, passes_append, both, two, quiet_front, no_part_among, rounds_among, shallow}
 use Rattle.pipe_model.proofs.Pieces.{flat_append, short_append, short_front, short_back}
 
 -- ---- the two operators
@@ -34,6 +34,11 @@ ranked_code code rank w h = by_codes (code == 5) (code == 9) h
 same_rank : (code : ℕ) → (code ≡ 5) ⊎ (code ≡ 9) → first.rank_of code ≡ whole.rank_of code
 same_rank code (inl h) = ap first.rank_of h ∙ sym (ap whole.rank_of h)
 same_rank code (inr h) = ap first.rank_of h ∙ sym (ap whole.rank_of h)
+
+-- neither of them is `/`
+quiet_operator : (code : ℕ) → (code ≡ 5) ⊎ (code ≡ 9) → is_quiet (symbols.Operator code) ≡ true
+quiet_operator code (inl h) = ap (λ k. is_quiet (symbols.Operator k)) h
+quiet_operator code (inr h) = ap (λ k. is_quiet (symbols.Operator k)) h
 
 -- with one of them between plain expressions the whole is plain
 joined_plain : (code : ℕ) (a b : Expression) → (code ≡ 5) ⊎ (code ≡ 9) → is_plain_expression a ≡ true → is_plain_expression b ≡ true
@@ -78,7 +83,7 @@ whole_expression (first.Joined {rank} {left} {right} {a} {b} code h d e) w =
     record {
       derived = whole.Joined code (sym (same_rank code c) ∙ h) i.derived j.derived;
       plain = joined_plain code a b c i.plain j.plain;
-      passes = λ r n. passes_append (i.passes r n) (Quiet (symbols.Operator code) refl (j.passes r n));
+      passes = λ r n. passes_append (i.passes r n) (Quiet (symbols.Operator code) (quiet_operator code c) (j.passes r n));
     }
 
 -- pieces of these symbols

@@ -24,3 +24,4 @@ pub mod TokenLaws
 pub mod ExpressionWindows
 pub mod FirstFormCounts
 pub mod FirstFormLaws
+pub mod FirstFormSources

@@ -70,7 +70,7 @@ no_blank_slash : (b c : ℕ) → is_blank b ≡ true → ((b == 47) && (c == 47)
 no_blank_slash b c g h = grind (arith, nat_tests)
 
 -- what begins as a comment does so with what follows
-comment_begins : (text rest : List ℕ) → begins_comment text ≡ true → begins_comment (text ++ rest) ≡ true
+pub comment_begins : (text rest : List ℕ) → begins_comment text ≡ true → begins_comment (text ++ rest) ≡ true
 comment_begins [] rest e = cc (e)
 comment_begins (a ∷ []) rest e = cc (e)
 comment_begins (a ∷ b ∷ bs) rest e = e
@@ -403,7 +403,7 @@ stands_in source (b ∷ text) rest place s e h = record {
 }
 
 -- what stands behind a front
-behind_front : (source text rest : List ℕ) (place : ℕ) → drop place source ≡ text ++ rest → drop (place + length text) source ≡ rest
+pub behind_front : (source text rest : List ℕ) (place : ℕ) → drop place source ≡ text ++ rest → drop (place + length text) source ≡ rest
 behind_front source text rest place e = sym (drop-drop (length text) place source) ∙ ap (λ x. drop (length text) x) e ∙ drop-append_seam text rest
 
 -- each token of a scan stands in the source
