@@ -7,7 +7,7 @@ use Rattle.pipe_model.specs.declared.symbol.Symbol.TheVariants as symbols
 use Rattle.pipe_model.specs.declared.tree.Declaration.{Declaration}
 use Rattle.pipe_model.specs.FirstForm.{is_plain_code, is_plain_expression, is_plain_statement, are_plain_statements, is_plain_cell, stages_of, stages_in, is_open_round, begins_part, IsPlain}
 use Rattle.pipe_model.specs.Grammar as first
-use Rattle.pipe_model.specs.SyntaxTree.{Expression, Binary, And, Or, joined_by, Statement, Statements, Then, SyntaxTree}
+use Rattle.pipe_model.specs.SyntaxTree.{Expression, Binary, And, Or, joined_by, Statement, Statements, Empty, Then, SyntaxTree}
 use Rattle.pipe_model.specs.WholeGrammar as whole
 use Rattle.pipe_model.specs.WholeGrammar.{Piece, Single, FullExpression, flat, limits_before}
 use Rattle.pipe_model.specs.WholeSpelling.{AreShort, Spells}
@@ -322,6 +322,10 @@ whole_program {longest} (first.ProgramIs {cs} {ts} {us} {body = body} iterations
       plain = record { cells = i.plain; test = j.plain; body = k.plain; no_part = counts.0; no_bracket = counts.1 };
       passes = passes;
     }
+
+-- nothing runs before or after its loop
+pub no_parts : {longest : ℕ} {ts : List Symbol} {tree : SyntaxTree} → first.DerivesProgram longest ts tree → (tree.init ≡ Empty) × (tree.last ≡ Empty)
+no_parts (first.ProgramIs iterations stages steps emits c d b) = (refl, refl)
 
 -- ---- from the whole grammar to that of the first form
 

@@ -1,5 +1,5 @@
 -- A source of the first form by its own spelling, and by the tokens and the grammar of the whole language, is the same.
-use Rattle.std.proofs.Common.{◌≡◌, ◌∙◌, ap, sym, subst, ℕ, zero, suc, ◌+◌, ◌<◌, pos, Bool, true, false, not, cond, List, [], ◌∷◌, ◌++◌, length, take, drop, get_or, refl, arith, Option, Some, None, All, ◌==◌, ◌&&◌, ◌||◌, position}
+use Rattle.std.proofs.Common.{◌≡◌, ◌∙◌, ap, sym, subst, ℕ, zero, suc, ◌+◌, ◌<◌, pos, Bool, true, false, not, cond, List, [], ◌∷◌, ◌++◌, length, take, drop, get_or, refl, arith, Option, Some, None, All, IsTrue, ◌==◌, ◌&&◌, ◌||◌, position}
 use Rattle.std.specs.List.{list_all}
 use Rattle.std.specs.Str.{bytes_eq}
 use Rattle.std.proofs.Math.Seq.{take-append_seam}
@@ -14,13 +14,15 @@ use Rattle.pipe_model.specs.declared.token.Token.{Token}
 use Rattle.pipe_model.specs.FirstForm.{has_comment, IsPlain, IsPlainSource}
 use Rattle.pipe_model.specs.Lexis as lexis
 use Rattle.pipe_model.specs.Lexis.{is_blank, is_letter, is_digit, is_name_byte, is_sign, number_of, operators, operator_or_sign, punctuation_symbol, symbol_of, word_symbol, IsWithinBounds, Divides}
+use Rattle.pipe_model.specs.Rules.{program_obeys}
 use Rattle.pipe_model.specs.Spelling.{IsFirstForm}
 use Rattle.pipe_model.specs.SyntaxTree.{SyntaxTree}
-use Rattle.pipe_model.specs.Tokens.{begins_comment, kind_of, symbol_as, symbol_in, symbols_in, text_in, token_at, IsKindWithinBounds, IsTokenWithinBounds, Scans, Stops, Blank, Comment, Taken}
+use Rattle.pipe_model.specs.Tokens.{begins_comment, kind_of, symbol_as, symbol_in, symbols_in, text_in, token_at, IsKindWithinBounds, IsTokenWithinBounds, HasTokens, Scans, Stops, Blank, Comment, Taken}
 use Rattle.pipe_model.specs.WholeSpelling.{Spells}
 use Rattle.pipe_model.proofs.FirstFormCounts.{bit, both, is_slash, no_slash_among, tally}
 use Rattle.pipe_model.proofs.FirstFormLaws.{whole_program, whole_of_first, first_of_whole}
-use Rattle.pipe_model.proofs.TokenLaws.{behind_front, comment_begins, name_is_text, symbol_of_kind}
+use Rattle.pipe_model.proofs.TokenLaws.{behind_front, comment_begins, name_is_text, one_list, symbol_of_kind}
+use Rattle.pipe_model.proofs.WholeProgramReading.{one_program}
 
 -- ---- two tests
 
@@ -267,3 +269,32 @@ first_of_plain source tree p =
       };
       obeys = p.obeys;
     }
+
+-- ---- by the tokens that a source has
+
+-- a source of the first form is plain by its tokens, whoever found them
+pub record IsPlainHere (source : List ℕ) (tokens : List Token) (tree : SyntaxTree) : Type 0 where
+  pub no_comment : has_comment source ≡ false
+  pub spelled : Spells (symbols_in source tokens) tree
+  pub plain : IsPlain (symbols_in source tokens) tree
+  pub obeys : IsTrue (program_obeys tree)
+
+pub plain_here : (source : List ℕ) (tokens : List Token) (tree : SyntaxTree) → HasTokens source tokens → IsFirstForm source tree
+    → IsPlainHere source tokens tree
+plain_here source tokens tree h f =
+    let p = plain_of_first source tree f in
+    let same : p.tokens ≡ tokens = one_list source p.tokens tokens p.lexed.scanned h in
+    record {
+      no_comment = p.no_comment;
+      spelled = subst (λ x. Spells (symbols_in source x) tree) same p.spelled;
+      plain = subst (λ x. IsPlain (symbols_in source x) tree) same p.plain;
+      obeys = p.obeys;
+    }
+
+-- where they spell a program, no other is of the first form
+pub one_plain : (source : List ℕ) (tokens : List Token) (tree other : SyntaxTree) → HasTokens source tokens → Spells (symbols_in source tokens) tree
+    → IsFirstForm source other
+    → other ≡ tree
+one_plain source tokens tree other h s f =
+    let p = (plain_here source tokens other h f).spelled in
+    one_program p.pieces s.pieces other tree p.derived s.derived (sym p.split ∙ s.split)
