@@ -1,5 +1,5 @@
 -- Stage numbers rise along the tree of an iteration.
-use Rattle.std.proofs.Common.{◌≡◌, ◌≢◌, ℕ, zero, suc, ℤ, pos, negsuc, Bool, true, false, List, Option, Some, None, if◌then◌else◌, nat_lt, ◌<ℤ◌, ◌+ℤ◌, refl, ap, sym, rules, arith}
+use Rattle.std.proofs.Common.{◌≡◌, ◌≢◌, ℕ, zero, suc, ℤ, pos, negsuc, Bool, true, false, List, Option, Some, None, if◌then◌else◌, nat_lt, ◌<ℤ◌, ◌+ℤ◌, refl, arith}
 use Rattle.std.specs.Prelude.{int_lt}
 use Rattle.std.specs.Ordering.{int_eq}
 use Rattle.std.proofs.lemmas.Int.{ints}
@@ -7,7 +7,7 @@ use Rattle.pipe_model.specs.declared.node.Kind.{Kind}
 use Rattle.pipe_model.specs.declared.node.Kind.TheVariants.{Zero}
 use Rattle.pipe_model.specs.declared.column.ColumnEnd.{ColumnEnd}
 use Rattle.pipe_model.specs.declared.column.ColumnEnd.TheVariants as ends
-use Rattle.pipe_model.specs.Evaluation.{Local, CellRange, Setting, StagePosition, Environment, evaluate, execute, execute_all, assign, emit, go_to_stage, go_to_next_stage, fitting, is_i64, if_zero, leave_block, loop_turns, local_value, element_of}
+use Rattle.pipe_model.specs.Evaluation.{CellRange, Setting, StagePosition, Environment, evaluate, execute, execute_all, assign, emit, go_to_stage, go_to_next_stage, if_zero, leave_block, loop_turns, local_value}
 use Rattle.pipe_model.specs.Interaction.{Interaction, Return, Raise, Step, Get, Set, Stage, bind, with_budget}
 use Rattle.pipe_model.specs.Pipeline.{HasLegalStages}
 use Rattle.pipe_model.specs.SyntaxTree as syntax

@@ -1,11 +1,10 @@
 -- Trees that name no next stage: expressions are such trees.
-use Rattle.std.proofs.Common.{◌≡◌, ◌==◌, ℕ, zero, suc, ℤ, pos, negsuc, Bool, true, false, List, Option, Some, None, if◌then◌else◌, nat_lt, length}
-use Rattle.std.specs.Prelude.{int_div, int_rem, int_lt}
+use Rattle.std.proofs.Common.{◌==◌, ℕ, zero, suc, ℤ, pos, negsuc, Bool, true, false, List, Option, Some, None, if◌then◌else◌, nat_lt, length}
+use Rattle.std.specs.Prelude.{int_div, int_rem}
 use Rattle.std.proofs.Math.IntN.{◌+ℤ◌, ◌-ℤ◌, ◌*ℤ◌, neg_ℤ}
-use Rattle.std.specs.Ordering.{int_eq}
 use Rattle.pipe_model.specs.declared.trap.Trap.{Trap}
-use Rattle.pipe_model.specs.Evaluation.{Local, CellRange, Setting, evaluate, operate, operate_one, fitting, divided, if_zero, named_value, element_of, element_in, take_at, local_value, is_i64, truth, truth_of}
-use Rattle.pipe_model.specs.Interaction.{Interaction, Return, Raise, Step, Get, Set, Stage, bind}
+use Rattle.pipe_model.specs.Evaluation.{Local, CellRange, Setting, evaluate, operate, operate_one, fitting, divided, if_zero, named_value, element_of, element_in, take_at, local_value, is_i64}
+use Rattle.pipe_model.specs.Interaction.{Interaction, Return, Raise, Step, Get, Set, bind}
 use Rattle.pipe_model.specs.SyntaxTree.{Expression, Number, Name, Element, And, Or, Binary, Unary, More, Take, Iter}
 
 -- the tree names no next stage, and what it returns has the property

@@ -1,24 +1,22 @@
 -- The programs of the first form are well-formed pipelines.
-use Rattle.std.proofs.Common.{◌≡◌, ◌∙◌, ℕ, zero, suc, ℤ, pos, negsuc, Bool, true, false, ◌&&◌, List, [], refl, ap, sym, arith, if◌then◌else◌, IsTrue}
-use Rattle.std.proofs.lemmas.Int.{ints}
+use Rattle.std.proofs.Common.{◌≡◌, ℕ, zero, suc, ℤ, pos, negsuc, Bool, true, false, ◌&&◌, List, [], refl, if◌then◌else◌}
 use Rattle.std.specs.Ordering.{int_eq}
 use Rattle.std.proofs.lemmas.Bool.Decides.{Decides-int_eq}
 use Rattle.pipe_model.specs.declared.column.ColumnEnd.{ColumnEnd}
-use Rattle.pipe_model.specs.declared.column.ColumnEnd.TheVariants as ends
 use Rattle.pipe_model.specs.declared.symbol.Symbol.{Symbol}
 use Rattle.pipe_model.specs.declared.trap.Trap.TheVariants as traps
 use Rattle.pipe_model.specs.Behaviour.{is_closing}
-use Rattle.pipe_model.specs.Evaluation.{Setting, evaluate, execute_all, first_environment, run_iteration, after_test}
+use Rattle.pipe_model.specs.Evaluation.{Setting, first_environment, run_iteration}
 use Rattle.pipe_model.specs.Grammar.{DerivesProgram, ProgramIs}
-use Rattle.pipe_model.specs.Interaction.{Interaction, Return, Raise, bind, with_budget}
-use Rattle.pipe_model.specs.Pipeline.{AlwaysClosesLoop, HasLegalStages, IsWellFormed}
+use Rattle.pipe_model.specs.Interaction.{Interaction, with_budget}
+use Rattle.pipe_model.specs.Pipeline.{AlwaysClosesLoop, IsWellFormed}
 use Rattle.pipe_model.specs.Programs.{natural, pipeline_of, setting_of}
-use Rattle.pipe_model.specs.Rules.{is_between, limits_are_in_range, program_obeys}
+use Rattle.pipe_model.specs.Rules.{is_between, limits_are_in_range}
 use Rattle.pipe_model.specs.Spelling.{IsFirstForm}
 use Rattle.pipe_model.specs.SyntaxTree.{Expression, Statements, SyntaxTree}
 use Rattle.language_laws.proofs.LegalStages.{Rises, RisesReturn, RisesRaise, RisesStep, EndsRightly, either_by_zero, legal-with_budget, rises-bind, rises-execute_all, straight-then}
 use Rattle.language_laws.proofs.NamedKinds.{AllNameKinds, derived_name_kinds}
-use Rattle.language_laws.proofs.Straight.{Anything, IsStraight, Returns, Raises, Steps, Gets, Sets, straight-bind, straight-evaluate}
+use Rattle.language_laws.proofs.Straight.{IsStraight, Returns, Raises, Steps, Gets, Sets, straight-bind, straight-evaluate}
 use Rattle.language_laws.proofs.Straight.{either_by_zero as straight_by_zero}
 
 -- one of two trees after the test

@@ -1,7 +1,6 @@
 -- Worked examples: small programs, what their serial elisions come to, and a line of source with its symbols and its statement.
 use Rattle.std.specs.Prelude.{◌≡◌, ℕ, ℤ, pos, List, [], ◌∷◌, Option, Some, None, codes}
 use Rattle.pipe_model.specs.declared.node.Kind.TheVariants as kinds
-use Rattle.pipe_model.specs.declared.node.Node.{Node}
 use Rattle.pipe_model.specs.declared.symbol.Symbol.{Symbol}
 use Rattle.pipe_model.specs.declared.symbol.Symbol.TheVariants as symbols
 use Rattle.pipe_model.specs.declared.trap.Trap.{Trap}
@@ -15,7 +14,7 @@ use Rattle.pipe_model.specs.Lexis.{Divides}
 use Rattle.pipe_model.specs.Outcome.{serial_output, serial_trap}
 use Rattle.pipe_model.specs.Programs.{pipeline_of}
 use Rattle.pipe_model.specs.SerialElision.{serial_columns}
-use Rattle.pipe_model.specs.SyntaxTree.{Expression, Number, Name, Binary, Statement, Let, Assign, Emit, Stage, Statements, Empty, Then, SyntaxTree}
+use Rattle.pipe_model.specs.SyntaxTree.{Expression, Number, Name, Binary, Let, Assign, Emit, Stage, Empty, Then, SyntaxTree}
 use Rattle.pipe_model.specs.Texts.{output_lines, trap_line}
 use Rattle.pipe_model.specs.Words.{word_let, equals, semicolon}
 

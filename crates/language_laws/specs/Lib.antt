@@ -2,3 +2,4 @@ pub mod Examples
 pub mod SpellingLaws
 pub mod TokenLaws
 pub mod ProgramLaws
+pub mod FirstFormLaws

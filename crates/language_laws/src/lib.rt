@@ -3,6 +3,7 @@
 #![tactic(auto)]
 
 pub mod examples;
+pub mod first_form;
 pub mod programs;
 pub mod spelling;
 pub mod tokens;

@@ -1,10 +1,10 @@
 -- What is read in a window of symbols, with one of them left, is read in all symbols; and where a reader is stuck in it, it is stuck in all.
-use Rattle.std.proofs.Common.{◌≡◌, ◌≢◌, ℕ, suc, ◌+◌, ◌<◌, List, [], ◌∷◌, ◌++◌, length, length-append, refl, sym, ap, ◌∙◌, arith, Option, Some, None, Bool, true, false}
+use Rattle.std.proofs.Common.{◌≡◌, ◌≢◌, ℕ, ◌+◌, ◌<◌, List, [], ◌∷◌, ◌++◌, length, length-append, refl, sym, ap, ◌∙◌, arith, Option, Some, None, Bool, true, false}
 use Rattle.pipe_model.specs.declared.symbol.Symbol.{Symbol}
 use Rattle.pipe_model.specs.declared.symbol.Symbol.TheVariants as symbols
 use Rattle.pipe_model.specs.SyntaxTree.{Expression}
 use Rattle.pipe_model.specs.WholeReading.{Reads, ReadsNumeral, ReadsName, ReadsElement, ReadsMore, ReadsTake, ReadsIter, ReadsNegative, ReadsNot, ReadsBracketed, ReadsChain, Extends, Ends, Joins, NoSign, next_rank}
-use Rattle.pipe_model.specs.ExpressionMachine.{Want, step, may_end, Ending, Done, Stuck, ended, ending, ending_on, IsStuck}
+use Rattle.pipe_model.specs.ExpressionMachine.{Want, step, may_end, Stuck, ended, ending, ending_on, IsStuck}
 
 sign_window : (ts more : List Symbol) → ts ≢ [] → NoSign 91 ts → NoSign 91 (ts ++ more)
 sign_window [] more n h = absurd (n refl)

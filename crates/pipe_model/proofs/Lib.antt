@@ -33,3 +33,6 @@ pub mod CanonicalBounds
 pub mod CanonicalPieces
 pub mod WritablePrograms
 pub mod CanonicalSpelling
+pub mod FirstFormCounts
+pub mod FirstFormLaws
+pub mod FirstFormSources

@@ -70,7 +70,7 @@ no_blank_slash : (b c : ℕ) → is_blank b ≡ true → ((b == 47) && (c == 47)
 no_blank_slash b c g h = grind (arith, nat_tests)
 
 -- what begins as a comment does so with what follows
-comment_begins : (text rest : List ℕ) → begins_comment text ≡ true → begins_comment (text ++ rest) ≡ true
+pub comment_begins : (text rest : List ℕ) → begins_comment text ≡ true → begins_comment (text ++ rest) ≡ true
 comment_begins [] rest e = cc (e)
 comment_begins (a ∷ []) rest e = cc (e)
 comment_begins (a ∷ b ∷ bs) rest e = e

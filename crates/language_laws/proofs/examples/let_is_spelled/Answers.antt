@@ -1,4 +1,4 @@
-use Rattle.std.proofs.Common.{refl, [], ◌∷◌, Some, arith, rules}
+use Rattle.std.proofs.Common.{refl, [], ◌∷◌, arith}
 use Rattle.pipe_model.specs.Grammar.{LetIs, Tighter, Named}
 use Rattle.pipe_model.specs.Lexis.{Blank, Taken, AtEnd}
 use Rattle.pipe_model.specs.Words.{word_let, equals, semicolon}
