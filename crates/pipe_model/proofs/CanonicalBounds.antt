@@ -94,7 +94,7 @@ pub plain_deep : {us ts : List Symbol} (t u : Symbol) → IsPlain t → IsPlain 
 plain_deep {us} {ts} t u p q d = record {
   deep = λ n rest other h c.
       rw (peak_plain n t (us ++ rest) p, most_plain (n + c) c u (ts ++ other) q)
-      (greater_both n (peak n (us ++ rest)) ((n + c) - c) (most_open (n + c) c (ts ++ other)) (omega arith) (d.deep n rest other h c))
+      (greater_both n (peak n (us ++ rest)) ((n + c) - c) (most_open (n + c) c (ts ++ other)) (omega arith) (d.deep n rest other h c));
 }
 
 -- a symbol more that is no bracket
@@ -102,7 +102,7 @@ pub front_deep : {us ts : List Symbol} (t : Symbol) → IsPlain t → NoDeeper u
 front_deep {us} {ts} t p d = record {
   deep = λ n rest other h c.
       rw (most_plain (n + c) c t (ts ++ other) p)
-      (let x = d.deep n rest other h c in let y = greater_right ((n + c) - c) (most_open (n + c) c (ts ++ other)) in omega (arith, x, y))
+      (let x = d.deep n rest other h c in let y = greater_right ((n + c) - c) (most_open (n + c) c (ts ++ other)) in omega (arith, x, y));
 }
 
 peak_least : (n : ℕ) (ts : List Symbol) → n ≤ peak n ts
@@ -113,12 +113,12 @@ pub more_deep : {us ts : List Symbol} (t : Symbol) → IsPlain t → NoDeeper us
 more_deep {us} {ts} t p d = record {
   deep = λ n rest other h c.
       rw (peak_plain n t (us ++ rest) p)
-      (let x = d.deep n rest other h c in let y = peak_least n (us ++ rest) in greater_least n (peak n (us ++ rest)) (most_open (n + c) c (ts ++ other)) (omega (arith, x, y)) x)
+      (let x = d.deep n rest other h c in let y = peak_least n (us ++ rest) in greater_least n (peak n (us ++ rest)) (most_open (n + c) c (ts ++ other)) (omega (arith, x, y)) x);
 }
 
 pub both_deep : {us ts vs ws : List Symbol} → NoDeeper us ts → NoDeeper vs ws → NoDeeper (us ++ vs) (ts ++ ws)
 both_deep {us} {ts} {vs} {ws} d e = record {
-  deep = λ n rest other h. rw (append_assoc us vs rest, append_assoc ts ws other) (d.deep n (vs ++ rest) (ws ++ other) (e.deep n rest other h))
+  deep = λ n rest other h. rw (append_assoc us vs rest, append_assoc ts ws other) (d.deep n (vs ++ rest) (ws ++ other) (e.deep n rest other h));
 }
 
 -- a closing bracket before rests
@@ -150,12 +150,12 @@ plain_lifts : {us : List Symbol} (t : Symbol) → IsPlain t → Lifts us → Lif
 plain_lifts {us} t p l = record {
   lift = λ n rest other h.
       rw (peak_plain n t (us ++ rest) p, peak_plain (suc n) t (us ++ other) p)
-      (greater_both n (peak n (us ++ rest)) (suc n) (peak (suc n) (us ++ other)) (omega arith) (l.lift n rest other h))
+      (greater_both n (peak n (us ++ rest)) (suc n) (peak (suc n) (us ++ other)) (omega arith) (l.lift n rest other h));
 }
 
 both_lift : {us vs : List Symbol} → Lifts us → Lifts vs → Lifts (us ++ vs)
 both_lift {us} {vs} l m = record {
-  lift = λ n rest other h. rw (append_assoc us vs rest, append_assoc us vs other) (l.lift n (vs ++ rest) (vs ++ other) (m.lift n rest other h))
+  lift = λ n rest other h. rw (append_assoc us vs rest, append_assoc us vs other) (l.lift n (vs ++ rest) (vs ++ other) (m.lift n rest other h));
 }
 
 nested_lifts : {us : List Symbol} (a b : Symbol) → IsPair a b → Lifts us → Lifts (a ∷ (us ++ b ∷ []))
