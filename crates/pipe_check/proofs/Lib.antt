@@ -8,4 +8,4 @@ pub mod Blocks
 pub mod Statements
 pub mod CellTables
 pub mod Regions
-pub mod Weighing
+pub mod Weights

@@ -12,6 +12,8 @@ mod scope;
 mod statement;
 #[cfg(test)]
 mod tests;
+#[cfg(test)]
+mod weighing;
 
 pub use checked::Checked;
 pub use fault::CheckFault;

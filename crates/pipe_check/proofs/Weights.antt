@@ -35,6 +35,19 @@ weighed_both v w n m es fs a b = record {
   weight_is = omega (arith, a.weight_is, b.weight_is, sum_by-append node_count es fs);
 }
 
+-- the parts of a program
+pub weighed_parts : (tree : SyntaxTree) (init test body last : ℕ) → AreWeighed init (expressions_of_statements tree.init) (statement_counts tree.init)
+    → IsWeighed test tree.test → test ≤ 256 → AreWeighed body (expressions_of_statements tree.body) (statement_counts tree.body)
+    → AreWeighed last (expressions_of_statements tree.last) (statement_counts tree.last)
+    → AreWeighed (init + (test + (body + last))) (expressions_of tree) (statement_counts tree.init + (statement_counts tree.body + statement_counts tree.last))
+weighed_parts tree init test body last a b short c d =
+    let loop_parts = weighed_both body last _ _ (expressions_of_statements tree.body) (expressions_of_statements tree.last) c d in
+    let behind = weighed_both test (body + last) 0 _ (tree.test ∷ []) (expressions_of_statements tree.body ++ expressions_of_statements tree.last)
+        (weighed_one test tree.test b short) loop_parts in
+    let all = weighed_both init (test + (body + last)) _ _ (expressions_of_statements tree.init) (tree.test ∷ (expressions_of_statements tree.body ++ expressions_of_statements tree.last))
+        a behind in
+    record { known = all.known; short = all.short; weight_is = omega (arith, all.weight_is) }
+
 -- a statement more
 pub weighed_more : (v n : ℕ) (es : List Expression) → AreWeighed v es n → AreWeighed (v + 1) es (1 + n)
 weighed_more v n es a = record { known = a.known; short = a.short; weight_is = omega (arith, a.weight_is) }
