@@ -1,5 +1,5 @@
 -- Statements with blocks, as the code has them and as plain data.
-use Rattle.std.proofs.Common.{◌≡◌, ◌∙◌, List, [], ◌∷◌, refl, ap}
+use Rattle.std.proofs.Common.{◌≡◌, ◌∙◌, refl, ap}
 use mathlib.Core.Former.{Count}
 use Rattle.pipe_model.specs.declared.tree.Block.{Block}
 use Rattle.pipe_model.specs.declared.tree.Expr.{Expr}

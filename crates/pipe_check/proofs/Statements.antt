@@ -1,5 +1,5 @@
 -- The marks of a list of statements, one statement after the other, and those of statements with blocks.
-use Rattle.std.proofs.Common.{◌≡◌, ◌∙◌, ℕ, zero, suc, ◌+◌, ◌<◌, ◌≤◌, List, [], ◌∷◌, ◌++◌, length, take, drop, get_or, refl, sym, ap, subst, arith, Result, Ok, Err, Option, length-append}
+use Rattle.std.proofs.Common.{◌≡◌, ◌∙◌, ℕ, zero, suc, ◌+◌, ◌<◌, ◌≤◌, List, [], ◌∷◌, ◌++◌, length, take, drop, get_or, sym, ap, subst, arith, Result, Ok, Err, Option, length-append}
 use Rattle.std.proofs.lemmas.List.{drop_all, at_drop_more}
 use Rattle.pipe_check.specs.declared.fault.CheckFault.{CheckFault}
 use Rattle.pipe_check.specs.Passing.{Tells, Passes, Fits}
@@ -26,7 +26,7 @@ pub block_refused : (scope : Scope) (ss : List Stmt) (i n : ℕ) (s : Stmt) (ref
 block_refused scope ss i n s refusal whole h e is p =
     let rest = statements_of (drop (i + 1) ss) in
     let all : Passes (Err refusal) n (marks_of_statements scope (Then (statement_of s) rest)) =
-        fails_first refusal n (marks_of_statement scope (statement_of s)) (marks_of_statements (after_statement scope (statement_of s)) rest) p in
+    fails_first refusal n (marks_of_statement scope (statement_of s)) (marks_of_statements (after_statement scope (statement_of s)) rest) p in
     subst (λ fault. Tells refusal fault) (ap (λ t. first_fault n (marks_of_statements scope t)) (sym (statements_from ss i s h e)) ∙ is) all
 
 -- the statement at a place passes, and the others have the faults, the numbers and the end of the statements from there on
@@ -41,7 +41,7 @@ pub statement_fits : (scope : Scope) (ss : List Stmt) (i n all : ℕ) (s : Stmt)
 statement_fits scope ss i n all s h e is few =
     let rest = statements_of (drop (i + 1) ss) in
     let from : length (marks_of_statements scope (statements_of (drop i ss))) ≡ length (marks_of_statements scope (Then (statement_of s) rest)) =
-        ap (λ t. length (marks_of_statements scope t)) (statements_from ss i s h e) in
+    ap (λ t. length (marks_of_statements scope t)) (statements_from ss i s h e) in
     omega (arith, is, few, from, length-append (marks_of_statement scope (statement_of s)) (marks_of_statements (after_statement scope (statement_of s)) rest))
 
 -- a statement of a list counts at most as much as the list

@@ -1,13 +1,12 @@
 -- Weights add up, and bound the size of a program.
-use Rattle.std.proofs.Common.{◌≡◌, ◌∙◌, ℕ, zero, suc, ◌+◌, ◌<◌, ◌≤◌, ◌≤ℤ◌, pos, slice_index_or, Bool, true, List, [], ◌∷◌, ◌++◌, length, sum_by, All, ap, sym, refl, arith, length-append, ◌&&◌}
-use Rattle.std.proofs.lemmas.Bool.{and_from}
+use Rattle.std.proofs.Common.{◌≡◌, ◌∙◌, ℕ, zero, suc, ◌+◌, ◌<◌, ◌≤◌, ◌≤ℤ◌, pos, slice_index_or, true, List, [], ◌∷◌, ◌++◌, length, sum_by, All, ap, refl, arith, length-append}
 use Rattle.std.proofs.lemmas.List.Elements.{All-append}
 use Rattle.std.proofs.lemmas.List.Sums.{sum_by-append}
 use Rattle.pipe_check.specs.Weights.{IsWeighed, AreWeighed}
 use Rattle.pipe_model.specs.declared.tree.Declaration.{Declaration}
 use Rattle.pipe_model.specs.Marks.{Scope, after_block, after_statement, marks_of, marks_of_cells, marks_of_expression, marks_of_statement, marks_of_statements, opening}
 use Rattle.pipe_model.specs.declared.region.Region.TheVariants as regions
-use Rattle.pipe_model.specs.SpellablePrograms.{has_known_operators, node_count, expressions_of, expressions_of_statement, expressions_of_statements, statement_count, statement_counts, size_of, HasNoNegativeSize, IsSpellable}
+use Rattle.pipe_model.specs.SpellablePrograms.{has_known_operators, node_count, expressions_of, expressions_of_statement, expressions_of_statements, statement_count, statement_counts, HasNoNegativeSize, IsSpellable}
 use Rattle.pipe_model.specs.SyntaxTree.{Expression, Number, Name, Element, And, Or, Binary, Unary, More, Take, Iter, Statement, Let, Assign, AssignElement, Emit, If, While, Stage, NextStage, Statements, Empty, Then, SyntaxTree}
 use Rattle.pipe_check.proofs.Regions.{cells_length}
 
@@ -43,9 +42,9 @@ pub weighed_parts : (tree : SyntaxTree) (init test body last : ℕ) → AreWeigh
 weighed_parts tree init test body last a b short c d =
     let loop_parts = weighed_both body last _ _ (expressions_of_statements tree.body) (expressions_of_statements tree.last) c d in
     let behind = weighed_both test (body + last) 0 _ (tree.test ∷ []) (expressions_of_statements tree.body ++ expressions_of_statements tree.last)
-        (weighed_one test tree.test b short) loop_parts in
+    (weighed_one test tree.test b short) loop_parts in
     let all = weighed_both init (test + (body + last)) _ _ (expressions_of_statements tree.init) (tree.test ∷ (expressions_of_statements tree.body ++ expressions_of_statements tree.last))
-        a behind in
+    a behind in
     record { known = all.known; short = all.short; weight_is = omega (arith, all.weight_is) }
 
 -- a statement more
@@ -80,13 +79,16 @@ mutual
       let first = block_marks scope a in
       let second = block_marks (after_block scope a) b in
       let whole : sum_by node_count (expressions_of_statement (If e a b))
-              ≡ node_count e + (sum_by node_count (expressions_of_statements a) + sum_by node_count (expressions_of_statements b)) =
-          omega (arith, sum_by-append node_count (e ∷ []) (expressions_of_statements a ++ expressions_of_statements b),
-          sum_by-append node_count (expressions_of_statements a) (expressions_of_statements b)) in
+      ≡ node_count e + (sum_by node_count (expressions_of_statements a) + sum_by node_count (expressions_of_statements b)) =
+      omega (
+        arith,
+        sum_by-append node_count (e ∷ []) (expressions_of_statements a ++ expressions_of_statements b),
+        sum_by-append node_count (expressions_of_statements a) (expressions_of_statements b),
+      ) in
       let marks : length (marks_of_statement scope (If e a b))
-              ≡ length (marks_of_expression scope e) + (length (marks_of_statements scope a) + length (marks_of_statements (after_block scope a) b)) =
-          length-append (marks_of_expression scope e) (marks_of_statements scope a ++ marks_of_statements (after_block scope a) b)
-          ∙ ap (λ k. length (marks_of_expression scope e) + k) (length-append (marks_of_statements scope a) (marks_of_statements (after_block scope a) b)) in
+      ≡ length (marks_of_expression scope e) + (length (marks_of_statements scope a) + length (marks_of_statements (after_block scope a) b)) =
+      length-append (marks_of_expression scope e) (marks_of_statements scope a ++ marks_of_statements (after_block scope a) b)
+      ∙ ap (λ k. length (marks_of_expression scope e) + k) (length-append (marks_of_statements scope a) (marks_of_statements (after_block scope a) b)) in
       omega (arith, test, first, second, whole, marks)
   statement_marks scope (While e a) =
       let test = marks_few scope e in
@@ -100,8 +102,13 @@ mutual
   block_marks scope (Then s ss) =
       let one = statement_marks scope s in
       let rest = block_marks (after_statement scope s) ss in
-      omega (arith, one, rest, length-append (marks_of_statement scope s) (marks_of_statements (after_statement scope s) ss),
-      sum_by-append node_count (expressions_of_statement s) (expressions_of_statements ss))
+      omega (
+        arith,
+        one,
+        rest,
+        length-append (marks_of_statement scope s) (marks_of_statements (after_statement scope s) ss),
+        sum_by-append node_count (expressions_of_statement s) (expressions_of_statements ss),
+      )
 
 -- the marks of a program
 program_marks : (tree : SyntaxTree) → length (marks_of tree) ≤ length tree.cells + ((statement_counts tree.init + (statement_counts tree.body + statement_counts tree.last))
@@ -112,12 +119,21 @@ program_marks tree =
     let c = marks_of_expression (opening regions.Test tree.cells) tree.test in
     let d = marks_of_statements (opening regions.Body tree.cells) tree.body in
     let e = marks_of_statements (opening regions.Last tree.cells) tree.last in
-    omega (arith, length-append a (b ++ (c ++ (d ++ e))), length-append b (c ++ (d ++ e)), length-append c (d ++ e), length-append d e, cells_length [] tree.cells,
-    block_marks (opening regions.Init tree.cells) tree.init, marks_few (opening regions.Test tree.cells) tree.test, block_marks (opening regions.Body tree.cells) tree.body,
-    block_marks (opening regions.Last tree.cells) tree.last,
-    sum_by-append node_count (expressions_of_statements tree.init) (tree.test ∷ (expressions_of_statements tree.body ++ expressions_of_statements tree.last)),
-    sum_by-append node_count (tree.test ∷ []) (expressions_of_statements tree.body ++ expressions_of_statements tree.last),
-    sum_by-append node_count (expressions_of_statements tree.body) (expressions_of_statements tree.last))
+    omega (
+      arith,
+      length-append a (b ++ (c ++ (d ++ e))),
+      length-append b (c ++ (d ++ e)),
+      length-append c (d ++ e),
+      length-append d e,
+      cells_length [] tree.cells,
+      block_marks (opening regions.Init tree.cells) tree.init,
+      marks_few (opening regions.Test tree.cells) tree.test,
+      block_marks (opening regions.Body tree.cells) tree.body,
+      block_marks (opening regions.Last tree.cells) tree.last,
+      sum_by-append node_count (expressions_of_statements tree.init) (tree.test ∷ (expressions_of_statements tree.body ++ expressions_of_statements tree.last)),
+      sum_by-append node_count (tree.test ∷ []) (expressions_of_statements tree.body ++ expressions_of_statements tree.last),
+      sum_by-append node_count (expressions_of_statements tree.body) (expressions_of_statements tree.last),
+    )
 
 -- a light program may be spelled
 pub light_is_spellable : (tree : SyntaxTree) (weight : ℕ) → AreWeighed weight (expressions_of tree) (statement_counts tree.init + (statement_counts tree.body + statement_counts tree.last))

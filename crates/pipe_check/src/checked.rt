@@ -18,7 +18,6 @@ pub struct Checked {
 
 impl Model for Checked {
     ghost use Rattle.pipe_model.specs.declared.tree.Program.{Program};
-
     ghost use Rattle.pipe_model.specs.contracts.tree.Expr as expr;
     ghost use Rattle.pipe_model.specs.contracts.tree.Stmt as stmt;
     ghost use Rattle.std.specs.Coded.{codes};

@@ -33,7 +33,12 @@ fn check_region(
     requires { Fits next (marks_of_statements (opening region cells.now) (statements_of block.now.statements.items)) }
     ensures { Passes result next (marks_of_statements (opening region cells.now) (statements_of block.now.statements.items)) }
 {
-    check_block(alloc, &mut Scope::opening(alloc, region, cells), next, block)
+    check_block(
+        alloc,
+        &mut Scope::opening(alloc, region, cells),
+        next,
+        block,
+    )
 }
 
 // the marks of the loop's test

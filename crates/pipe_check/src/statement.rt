@@ -71,12 +71,7 @@ fn check_stage(scope: &Scope, next: u32, number: &Option<Expr>) -> Result<u32, C
 /// The marks of a statement, from the one with this number on: the number behind them, or the first fault. The scope is then that
 /// behind the statement.
 #[cycle(walk)]
-fn check_statement(
-    alloc: Global,
-    scope: &mut Scope,
-    next: u32,
-    s: &Stmt,
-) -> Result<u32, CheckFault>
+fn check_statement(alloc: Global, scope: &mut Scope, next: u32, s: &Stmt) -> Result<u32, CheckFault>
     requires fits { Fits next (marks_of_statement scope.old (statement_of s.now)) }
     ensures marks { Passes result next (marks_of_statement scope.old (statement_of s.now)) }
     ensures behind { OnOk result (scope.new ≡ after_statement scope.old (statement_of s.now)) }

@@ -101,7 +101,12 @@ fn program(alloc: Global, declared: &[Cell], body: Block) -> Result<Program, NoM
 }
 
 // what the check of a program must answer
-fn expect(rt: &impl Abort, alloc: Global, program: Program, wanted: Option<CheckFault>) -> Option<Checked> {
+fn expect(
+    rt: &impl Abort,
+    alloc: Global,
+    program: Program,
+    wanted: Option<CheckFault>,
+) -> Option<Checked> {
     assert!(rt; is_spellable(&program));
     match check(alloc, program) {
         Ok(checked) => {
@@ -116,14 +121,27 @@ fn expect(rt: &impl Abort, alloc: Global, program: Program, wanted: Option<Check
 }
 
 // a program with these cells and this body
-fn body(rt: &impl Abort, alloc: Global, declared: &[Cell], words: &[&str], wanted: Option<CheckFault>) -> Result<(), NoMemory> {
+fn body(
+    rt: &impl Abort,
+    alloc: Global,
+    declared: &[Cell],
+    words: &[&str],
+    wanted: Option<CheckFault>,
+) -> Result<(), NoMemory> {
     let program = program(alloc, declared, block(alloc, words)?)?;
     let _ = expect(rt, alloc, program, wanted);
     Ok(())
 }
 
 // a program with the cell `n` and these parts
-fn parts(rt: &impl Abort, alloc: Global, init: &[&str], test: u8, last: &[&str], wanted: Option<CheckFault>) -> Result<(), NoMemory> {
+fn parts(
+    rt: &impl Abort,
+    alloc: Global,
+    init: &[&str],
+    test: u8,
+    last: &[&str],
+    wanted: Option<CheckFault>,
+) -> Result<(), NoMemory> {
     let mut program = program(alloc, &[N], block(alloc, &["lx1", "e.x"])?)?;
     program.init = block(alloc, init)?;
     program.test = expression(alloc, test)?;
@@ -133,7 +151,13 @@ fn parts(rt: &impl Abort, alloc: Global, init: &[&str], test: u8, last: &[&str],
 }
 
 // `let` statements of so many names, and one more
-fn locals(rt: &impl Abort, alloc: Global, count: u8, more: &str, wanted: Option<CheckFault>) -> Result<(), NoMemory> {
+fn locals(
+    rt: &impl Abort,
+    alloc: Global,
+    count: u8,
+    more: &str,
+    wanted: Option<CheckFault>,
+) -> Result<(), NoMemory> {
     let mut statements = Vec::new(alloc);
     for i in 0..count {
         statements.push(Stmt::Let(Name::new(alloc, &[b'x', i])?, Expr::Number(1)))?;
@@ -145,7 +169,14 @@ fn locals(rt: &impl Abort, alloc: Global, count: u8, more: &str, wanted: Option<
 }
 
 // statements before a branch or a loop, its blocks, and a statement behind it
-fn nested(rt: &impl Abort, alloc: Global, before: &[&str], inside: Stmt, behind: &[&str], wanted: Option<CheckFault>) -> Result<(), NoMemory> {
+fn nested(
+    rt: &impl Abort,
+    alloc: Global,
+    before: &[&str],
+    inside: Stmt,
+    behind: &[&str],
+    wanted: Option<CheckFault>,
+) -> Result<(), NoMemory> {
     let mut statements = Vec::new(alloc);
     add(alloc, &mut statements, before)?;
     statements.push(inside)?;
@@ -164,7 +195,13 @@ fn repeat(alloc: Global, a: &[&str]) -> Result<Stmt, NoMemory> {
 }
 
 fn uses(rt: &impl Abort, alloc: Global) -> Result<(), NoMemory> {
-    body(rt, alloc, &[N, PAIR], &["lx@", "=nx", "[an", "c.1", "e.A", "W.."], None)?;
+    body(
+        rt,
+        alloc,
+        &[N, PAIR],
+        &["lx@", "=nx", "[an", "c.1", "e.A", "W.."],
+        None,
+    )?;
     body(rt, alloc, &[N], &["e.x"], Some(CheckFault::Unknown(1)))?;
     body(rt, alloc, &[N], &["e.X"], Some(CheckFault::Unknown(1)))?;
     body(rt, alloc, &[N], &["=xy"], Some(CheckFault::Unknown(1)))?;
@@ -172,9 +209,27 @@ fn uses(rt: &impl Abort, alloc: Global) -> Result<(), NoMemory> {
     body(rt, alloc, &[N], &["lxx"], Some(CheckFault::Unknown(2)))?;
     body(rt, alloc, &[N], &["e.N"], Some(CheckFault::NotAnArray(1)))?;
     body(rt, alloc, &[N], &["[n1"], Some(CheckFault::NotAnArray(1)))?;
-    body(rt, alloc, &[N], &["lx1", "e.X"], Some(CheckFault::NotAnArray(2)))?;
-    body(rt, alloc, &[PAIR], &["e.a"], Some(CheckFault::NeedsIndex(1)))?;
-    body(rt, alloc, &[PAIR], &["=a1"], Some(CheckFault::NeedsIndex(1)))?;
+    body(
+        rt,
+        alloc,
+        &[N],
+        &["lx1", "e.X"],
+        Some(CheckFault::NotAnArray(2)),
+    )?;
+    body(
+        rt,
+        alloc,
+        &[PAIR],
+        &["e.a"],
+        Some(CheckFault::NeedsIndex(1)),
+    )?;
+    body(
+        rt,
+        alloc,
+        &[PAIR],
+        &["=a1"],
+        Some(CheckFault::NeedsIndex(1)),
+    )?;
     Ok(())
 }
 
@@ -188,8 +243,20 @@ fn declarations(rt: &impl Abort, alloc: Global) -> Result<(), NoMemory> {
     body(rt, alloc, &[most], &[], None)?;
     body(rt, alloc, &[N, (b'a', Some(65_535))], &[], None)?;
     body(rt, alloc, &[more], &[], Some(CheckFault::TooManyCells(0)))?;
-    body(rt, alloc, &[most, N], &[], Some(CheckFault::TooManyCells(1)))?;
-    body(rt, alloc, &[N, (b'a', Some(i64::MAX))], &[], Some(CheckFault::TooManyCells(1)))?;
+    body(
+        rt,
+        alloc,
+        &[most, N],
+        &[],
+        Some(CheckFault::TooManyCells(1)),
+    )?;
+    body(
+        rt,
+        alloc,
+        &[N, (b'a', Some(i64::MAX))],
+        &[],
+        Some(CheckFault::TooManyCells(1)),
+    )?;
     body(rt, alloc, &[N, none], &[], Some(CheckFault::ZeroSize(1)))?;
     body(rt, alloc, &[most, PAIR], &[], Some(CheckFault::Twice(1)))?;
     body(rt, alloc, &[PAIR, none], &[], Some(CheckFault::Twice(1)))?;
@@ -203,10 +270,38 @@ fn declarations(rt: &impl Abort, alloc: Global) -> Result<(), NoMemory> {
 fn regions(rt: &impl Abort, alloc: Global) -> Result<(), NoMemory> {
     parts(rt, alloc, &["lx1"], b'@', &["lx1"], None)?;
     parts(rt, alloc, &["lx1"], b'x', &[], Some(CheckFault::Unknown(2)))?;
-    parts(rt, alloc, &["e.@"], b'1', &[], Some(CheckFault::PipeOutside(1)))?;
-    parts(rt, alloc, &["w.x"], b'1', &[], Some(CheckFault::PipeOutside(1)))?;
-    parts(rt, alloc, &[], b'1', &["e.@"], Some(CheckFault::PipeOutside(3)))?;
-    parts(rt, alloc, &[], b'1', &["C.."], Some(CheckFault::PipeOutside(3)))?;
+    parts(
+        rt,
+        alloc,
+        &["e.@"],
+        b'1',
+        &[],
+        Some(CheckFault::PipeOutside(1)),
+    )?;
+    parts(
+        rt,
+        alloc,
+        &["w.x"],
+        b'1',
+        &[],
+        Some(CheckFault::PipeOutside(1)),
+    )?;
+    parts(
+        rt,
+        alloc,
+        &[],
+        b'1',
+        &["e.@"],
+        Some(CheckFault::PipeOutside(3)),
+    )?;
+    parts(
+        rt,
+        alloc,
+        &[],
+        b'1',
+        &["C.."],
+        Some(CheckFault::PipeOutside(3)),
+    )?;
     parts(rt, alloc, &[], b'1', &["e.x"], Some(CheckFault::Unknown(3)))?;
     Ok(())
 }
@@ -221,7 +316,14 @@ fn scopes(rt: &impl Abort, alloc: Global) -> Result<(), NoMemory> {
     let both = branch(alloc, &["lx1"], &["lx1"])?;
     nested(rt, alloc, &[], both, &[], Some(CheckFault::Twice(2)))?;
     let again = repeat(alloc, &["lx1", "w.x"])?;
-    nested(rt, alloc, &[], again, &["e.x"], Some(CheckFault::Unknown(4)))?;
+    nested(
+        rt,
+        alloc,
+        &[],
+        again,
+        &["e.x"],
+        Some(CheckFault::Unknown(4)),
+    )?;
     let hidden = repeat(alloc, &["lx1"])?;
     nested(rt, alloc, &[], hidden, &["lx1"], Some(CheckFault::Twice(2)))?;
     Ok(())

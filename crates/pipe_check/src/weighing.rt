@@ -44,7 +44,9 @@ fn weigh_statement(s: &Stmt) -> Option<u32>
         Stmt::Let(_, e) => weigh_whole(e)?.checked_add(1),
         Stmt::Assign(_, e) => weigh_whole(e)?.checked_add(1),
         Stmt::Emit(e) => weigh_whole(e)?.checked_add(1),
-        Stmt::AssignElement(_, i, e) => weigh_whole(i)?.checked_add(weigh_whole(e)?)?.checked_add(1),
+        Stmt::AssignElement(_, i, e) => weigh_whole(i)?
+            .checked_add(weigh_whole(e)?)?
+            .checked_add(1),
         Stmt::Wait(Some(e)) => weigh_whole(e)?.checked_add(1),
         Stmt::Continue(Some(e)) => weigh_whole(e)?.checked_add(1),
         Stmt::Wait(None) | Stmt::Continue(None) => Some(1),

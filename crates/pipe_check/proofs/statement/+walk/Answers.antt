@@ -1,8 +1,8 @@
-use Rattle.std.proofs.Common.{◌≡◌, ◌<◌, ◌∙◌, sym, ap, arith, rules, length}
+use Rattle.std.proofs.Common.{◌≡◌, ◌<◌, ◌∙◌, sym, ap, arith, length}
 use Rattle.std.proofs.lemmas.Result.{err_from_is_err_and}
 use Rattle.pipe_model.specs.Marks.{after_statements}
 use Rattle.pipe_model.specs.SpellablePrograms.{statement_count, statement_counts}
-use Rattle.pipe_model.specs.SyntaxTree.{If, While, expression_of, statement_of, statements_of}
+use Rattle.pipe_model.specs.SyntaxTree.{expression_of, statement_of, statements_of}
 use Rattle.pipe_check.proofs.Blocks.{if_seen, while_seen}
 use Rattle.pipe_check.proofs.Statements.{none_left, block_refused, statement_fits, one_counts, statement_passed, block_left, test_refused, first_refused, second_decides, first_fits, second_fits, branch_left, loop_refused, body_decides, body_fits, loop_left}
 use Rattle.pipe_check.proofs.Results.{on_ok}
@@ -20,15 +20,17 @@ check_block-check_statement-requires t c =
     let items = c.deref-s-items.result.now in
     let w : c.loop-s.s-index < length c.deref-s-items.result.now = omega arith in
     let counted = one_counts items c.loop-s.s-index c.s-item.result w c.s-item.is in
-    let whole = ap (λ ss. statement_counts (statements_of ss)) c.deref-s-items.ensures.value in
-    (omega (arith, c.decreases, counted, whole), statement_fits c.loop-s.scope items c.loop-s.s-index c.loop-s.next _ c.s-item.result w c.s-item.is c.loop-s.invariant.numbers
-    c.requires.fits)
+    let whole = ap (λ ss. statement_counts (statements_of ss)) c.deref-s-items.ensures.value in (
+      omega (arith, c.decreases, counted, whole),
+      statement_fits c.loop-s.scope items c.loop-s.s-index c.loop-s.next _ c.s-item.result w c.s-item.is c.loop-s.invariant.numbers
+          c.requires.fits,
+    )
 
 pub check_block-loop-s-preserved : goal.check_block-loop-s-preserved
 check_block-loop-s-preserved t c =
     let w : c.loop-s.s-index < length c.deref-s-items.result.now = omega arith in
     let step = statement_passed c.loop-s.scope c.check_statement.new.scope c.deref-s-items.result.now c.loop-s.s-index c.loop-s.next c.in_ok-next.next c.s-item.result w c.s-item.is
-        c.in_ok-next.ensures.marks c.in_ok-next.ensures.behind in
+    c.in_ok-next.ensures.marks c.in_ok-next.ensures.behind in
     record {
       faults = step.faults ∙ c.loop-s.invariant.faults;
       numbers = step.numbers ∙ c.loop-s.invariant.numbers;
@@ -39,7 +41,7 @@ pub check_block-returns-clause-behind : goal.check_block-returns-clause-behind
 check_block-returns-clause-behind t c =
     let left = none_left c.deref-s-items.result.now c.loop-s.s-index c.loop-s-test.false in
     let ended : c.loop-s.scope ≡ after_statements c.args.scope.now (statements_of c.args.block.now.statements.items) =
-        sym (ap (after_statements c.loop-s.scope) left) ∙ c.loop-s.invariant.behind in
+    sym (ap (after_statements c.loop-s.scope) left) ∙ c.loop-s.invariant.behind in
     rw (c.leave.ensures, c.visible_len-visible.ensures) (block_left c.args.scope.now c.loop-s.scope (statements_of c.args.block.now.statements.items) ended)
 
 pub check_statement-returns-in_err-next-in-If-clause-marks : goal.check_statement-returns-in_err-next-in-If-clause-marks
@@ -63,9 +65,11 @@ check_statement-returns-in_err-next-in-If-2-clause-marks t c =
 pub check_statement-check_block-requires-in-If : goal.check_statement-check_block-requires-in-If
 check_statement-check_block-requires-in-If t c =
     let is = ap statement_of c.in-If.is ∙ if_seen c.in-If.e c.in-If.a c.in-If.b in
-    let counted = ap statement_count is in
-    (omega (arith, c.decreases, counted), second_fits c.args.scope.now c.check_block.new.scope _ _ _ (expression_of c.in-If.e) _ _ _ is c.in_ok-next-in-If-2.ensures.behind c.requires.fits
-    c.in_ok-next-in-If.ensures c.in_ok-next-in-If-2.ensures.marks)
+    let counted = ap statement_count is in (
+      omega (arith, c.decreases, counted),
+      second_fits c.args.scope.now c.check_block.new.scope _ _ _ (expression_of c.in-If.e) _ _ _ is c.in_ok-next-in-If-2.ensures.behind c.requires.fits
+          c.in_ok-next-in-If.ensures c.in_ok-next-in-If-2.ensures.marks,
+    )
 
 pub check_statement-returns-in_ok-next-in-If-2-clause-marks : goal.check_statement-returns-in_ok-next-in-If-2-clause-marks
 check_statement-returns-in_ok-next-in-If-2-clause-marks t c =

@@ -1,4 +1,4 @@
-use Rattle.std.proofs.Common.{◌≡◌, ◌≤◌, ◌<◌, ◌+◌, ◌∙◌, take, rules, sym, ap, subst, arith, Bool, false, ◌==◌, nat_lt, is_some, length, List}
+use Rattle.std.proofs.Common.{◌≡◌, ◌≤◌, ◌<◌, ◌+◌, ◌∙◌, take, sym, ap, subst, arith, false, ◌==◌, nat_lt, is_some, length, List}
 use Rattle.std.proofs.lemmas.Bool.{le-ltb}
 use Rattle.pipe_check.specs.CellTables.{IsTable}
 use Rattle.pipe_model.specs.declared.tree.Declaration.{Declaration}
@@ -16,7 +16,7 @@ loop-cell-preserved c =
     let table = c.loop-cell.invariant.table in
     let within : c.loop-cell.cell-index < length c.args.declared.now = omega arith in
     let absent : is_some (size_in before c.as_bytes.result.now) ≡ false =
-        ap (λ o. is_some o) (sym (table.found c.as_bytes.result)) ∙ sym c.contains_key.ensures ∙ c.if-contains_key.false in
+    ap (λ o. is_some o) (sym (table.found c.as_bytes.result)) ∙ sym c.contains_key.ensures ∙ c.if-contains_key.false in
     let new : is_cell before d.name ≡ false = ap (λ x. is_some (size_in before x)) (sym c.as_bytes.ensures) ∙ absent in
     let counted : c.in-Some.count ≡ declared_size d.size = c.in-Some.ensures.some in
     let few : c.loop-cell.total + c.in-Some.count ≤ 65536 = omega (arith, c.in-Some.ensures.within, table.few) in
