@@ -1,16 +1,16 @@
 -- One more declaration in the table of cells.
-use Rattle.std.proofs.Common.{◌≡◌, ◌∙◌, ℕ, ℤ, ◌+◌, ◌<◌, ◌≤◌, Bool, true, false, cond, ◌==◌, if◌then◌else◌, List, [], ◌∷◌, ◌++◌, length, take, drop, get_or, refl, sym, ap, subst, arith, Bor, Option, Some, None, is_some, nat_lt}
+use Rattle.std.proofs.Common.{◌≡◌, ◌∙◌, ℕ, ℤ, ◌+◌, ◌<◌, ◌≤◌, Bool, true, false, cond, ◌==◌, if◌then◌else◌, List, [], ◌∷◌, ◌++◌, length, take, drop, get_or, refl, sym, ap, arith, Bor, Option, Some, None, is_some, nat_lt}
 use Rattle.std.proofs.lemmas.List.{take_more, at_drop_more}
 use Rattle.std.proofs.lemmas.Map.Text.{is_eq-slice_cmp}
 use Rattle.std.proofs.lemmas.Slice.Eq.{bytes_eq-Decides}
-use Rattle.std.specs.BTreeMap.{get, BTreeMap, Updates}
+use Rattle.std.specs.BTreeMap.{get, BTreeMap}
 use Rattle.std.specs.Cmp.Lexicographic.{slice_cmp}
 use Rattle.std.specs.Ordering.{is_eq, nat_cmp}
 use Rattle.std.specs.Str.{bytes_eq}
 use Rattle.pipe_check.specs.CellTables.{IsTable}
 use Rattle.pipe_model.specs.declared.region.Region.TheVariants as regions
 use Rattle.pipe_model.specs.declared.tree.Declaration.{Declaration}
-use Rattle.pipe_model.specs.CheckingRules.{Rule, Fault, size_in, is_cell, cell_total, broken_at, fault_or, first_fault}
+use Rattle.pipe_model.specs.CheckingRules.{size_in, is_cell, cell_total, broken_at, fault_or, first_fault}
 use Rattle.pipe_model.specs.Marks.{opening, at, DeclaredCell, marks_of_cells}
 use Rattle.pipe_model.specs.Programs.{declared_size}
 

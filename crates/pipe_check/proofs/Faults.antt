@@ -1,5 +1,5 @@
 -- The first fault of marks that follow others.
-use Rattle.std.proofs.Common.{◌≡◌, ◌∙◌, ℕ, List, [], ◌∷◌, ◌++◌, ◌+◌, ◌≤◌, length, refl, sym, ap, subst, arith, Result, Ok, Err, Option, Some, None, length-append}
+use Rattle.std.proofs.Common.{◌≡◌, ◌∙◌, ℕ, List, [], ◌∷◌, ◌++◌, ◌+◌, length, refl, sym, ap, arith, Result, Ok, Err, Option, Some, None, length-append}
 use Rattle.pipe_check.specs.declared.fault.CheckFault.{CheckFault}
 use Rattle.pipe_check.specs.declared.fault.CheckFault.TheVariants as faults
 use Rattle.pipe_check.specs.Passing.{Tells, Passes, Fits}

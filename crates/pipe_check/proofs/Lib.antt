@@ -7,4 +7,4 @@ pub mod Scopes
 pub mod Statements
 pub mod CellTables
 pub mod Regions
-pub mod Weighing
+pub mod Weights

@@ -1,5 +1,5 @@
 -- The first limit that is out of its range, by the tests of all.
-use Rattle.std.proofs.Common.{◌≡◌, ℤ, pos, ◌*ℤ◌, Bool, not, ℕ, Option, Some, None, if◌then◌else◌, int_lt, refl}
+use Rattle.std.proofs.Common.{◌≡◌, pos, ◌*ℤ◌, Bool, not, Some, None, if◌then◌else◌, int_lt, refl}
 use Rattle.pipe_model.specs.declared.tree.Limits.{Limits}
 use Rattle.pipe_model.specs.CheckingRules.{limit_out}
 use Rattle.pipe_model.specs.Rules.{is_between}

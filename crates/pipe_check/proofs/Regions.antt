@@ -1,5 +1,5 @@
 -- The marks of a program, region by region: what is behind the first ones decides of all.
-use Rattle.std.proofs.Common.{◌≡◌, ◌∙◌, ℕ, ◌+◌, ◌≤◌, List, [], ◌∷◌, ◌++◌, length, ap, sym, arith, refl, Result, Ok, Err, None}
+use Rattle.std.proofs.Common.{◌≡◌, ◌∙◌, ℕ, ◌≤◌, List, [], ◌∷◌, ◌++◌, length, sym, arith, refl, Result, Ok, Err, None}
 use Rattle.pipe_check.specs.declared.fault.CheckFault.{CheckFault}
 use Rattle.pipe_check.specs.Passing.{Passes, Fits}
 use Rattle.pipe_check.proofs.Faults.{fails_first, passes_then, fits_first, fits_then}

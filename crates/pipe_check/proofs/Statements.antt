@@ -1,5 +1,5 @@
 -- The marks of a list of statements, one statement after the other, and those of statements with blocks.
-use Rattle.std.proofs.Common.{◌≡◌, ◌∙◌, ℕ, zero, suc, ◌+◌, ◌<◌, ◌≤◌, List, [], ◌∷◌, ◌++◌, length, take, drop, get_or, refl, sym, ap, subst, arith, Result, Ok, Err, Option, length-append}
+use Rattle.std.proofs.Common.{◌≡◌, ◌∙◌, ℕ, zero, suc, ◌+◌, ◌<◌, ◌≤◌, List, [], ◌∷◌, ◌++◌, length, take, drop, get_or, sym, ap, subst, arith, Result, Ok, Err, Option, length-append}
 use Rattle.std.proofs.lemmas.List.{drop_all, at_drop_more}
 use Rattle.pipe_check.specs.declared.fault.CheckFault.{CheckFault}
 use Rattle.pipe_check.specs.Passing.{Tells, Passes, Fits}

@@ -3,16 +3,14 @@
 #![tactic(auto)]
 
 mod cells;
-mod checked;
+pub mod checked;
 mod expression;
-mod fault;
+pub mod fault;
 mod limits;
-mod program;
+pub mod program;
 mod scope;
 mod statement;
 #[cfg(test)]
 mod tests;
-
-pub use checked::Checked;
-pub use fault::CheckFault;
-pub use program::check;
+#[cfg(test)]
+mod weighing;

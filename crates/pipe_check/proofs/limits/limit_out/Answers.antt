@@ -1,4 +1,4 @@
-use Rattle.std.proofs.Common.{◌≡◌, ◌∙◌, sym, rules, w64, refl, true, false, pos, ◌*ℤ◌, int_lt}
+use Rattle.std.proofs.Common.{◌≡◌, sym, rules, w64, refl, true, false, pos, ◌*ℤ◌, int_lt}
 use mir.Val.{SFits}
 use Rattle.std.proofs.lemmas.Int.{to_z-of_z}
 use Rattle.pipe_check.proofs.LimitOrder.{limit_by}

@@ -1,4 +1,4 @@
-use Rattle.std.proofs.Common.{◌≡◌, ◌≤◌, ◌<◌, ◌+◌, ◌∙◌, take, rules, sym, ap, subst, arith, Bool, false, ◌==◌, nat_lt, is_some, length, List}
+use Rattle.std.proofs.Common.{◌≡◌, ◌≤◌, ◌<◌, ◌+◌, ◌∙◌, take, sym, ap, subst, arith, false, ◌==◌, nat_lt, is_some, length, List}
 use Rattle.std.proofs.lemmas.Bool.{le-ltb}
 use Rattle.pipe_check.specs.CellTables.{IsTable}
 use Rattle.pipe_model.specs.declared.tree.Declaration.{Declaration}

@@ -1,13 +1,12 @@
 -- Weights add up, and bound the size of a program.
-use Rattle.std.proofs.Common.{◌≡◌, ◌∙◌, ℕ, zero, suc, ◌+◌, ◌<◌, ◌≤◌, ◌≤ℤ◌, pos, slice_index_or, Bool, true, List, [], ◌∷◌, ◌++◌, length, sum_by, All, ap, sym, refl, arith, length-append, ◌&&◌}
-use Rattle.std.proofs.lemmas.Bool.{and_from}
+use Rattle.std.proofs.Common.{◌≡◌, ◌∙◌, ℕ, zero, suc, ◌+◌, ◌<◌, ◌≤◌, ◌≤ℤ◌, pos, slice_index_or, true, List, [], ◌∷◌, ◌++◌, length, sum_by, All, ap, refl, arith, length-append}
 use Rattle.std.proofs.lemmas.List.Elements.{All-append}
 use Rattle.std.proofs.lemmas.List.Sums.{sum_by-append}
 use Rattle.pipe_check.specs.Weights.{IsWeighed, AreWeighed}
 use Rattle.pipe_model.specs.declared.tree.Declaration.{Declaration}
 use Rattle.pipe_model.specs.Marks.{Scope, after_block, after_statement, marks_of, marks_of_cells, marks_of_expression, marks_of_statement, marks_of_statements, opening}
 use Rattle.pipe_model.specs.declared.region.Region.TheVariants as regions
-use Rattle.pipe_model.specs.SpellablePrograms.{has_known_operators, node_count, expressions_of, expressions_of_statement, expressions_of_statements, statement_count, statement_counts, size_of, HasNoNegativeSize, IsSpellable}
+use Rattle.pipe_model.specs.SpellablePrograms.{has_known_operators, node_count, expressions_of, expressions_of_statement, expressions_of_statements, statement_count, statement_counts, HasNoNegativeSize, IsSpellable}
 use Rattle.pipe_model.specs.SyntaxTree.{Expression, Number, Name, Element, And, Or, Binary, Unary, More, Take, Iter, Statement, Let, Assign, AssignElement, Emit, If, While, Stage, NextStage, Statements, Empty, Then, SyntaxTree}
 use Rattle.pipe_check.proofs.Regions.{cells_length}
 
@@ -34,6 +33,19 @@ weighed_both v w n m es fs a b = record {
   short = All-append (λ e. node_count e ≤ 256) es fs a.short b.short;
   weight_is = omega (arith, a.weight_is, b.weight_is, sum_by-append node_count es fs);
 }
+
+-- the parts of a program
+pub weighed_parts : (tree : SyntaxTree) (init test body last : ℕ) → AreWeighed init (expressions_of_statements tree.init) (statement_counts tree.init)
+    → IsWeighed test tree.test → test ≤ 256 → AreWeighed body (expressions_of_statements tree.body) (statement_counts tree.body)
+    → AreWeighed last (expressions_of_statements tree.last) (statement_counts tree.last)
+    → AreWeighed (init + (test + (body + last))) (expressions_of tree) (statement_counts tree.init + (statement_counts tree.body + statement_counts tree.last))
+weighed_parts tree init test body last a b short c d =
+    let loop_parts = weighed_both body last _ _ (expressions_of_statements tree.body) (expressions_of_statements tree.last) c d in
+    let behind = weighed_both test (body + last) 0 _ (tree.test ∷ []) (expressions_of_statements tree.body ++ expressions_of_statements tree.last)
+    (weighed_one test tree.test b short) loop_parts in
+    let all = weighed_both init (test + (body + last)) _ _ (expressions_of_statements tree.init) (tree.test ∷ (expressions_of_statements tree.body ++ expressions_of_statements tree.last))
+    a behind in
+    record { known = all.known; short = all.short; weight_is = omega (arith, all.weight_is) }
 
 -- a statement more
 pub weighed_more : (v n : ℕ) (es : List Expression) → AreWeighed v es n → AreWeighed (v + 1) es (1 + n)
