@@ -105,7 +105,7 @@ no_stage {r} {n} {s} {m} {ts} p = let same : n ≡ 0 + n = omega arith in subst 
 one_stage : {r n s m : ℕ} {ts : List Symbol} → Passes r (suc n) ts s m → Passes r (1 + n) ts s m
 one_stage {r} {n} {s} {m} {ts} p = let same : suc n ≡ 1 + n = omega arith in subst (λ x. Passes r x ts s m) same p
 
--- an expression and the signs that close it
+-- an expression that is no part of another
 closed : {longest : ℕ} {ts : List Symbol} {e : Expression} → first.DerivesWhole longest ts e → IsWholeExpression 6 ts e
 closed d = whole_expression d.derived (omega arith)
 
@@ -354,9 +354,9 @@ record HasRounds (P : List Symbol → Type 0) (stages : ℕ) (ps : List Piece) :
   pub first : tally is_open_round (flat ps) ≤ stages → P (flat ps)
 
 -- an expression before what closes it
-first_whole : {longest : ℕ} {ts : List Symbol} {e : Expression} (rest : List Symbol) (n : ℕ) → whole.Derives 6 ts e → is_plain_expression e ≡ true
+first_whole : {longest : ℕ} {ts : List Symbol} {e : Expression} (rest : List Symbol) → whole.Derives 6 ts e → is_plain_expression e ≡ true
     → length ts ≤ longest → tally is_open_round (ts ++ rest) ≤ 0 → first.DerivesWhole longest ts e
-first_whole {ts = ts} rest n d h w k =
+first_whole {ts = ts} rest d h w k =
     let many = tally_append is_open_round ts rest in
     record { derived = first_expression d h (omega (arith, k, many)); short = w }
 
@@ -364,27 +364,27 @@ first_statement : {longest : ℕ} {ps : List Piece} {s : Statement} → whole.De
     → HasRounds (λ ts. first.DerivesStatement longest ts s) (stages_of s) ps
 first_statement (whole.LetIs {ts} name d) h a = record {
   least = omega arith;
-  first = λ k. first.LetIs name (first_whole (semicolon ∷ []) 0 d h a.0 (omega (arith, k)));
+  first = λ k. first.LetIs name (first_whole (semicolon ∷ []) d h a.0 (omega (arith, k)));
 }
 first_statement (whole.AssignIs {ts} name d) h a = record {
   least = omega arith;
-  first = λ k. first.AssignIs name (first_whole (semicolon ∷ []) 0 d h a.0 (omega (arith, k)));
+  first = λ k. first.AssignIs name (first_whole (semicolon ∷ []) d h a.0 (omega (arith, k)));
 }
 first_statement (whole.AssignElementIs name d e) h a = cc (h)
 first_statement (whole.EmitIs {ts} d) h a = record {
   least = omega arith;
-  first = λ k. first.EmitIs (first_whole (semicolon ∷ []) 0 d h a.0 (omega (arith, k)));
+  first = λ k. first.EmitIs (first_whole (semicolon ∷ []) d h a.0 (omega (arith, k)));
 }
 first_statement (whole.IfIs d b c) h a = cc (h)
 first_statement (whole.WhileIs d b) h a = cc (h)
 first_statement (whole.WaitIs {ts} d) h a = record {
   least = omega arith;
-  first = λ k. first.WaitIs (first_whole (close_round ∷ semicolon ∷ []) 0 d h a.0 (omega (arith, k)));
+  first = λ k. first.WaitIs (first_whole (close_round ∷ semicolon ∷ []) d h a.0 (omega (arith, k)));
 }
 first_statement whole.WaitNextIs h a = record { least = omega arith; first = λ k. first.WaitNextIs }
 first_statement (whole.ContinueIs {ts} d) h a = record {
   least = omega arith;
-  first = λ k. first.ContinueIs (first_whole (close_round ∷ semicolon ∷ []) 0 d h a.0 (omega (arith, k)));
+  first = λ k. first.ContinueIs (first_whole (close_round ∷ semicolon ∷ []) d h a.0 (omega (arith, k)));
 }
 first_statement whole.ContinueNextIs h a = record { least = omega arith; first = λ k. first.ContinueNextIs }
 
