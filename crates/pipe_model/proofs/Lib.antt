@@ -25,3 +25,4 @@ pub mod ExpressionWindows
 pub mod NestedBlocks
 pub mod OpenBrackets
 pub mod OneSourceSpelling
+pub mod AcceptedPrograms
