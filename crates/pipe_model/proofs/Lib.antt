@@ -36,3 +36,4 @@ pub mod CanonicalSpelling
 pub mod FirstFormCounts
 pub mod FirstFormLaws
 pub mod FirstFormSources
+pub mod AcceptedPrograms

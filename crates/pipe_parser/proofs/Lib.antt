@@ -18,4 +18,5 @@ pub mod StatementFronts
 pub mod ProgramFronts
 pub mod Depths
 pub mod Parses
+pub mod EachProgram
 pub mod FirstForms

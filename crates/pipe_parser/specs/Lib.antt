@@ -13,3 +13,4 @@ pub mod SymbolFronts
 pub mod ProgramReadings
 pub mod Depths
 pub mod Parses
+pub mod Law

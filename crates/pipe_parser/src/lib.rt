@@ -6,6 +6,7 @@ mod expression;
 mod fault;
 pub mod first_form;
 mod front;
+pub mod law;
 mod lexis;
 mod names;
 pub mod parse;

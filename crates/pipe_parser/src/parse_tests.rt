@@ -61,7 +61,12 @@ fn refuses_at_the_first_token_that_breaks_a_rule(rt: HostRuntime) -> Result<(), 
         (" cell a = 1, pipe_while (0) { }", Some(Unexpected(59))),
     ] {
         let source = written(rt.alloc(), &[(LIMITS, 1), (text, 1)])?;
-        assert_eq!(rt; fault_in(rt.alloc(), &source)?, want, "{text}");
+        assert_eq!(rt;
+            fault_in(rt.alloc(), &source)?,
+            want,
+            "{} bytes",
+            source.len()
+        );
     }
     for (text, want) in [
         ("", Some(Unexpected(0))),
@@ -73,7 +78,12 @@ fn refuses_at_the_first_token_that_breaks_a_rule(rt: HostRuntime) -> Result<(), 
         ("limits stages 1,", Some(Unexpected(7))),
         ("limits iterations -1,", Some(Unexpected(18))),
     ] {
-        assert_eq!(rt; fault_in(rt.alloc(), text.as_bytes())?, want, "{text}");
+        assert_eq!(rt;
+            fault_in(rt.alloc(), text.as_bytes())?,
+            want,
+            "{} bytes",
+            text.len()
+        );
     }
     // Statements, which begin at byte 66.
     for (text, want) in [
@@ -143,7 +153,12 @@ fn refuses_at_the_first_token_that_breaks_a_rule(rt: HostRuntime) -> Result<(), 
             rt.alloc(),
             &[(LIMITS, 1), (" pipe_while (0) { ", 1), (text, 1), (" }", 1)],
         )?;
-        assert_eq!(rt; fault_in(rt.alloc(), &source)?, want, "{text}");
+        assert_eq!(rt;
+            fault_in(rt.alloc(), &source)?,
+            want,
+            "{} bytes",
+            source.len()
+        );
     }
     // The bounds: texts, each so many times.
     const HEAD: &str = "limits iterations 1, stages 1, steps 1, emits 1; pipe_while ";
