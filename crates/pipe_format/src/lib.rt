@@ -2,6 +2,7 @@
 #![tactic(auto)]
 
 mod expression;
+pub mod law;
 pub mod program;
 mod statement;
 #[cfg(test)]

@@ -4,6 +4,7 @@ ghost use Rattle.std.specs.Prelude.{◌≡◌, ◌++◌, IfOk, OnOk};
 ghost use Rattle.std.specs.Fmt.{signed_decimal};
 ghost use Rattle.std.specs.List.{flat_map};
 ghost use Rattle.pipe_model.specs.CanonicalText.{cell_text, limits_text, loop_text, part_text, program_text, size_text};
+ghost use Rattle.pipe_format.specs.TextLaws.{SpellsAsSources};
 ghost use Rattle.pipe_model.specs.SyntaxTree.{expression_of, statements_of, tree_of};
 
 use crate::statement::{push_between, push_block};
@@ -91,9 +92,11 @@ fn push_loop(text: &mut Vec<u8>, test: &Expr, body: &Block) -> Result<(), NoMemo
     push_line(text, 0, b"}")
 }
 
-/// The canonical text of a program. Its only error is want of memory.
+/// The canonical text of a program. If some source spells the program, and the text is not longer than a source may be,
+/// the text spells it too. The only error is want of memory.
 pub fn format(alloc: Global, program: &Program) -> Result<Bytes, NoMemory>
-    ensures { IfOk result (λ text. text ≡ program_text (tree_of program.now)) }
+    ensures text { IfOk result (λ text. text ≡ program_text (tree_of program.now)) }
+    ensures spells { IfOk result (λ text. SpellsAsSources (tree_of program.now) text) }
 {
     let mut text = Vec::new(alloc);
     push_limits(&mut text, &program.limits)?;

@@ -1,5 +1,5 @@
 -- The canonical symbols of a program are no more, and open no more brackets at a time, than any symbols that derive it.
-use Rattle.std.proofs.Common.{◌≡◌, ◌∙◌, ap, sym, refl, subst, ℕ, zero, suc, ◌+◌, ◌-◌, ◌<◌, ◌≤◌, Bool, true, false, List, [], ◌∷◌, ◌++◌, append_assoc, append-nil, length, length-append, arith, nat_le, if◌then◌else◌, ◌==◌, ◌⊎◌, inl, inr, cond}
+use Rattle.std.proofs.Common.{◌≡◌, ◌∙◌, ap, sym, refl, subst, ℕ, suc, ◌+◌, ◌-◌, ◌≤◌, Bool, true, false, List, [], ◌∷◌, ◌++◌, append_assoc, append-nil, length, length-append, arith, nat_le, if◌then◌else◌, ◌==◌, cond}
 use Rattle.std.specs.List.{count_by}
 use Rattle.std.proofs.lemmas.Bool.{false≢true}
 use Rattle.std.proofs.lemmas.Bool.Decides.{nat_tests}
@@ -7,7 +7,7 @@ use Rattle.std.proofs.lemmas.List.Sums.{sum_by-cons}
 use Rattle.pipe_model.specs.declared.symbol.Symbol.{Symbol}
 use Rattle.pipe_model.specs.declared.symbol.Symbol.TheVariants as symbols
 use Rattle.pipe_model.specs.CanonicalSymbols.{one_place_symbol, symbols_at_level, two_place_symbols, expression_symbols}
-use Rattle.pipe_model.specs.CanonicalText.{level_in, tightest}
+use Rattle.pipe_model.specs.CanonicalText.{level_in}
 use Rattle.pipe_model.specs.SyntaxTree.{Expression, Number, Name, Element, And, Or, Binary, Unary, More, Take, Iter, joined_by}
 use Rattle.pipe_model.specs.WholeGrammar.{level_of, rank_of, Derives, Numeral, Named, Indexed, CallsMore, CallsTake, CallsIter, Negative, Not, Bracketed, Tighter, Joined}
 use Rattle.pipe_model.specs.WholeSpelling.{is_opening, is_closing, open_brackets, IsShallow}

@@ -1,5 +1,5 @@
 -- The canonical text is written symbol by symbol: its tokens are the symbols of the canonical pieces.
-use Rattle.std.proofs.Common.{◌≡◌, ◌∙◌, ap, sym, refl, subst, ℕ, zero, suc, ◌+◌, ◌-◌, ◌<◌, ◌≤◌, ◌^◌, ◌≤ℤ◌, ℤ, pos, negsuc, Bool, true, false, List, [], ◌∷◌, ◌++◌, append_assoc, append-nil, length, ◌==◌, ◌⊎◌, inl, inr, Option, Some, None, arith, codes, nat_le, if◌then◌else◌, replicate}
+use Rattle.std.proofs.Common.{◌≡◌, ◌∙◌, ap, sym, refl, subst, ℕ, zero, suc, ◌+◌, ◌-◌, ◌<◌, ◌≤◌, ◌^◌, ◌≤ℤ◌, ℤ, pos, Bool, true, false, List, [], ◌∷◌, ◌++◌, append_assoc, append-nil, length, ◌==◌, ◌⊎◌, inl, inr, Option, Some, None, arith, codes, nat_le, if◌then◌else◌, replicate}
 use Rattle.std.specs.Fmt.{decimal, signed_decimal}
 use Rattle.std.specs.List.{flat_map}
 use Rattle.std.proofs.lemmas.Int.{ints}
@@ -8,12 +8,12 @@ use Rattle.pipe_model.specs.declared.node.Kind.TheVariants as kinds
 use Rattle.pipe_model.specs.declared.symbol.Symbol.{Symbol}
 use Rattle.pipe_model.specs.declared.symbol.Symbol.TheVariants as symbols
 use Rattle.pipe_model.specs.declared.tree.Declaration.{Declaration}
-use Rattle.pipe_model.specs.CanonicalSymbols.{one_place_symbol, symbols_at_level, two_place_symbols, expression_symbols, block_pieces, part_pieces, stage_pieces, statement_pieces, statements_pieces, size_pieces, value_pieces, cells_pieces, program_pieces, IsName, IsNumeral, Numeral, IsDeclaredValue, Positive, Negative, IsWritable, IsWritableStatement, AreWritable, IsWritableSize, AreWritableCells, IsWritableProgram}
-use Rattle.pipe_model.specs.CanonicalText.{operator_text, one_place_text, tightest, level_in, at_level, two_place, expression_text, line, stage_word, else_text, statement_text, statements_text, limits_text, size_text, cell_text, part_text, loop_text, program_text}
+use Rattle.pipe_model.specs.CanonicalSymbols.{one_place_symbol, symbols_at_level, two_place_symbols, expression_symbols, block_pieces, part_pieces, statement_pieces, statements_pieces, size_pieces, value_pieces, cells_pieces, program_pieces, IsName, IsNumeral, Numeral, IsDeclaredValue, Positive, Negative, IsWritable, IsWritableStatement, AreWritable, IsWritableSize, AreWritableCells, IsWritableProgram}
+use Rattle.pipe_model.specs.CanonicalText.{operator_text, one_place_text, tightest, level_in, at_level, two_place, expression_text, line, else_text, statement_text, statements_text, limits_text, size_text, cell_text, part_text, loop_text, program_text}
 use Rattle.pipe_model.specs.Lexis.{is_name_byte, symbol_of}
 use Rattle.pipe_model.specs.SyntaxTree.{Expression, Number, Name, Element, And, Or, Binary, Unary, More, Take, Iter, Statement, Let, Assign, AssignElement, Emit, If, While, Stage, NextStage, Statements, Empty, Then, SyntaxTree}
 use Rattle.pipe_model.specs.WholeGrammar.{level_of, Piece, Single, FullExpression, flat}
-use Rattle.pipe_model.specs.Words.{word_limits, word_iterations, word_stages, word_steps, word_emits, word_pipe_while, word_pipe_wait, word_pipe_continue, word_let, word_if, word_while, word_emit, word_more, word_take, word_iter, word_cell, minus, open_round, close_round, comma, semicolon, equals, open_square, close_square, open_brace, close_brace}
+use Rattle.pipe_model.specs.Words.{word_limits, word_iterations, word_stages, word_steps, word_emits, word_pipe_while, word_if, word_while, word_cell, minus, open_round, close_round, comma, semicolon, equals, open_square, close_square, open_brace, close_brace}
 use Rattle.pipe_model.proofs.Pieces.{flat_append}
 use Rattle.pipe_model.proofs.Writings.{IsSourceOf, Writes, Done, Space, Puts, written_source}
 use Rattle.pipe_model.proofs.WrittenTokens.{begins_letter, Opens, name_opens, decimal_opens, word_token, name_token, number_token, closed_token, spaced_token, not_token, operator_token}

@@ -1,15 +1,18 @@
 -- The canonical text of a program that some source spells is a source that spells it, where it is not too long.
-use Rattle.std.proofs.Common.{◌≡◌, ℕ, ◌≤◌, refl, subst, List, length}
+use Rattle.std.proofs.Common.{◌≡◌, ap, sym, ℕ, ◌≤◌, refl, subst, List, length}
+use Rattle.pipe_model.specs.declared.symbol.Symbol.{Symbol}
 use Rattle.pipe_model.specs.CanonicalSymbols.{program_pieces}
 use Rattle.pipe_model.specs.CanonicalText.{program_text}
 use Rattle.pipe_model.specs.SourceSpelling.{SourceSpells}
 use Rattle.pipe_model.specs.SyntaxTree.{SyntaxTree}
+use Rattle.pipe_model.specs.Tokens.{symbols_in}
 use Rattle.pipe_model.specs.WholeGrammar.{flat}
-use Rattle.pipe_model.specs.WholeSpelling.{IsShallow}
+use Rattle.pipe_model.specs.WholeSpelling.{IsShallow, Spells}
 use Rattle.pipe_model.proofs.CanonicalBounds.{no_deeper_shallow}
 use Rattle.pipe_model.proofs.CanonicalDerivations.{program_derived}
 use Rattle.pipe_model.proofs.CanonicalDivision.{program_source}
 use Rattle.pipe_model.proofs.CanonicalPieces.{leaner_program}
+use Rattle.pipe_model.proofs.OneSourceSpelling.{one_source_spelling}
 use Rattle.pipe_model.proofs.WritablePrograms.{writable_program}
 use Rattle.pipe_model.proofs.Writings.{IsSourceOf}
 

@@ -1,12 +1,12 @@
 -- Bytes that are written symbol by symbol, with blanks between them, have exactly these symbols as their tokens.
-use Rattle.std.proofs.Common.{◌≡◌, ◌∙◌, ap, sym, refl, ℕ, ◌+◌, ◌<◌, ◌≤◌, ◌^◌, pos, true, List, [], ◌∷◌, ◌++◌, append_assoc, length, arith, All, drop, take, Option, Some}
+use Rattle.std.proofs.Common.{◌≡◌, ◌∙◌, ap, sym, refl, ℕ, ◌+◌, ◌≤◌, true, List, [], ◌∷◌, ◌++◌, length, All, drop, take, Some}
 use Rattle.std.proofs.lemmas.List.Elements.{All-nil, All-cons}
 use Rattle.std.proofs.Math.Seq.{take-append_seam}
 use Rattle.pipe_model.specs.declared.symbol.Symbol.{Symbol}
 use Rattle.pipe_model.specs.declared.symbol.Symbol.TheVariants as symbols
 use Rattle.pipe_model.specs.declared.token.Token.{Token}
 use Rattle.pipe_model.specs.Lexis.{is_blank, symbol_of, IsWithinBounds}
-use Rattle.pipe_model.specs.Tokens.{Scans, Stops, Blank, Taken, HasTokens, IsToken, IsTokenWithinBounds, IsLexed, token_at, kind_of, symbol_as, symbol_in, symbols_in}
+use Rattle.pipe_model.specs.Tokens.{Scans, Stops, Blank, Taken, IsToken, IsTokenWithinBounds, IsLexed, token_at, kind_of, symbol_as, symbol_in, symbols_in}
 use Rattle.pipe_model.proofs.TokenLaws.{behind_front, name_is_text, symbol_of_kind}
 
 -- the tokens of the source are these symbols

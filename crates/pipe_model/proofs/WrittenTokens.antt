@@ -1,7 +1,7 @@
 -- Texts that are one token each, with what may stand behind them.
-use Rattle.std.proofs.Common.{◌≡◌, ◌≢◌, ◌∙◌, ap, sym, refl, subst, ℕ, zero, suc, ◌+◌, ◌-◌, ◌*◌, ◌/◌, ◌%◌, ◌<◌, ◌≤◌, ◌^◌, pos, Bool, true, false, not, List, [], ◌∷◌, ◌++◌, length, ◌==◌, ◌&&◌, ◌||◌, Option, Some, None, arith, codes, if◌then◌else◌, cond, position, length-append}
+use Rattle.std.proofs.Common.{◌≡◌, ◌≢◌, ◌∙◌, ap, sym, refl, ℕ, zero, suc, ◌+◌, ◌-◌, ◌*◌, ◌/◌, ◌%◌, ◌<◌, ◌≤◌, ◌^◌, pos, Bool, true, false, List, [], ◌∷◌, ◌++◌, length, ◌==◌, ◌&&◌, Some, None, arith, codes, cond, position, length-append}
 use Rattle.std.specs.Fmt.{decimal}
-use Rattle.std.specs.List.{list_all, fold}
+use Rattle.std.specs.List.{list_all}
 use Rattle.std.proofs.lemmas.Bool.{and_parts, false≢true}
 use Rattle.std.proofs.lemmas.Bool.Decides.{nat_tests}
 use Rattle.std.proofs.lemmas.Fmt.{decimal_by_steps}
@@ -12,7 +12,7 @@ use Rattle.pipe_model.specs.declared.symbol.Symbol.TheVariants as symbols
 use Rattle.pipe_model.specs.CanonicalSymbols.{IsName}
 use Rattle.pipe_model.specs.CanonicalText.{operator_text}
 use Rattle.std.specs.Str.{bytes_eq}
-use Rattle.pipe_model.specs.Lexis.{operators, is_blank, is_letter, is_digit, is_name_byte, number_of, symbol_of, word_symbol, punctuation_symbol, IsLongest, IsWithinBounds}
+use Rattle.pipe_model.specs.Lexis.{operators, is_letter, is_digit, is_name_byte, number_of, symbol_of, word_symbol, punctuation_symbol}
 use Rattle.pipe_model.specs.Tokens.{begins_comment, IsToken}
 use Rattle.pipe_model.proofs.TokenLaws.{no_name}
 
