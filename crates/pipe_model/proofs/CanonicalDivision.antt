@@ -8,7 +8,7 @@ use Rattle.pipe_model.specs.declared.node.Kind.TheVariants as kinds
 use Rattle.pipe_model.specs.declared.symbol.Symbol.{Symbol}
 use Rattle.pipe_model.specs.declared.symbol.Symbol.TheVariants as symbols
 use Rattle.pipe_model.specs.declared.tree.Declaration.{Declaration}
-use Rattle.pipe_model.specs.CanonicalSymbols.{one_place_symbol, symbols_at_level, two_place_symbols, expression_symbols, block_pieces, part_pieces, statement_pieces, statements_pieces, size_pieces, value_pieces, cells_pieces, program_pieces, IsName, IsNumeral, Numeral, IsDeclaredValue, Positive, Negative, IsWritable, IsWritableStatement, AreWritable, IsWritableSize, AreWritableCells, IsWritableProgram}
+use Rattle.pipe_model.proofs.CanonicalSymbols.{one_place_symbol, symbols_at_level, two_place_symbols, expression_symbols, block_pieces, part_pieces, statement_pieces, statements_pieces, size_pieces, value_pieces, cells_pieces, program_pieces, IsName, IsNumeral, Numeral, IsDeclaredValue, Positive, Negative, IsWritable, IsWritableStatement, AreWritable, IsWritableSize, AreWritableCells, IsWritableProgram}
 use Rattle.pipe_model.specs.CanonicalText.{operator_text, one_place_text, tightest, level_in, at_level, two_place, expression_text, line, else_text, statement_text, statements_text, limits_text, size_text, cell_text, part_text, loop_text, program_text}
 use Rattle.pipe_model.specs.Lexis.{is_name_byte, symbol_of}
 use Rattle.pipe_model.specs.SyntaxTree.{Expression, Number, Name, Element, And, Or, Binary, Unary, More, Take, Iter, Statement, Let, Assign, AssignElement, Emit, If, While, Stage, NextStage, Statements, Empty, Then, SyntaxTree}
@@ -118,11 +118,7 @@ space = record { writes = λ rest found h d. Space 32 refl d }
 is : Writing Any (codes " = ") (equals ∷ [])
 is = record { writes = λ rest found h d. Space 32 refl (Puts (61 ∷ []) equals (spaced_token (61 ∷ []) rest equals refl (λ more. refl) refl) tt (Space 32 refl d)) }
 
--- a word and a space
-word_space : (text : List ℕ) (k : ℕ) → begins_letter text ≡ true → symbol_of text ≡ Some (symbols.Word k) → Writing Any (text ++ codes " ") (symbols.Word k ∷ [])
-word_space text k l t = both (word text k l t) space (λ rest h. refl)
-
--- a word, a space and an opening bracket or brace
+-- a word, a space and what follows
 word_then : {G : List ℕ → Type 0} {u : List ℕ} {us : List Symbol} (text : List ℕ) (k : ℕ) → begins_letter text ≡ true → symbol_of text ≡ Some (symbols.Word k)
     → Writing G u us → Writing G (text ++ (codes " " ++ u)) (symbols.Word k ∷ us)
 word_then text k l t v = both (word text k l t) (next space v) (λ rest h. refl)

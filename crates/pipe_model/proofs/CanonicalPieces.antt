@@ -4,7 +4,7 @@ use Rattle.std.proofs.Math.IntN.{neg_ℤ}
 use Rattle.pipe_model.specs.declared.symbol.Symbol.{Symbol}
 use Rattle.pipe_model.specs.declared.symbol.Symbol.TheVariants as symbols
 use Rattle.pipe_model.specs.declared.tree.Declaration.{Declaration}
-use Rattle.pipe_model.specs.CanonicalSymbols.{expression_symbols, block_pieces, part_pieces, statement_pieces, statements_pieces, size_pieces, value_pieces, cells_pieces, program_pieces}
+use Rattle.pipe_model.proofs.CanonicalSymbols.{expression_symbols, block_pieces, part_pieces, statement_pieces, statements_pieces, size_pieces, value_pieces, cells_pieces, program_pieces}
 use Rattle.pipe_model.specs.SyntaxTree.{Expression, Statement, Statements, Empty, Then, SyntaxTree}
 use Rattle.pipe_model.specs.WholeGrammar.{Derives, Piece, Single, FullExpression, flat, DerivesStatement, LetIs, AssignIs, AssignElementIs, EmitIs, IfIs, WhileIs, WaitIs, WaitNextIs, ContinueIs, ContinueNextIs, DerivesStatements, NoStatement, OneMore, DerivesBlock, BlockIs, DerivesPart, NoPart, PartIs, DerivesSize, NoSize, SizeIs, DerivesValue, ValueIs, NegativeValueIs, DerivesCells, NoCell, CellIs, DerivesProgram, ProgramIs, limits_before}
 use Rattle.pipe_model.specs.WholeSpelling.{AreShort, is_opening, is_closing}

@@ -1,7 +1,7 @@
 -- The canonical text of a program that some source spells is a source that spells it, where it is not too long.
 use Rattle.std.proofs.Common.{◌≡◌, ap, sym, ℕ, ◌≤◌, refl, subst, List, length}
 use Rattle.pipe_model.specs.declared.symbol.Symbol.{Symbol}
-use Rattle.pipe_model.specs.CanonicalSymbols.{program_pieces}
+use Rattle.pipe_model.proofs.CanonicalSymbols.{program_pieces}
 use Rattle.pipe_model.specs.CanonicalText.{program_text}
 use Rattle.pipe_model.specs.SourceSpelling.{SourceSpells}
 use Rattle.pipe_model.specs.SyntaxTree.{SyntaxTree}

@@ -24,6 +24,7 @@ pub mod TokenLaws
 pub mod ExpressionWindows
 pub mod NestedBlocks
 pub mod OpenBrackets
+pub mod CanonicalSymbols
 pub mod CanonicalDerivations
 pub mod WrittenTokens
 pub mod Writings

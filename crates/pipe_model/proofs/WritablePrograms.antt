@@ -10,7 +10,7 @@ use Rattle.pipe_model.specs.declared.symbol.Symbol.{Symbol}
 use Rattle.pipe_model.specs.declared.symbol.Symbol.TheVariants as symbols
 use Rattle.pipe_model.specs.declared.token.Token.{Token}
 use Rattle.pipe_model.specs.declared.tree.Declaration.{Declaration}
-use Rattle.pipe_model.specs.CanonicalSymbols.{IsName, IsNumeral, Numeral, IsDeclaredValue, Positive, Negative, IsWritable, IsWritableStatement, AreWritable, IsWritableSize, AreWritableCells, IsWritableProgram}
+use Rattle.pipe_model.proofs.CanonicalSymbols.{IsName, IsNumeral, Numeral, IsDeclaredValue, Positive, Negative, IsWritable, IsWritableStatement, AreWritable, IsWritableSize, AreWritableCells, IsWritableProgram}
 use Rattle.pipe_model.specs.Lexis.{is_letter, is_digit, is_name_byte, number_of, reserved_words, operators, is_sign, word_or_name, operator_or_sign, word_symbol, punctuation_symbol, symbol_of, IsWithinBounds}
 use Rattle.pipe_model.specs.SyntaxTree.{Expression, Or, And, Binary, joined_by, Statement, Statements, SyntaxTree}
 use Rattle.pipe_model.specs.Tokens.{Scans, Stops, Blank, Comment, Taken, IsTokenWithinBounds, token_at, symbols_in}

@@ -9,7 +9,7 @@ use Rattle.std.proofs.lemmas.List.Folds.{list_all-append}
 use Rattle.std.proofs.lemmas.List.Sums.{fold-append}
 use Rattle.pipe_model.specs.declared.symbol.Symbol.{Symbol}
 use Rattle.pipe_model.specs.declared.symbol.Symbol.TheVariants as symbols
-use Rattle.pipe_model.specs.CanonicalSymbols.{IsName}
+use Rattle.pipe_model.proofs.CanonicalSymbols.{IsName}
 use Rattle.pipe_model.specs.CanonicalText.{operator_text}
 use Rattle.std.specs.Str.{bytes_eq}
 use Rattle.pipe_model.specs.Lexis.{operators, is_letter, is_digit, is_name_byte, number_of, symbol_of, word_symbol, punctuation_symbol}
