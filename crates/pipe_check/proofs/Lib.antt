@@ -8,3 +8,4 @@ pub mod Statements
 pub mod CellTables
 pub mod Regions
 pub mod Weights
+pub mod FirstFaults

@@ -6,6 +6,7 @@ mod cells;
 pub mod checked;
 mod expression;
 pub mod fault;
+pub mod law;
 mod limits;
 pub mod program;
 mod scope;
