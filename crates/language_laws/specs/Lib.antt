@@ -3,3 +3,4 @@ pub mod SpellingLaws
 pub mod TokenLaws
 pub mod ProgramLaws
 pub mod FirstFormLaws
+pub mod WholeSpellingLaws

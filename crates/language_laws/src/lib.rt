@@ -7,3 +7,4 @@ pub mod first_form;
 pub mod programs;
 pub mod spelling;
 pub mod tokens;
+pub mod whole_spelling;

@@ -1,0 +1,23 @@
+-- The laws of spelling in the whole language.
+use Rattle.std.specs.Prelude.{◌≡◌, ℕ, List}
+use Rattle.pipe_model.specs.declared.symbol.Symbol.{Symbol}
+use Rattle.pipe_model.specs.SourceSpelling.{SourceSpells}
+use Rattle.pipe_model.specs.SyntaxTree.{SyntaxTree}
+use Rattle.pipe_model.specs.WholeSpelling.{FirstFault, Rule, Spells}
+
+-- symbols spell one program at most
+abbrev pub SymbolsSpellOneProgram : Type 0
+SymbolsSpellOneProgram = (symbols : List Symbol) (tree other : SyntaxTree) → Spells symbols tree → Spells symbols other → tree ≡ other
+
+-- a source spells one program at most
+abbrev pub SourcesSpellOneWholeProgram : Type 0
+SourcesSpellOneWholeProgram = (source : List ℕ) (tree other : SyntaxTree) → SourceSpells source tree → SourceSpells source other → tree ≡ other
+
+-- symbols have one first fault at most
+abbrev pub SymbolsHaveOneFirstFault : Type 0
+SymbolsHaveOneFirstFault =
+    (symbols : List Symbol) (rule other : Rule) (k m : ℕ) → FirstFault symbols rule k → FirstFault symbols other m → (k ≡ m) × (rule ≡ other)
+
+-- and none where they spell a program
+abbrev pub ProgramsHaveNoFault : Type 0
+ProgramsHaveNoFault = (symbols : List Symbol) (tree : SyntaxTree) (rule : Rule) (k : ℕ) → Spells symbols tree → FirstFault symbols rule k → ⊥
