@@ -2,3 +2,8 @@ pub mod NamedKinds
 pub mod Straight
 pub mod LegalStages
 pub mod WellFormed
+pub mod SpelledSizes
+pub mod SpelledMarks
+pub mod TokenCounts
+pub mod WritableOperators
+pub mod SpellablePrograms

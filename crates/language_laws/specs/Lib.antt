@@ -4,3 +4,4 @@ pub mod TokenLaws
 pub mod ProgramLaws
 pub mod FirstFormLaws
 pub mod WholeSpellingLaws
+pub mod SpellableLaws

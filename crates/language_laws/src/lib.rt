@@ -5,6 +5,7 @@
 pub mod examples;
 pub mod first_form;
 pub mod programs;
+pub mod spellable;
 pub mod spelling;
 pub mod tokens;
 pub mod whole_spelling;

@@ -1,0 +1,28 @@
+-- A source has no more tokens than bytes.
+use Rattle.std.proofs.Common.{◌≡◌, ℕ, ◌+◌, ◌<◌, ◌≤◌, List, [], ◌∷◌, length, length-append, Some, None, arith}
+use Rattle.pipe_model.specs.Lexis.{symbol_of}
+use Rattle.pipe_model.specs.Tokens.{Scans, Stops, Blank, Comment, Taken, HasTokens}
+use Rattle.pipe_model.specs.declared.symbol.Symbol.{Symbol}
+use Rattle.pipe_model.specs.declared.token.Token.{Token}
+
+-- the text of a symbol has a byte
+some_byte : (text : List ℕ) (s : Symbol) → symbol_of text ≡ Some s → 0 < length text
+some_byte [] s e = let none : None ≡ Some s = e in cc (none)
+some_byte (b ∷ bs) s e = omega arith
+
+scanned_within : {place : ℕ} {bytes rest : List ℕ} {tokens : List Token} → Scans place bytes tokens rest → length tokens + length rest ≤ length bytes
+scanned_within (Stops place rest) = omega arith
+scanned_within (Blank b h d) = let few = scanned_within d in omega (arith, few)
+scanned_within (Comment {bytes = bytes} text h d) =
+    let few = scanned_within d in
+    let many = length-append text bytes in
+    omega (arith, few, many)
+scanned_within (Taken {bytes = bytes} text s t d) =
+    let few = scanned_within d in
+    let many = length-append text bytes in
+    let some = some_byte text s t.symbol in
+    omega (arith, few, many, some)
+
+-- no more tokens than bytes
+pub tokens_within : (source : List ℕ) (tokens : List Token) → HasTokens source tokens → length tokens ≤ length source
+tokens_within source tokens h = let few = scanned_within h in omega (arith, few)
