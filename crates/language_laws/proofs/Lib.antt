@@ -7,3 +7,4 @@ pub mod SpelledMarks
 pub mod TokenCounts
 pub mod WritableOperators
 pub mod SpellablePrograms
+pub mod MarkedTokens

@@ -34,23 +34,23 @@ abbrev pub texts_of : List Mark → List MarkText
 texts_of ms = map (λ (m : Mark). text_at m.occurrence) ms
 
 -- the text of a symbol that is a mark
-abbrev pub text_in : Symbol → List MarkText
-text_in (symbols.Name x) = NameText x ∷ []
-text_in (symbols.Word k) = if k == 19 then IterText ∷ [] else (if (k == 9) || (k == 10) then StageText ∷ [] else [])
-text_in (symbols.Number n) = []
-text_in (symbols.Operator code) = []
-text_in (symbols.Sign b) = []
+abbrev pub marked_text : Symbol → List MarkText
+marked_text (symbols.Name x) = NameText x ∷ []
+marked_text (symbols.Word k) = if k == 19 then IterText ∷ [] else (if (k == 9) || (k == 10) then StageText ∷ [] else [])
+marked_text (symbols.Number n) = []
+marked_text (symbols.Operator code) = []
+marked_text (symbols.Sign b) = []
 
 -- the texts of those of the symbols that are marks, in order
 abbrev pub texts_in : List Symbol → List MarkText
 texts_in [] = []
-texts_in (t ∷ ts) = text_in t ++ texts_in ts
+texts_in (t ∷ ts) = marked_text t ++ texts_in ts
 
 -- ---- symbols one after the other
 
 texts_append : (ts us : List Symbol) → texts_in (ts ++ us) ≡ texts_in ts ++ texts_in us
 texts_append [] us = refl
-texts_append (t ∷ ts) us = ap (λ x. text_in t ++ x) (texts_append ts us) ∙ sym (append_assoc (text_in t) (texts_in ts) (texts_in us))
+texts_append (t ∷ ts) us = ap (λ x. marked_text t ++ x) (texts_append ts us) ∙ sym (append_assoc (marked_text t) (texts_in ts) (texts_in us))
 
 texts_flat : (ps qs : List Piece) → texts_in (flat (ps ++ qs)) ≡ texts_in (flat ps) ++ texts_in (flat qs)
 texts_flat ps qs = ap texts_in (flat_append ps qs) ∙ texts_append (flat ps) (flat qs)
@@ -97,7 +97,8 @@ expression_texts scope (Bracketed {inside} d) = expression_texts scope d ∙ sym
 expression_texts scope (Tighter d) = expression_texts scope d
 expression_texts scope (Joined {rank} {left} {right} {a} {b} code e x y) =
     joined_texts code scope a b
-    ∙ of_both (marks_of_expression scope a) (marks_of_expression scope b) left (symbols.Operator code ∷ right) (expression_texts scope x) (expression_texts scope y)
+    ∙ of_both (marks_of_expression scope a) (marks_of_expression scope b) left (symbols.Operator code ∷ right)
+    (expression_texts scope x) (expression_texts scope y)
 
 -- an expression before symbols that are no marks, and before other marks
 last_texts : {ts : List Symbol} {e : Expression} (scope : Scope) (us : List Symbol) → Derives 6 ts e → texts_in us ≡ []
@@ -115,11 +116,13 @@ mutual
   statement_texts scope (LetIs x d) = ap (λ r. NameText x ∷ r) (last_texts scope (semicolon ∷ []) d refl)
   statement_texts scope (AssignIs x d) = ap (λ r. NameText x ∷ r) (last_texts scope (semicolon ∷ []) d refl)
   statement_texts scope (AssignElementIs {us} {ts} {index} {e} x i d) =
-      ap (λ r. NameText x ∷ r) (front_texts scope (marks_of_expression scope e) (close_square ∷ equals ∷ (ts ++ semicolon ∷ [])) i (last_texts scope (semicolon ∷ []) d refl))
+      ap (λ r. NameText x ∷ r) (front_texts scope (marks_of_expression scope e) (close_square ∷ equals ∷ (ts ++ semicolon ∷ [])) i
+      (last_texts scope (semicolon ∷ []) d refl))
   statement_texts scope (EmitIs d) = last_texts scope (semicolon ∷ []) d refl
   statement_texts scope (IfIs {ts} {ps} {qs} {e} {a} {b} d x y) =
       front_texts scope (marks_of_statements scope a ++ marks_of_statements (after_block scope a) b) (close_round ∷ flat (ps ++ qs)) d
-      (of_pieces (marks_of_statements scope a) (marks_of_statements (after_block scope a) b) ps qs (block_texts scope x) (part_texts (after_block scope a) refl y))
+      (of_pieces (marks_of_statements scope a) (marks_of_statements (after_block scope a) b) ps qs
+      (block_texts scope x) (part_texts (after_block scope a) refl y))
   statement_texts scope (WhileIs {ts} {ps} {e} {a} d x) =
       front_texts scope (marks_of_statements scope a) (close_round ∷ flat ps) d (block_texts scope x)
   statement_texts scope (WaitIs d) = ap (λ r. StageText ∷ r) (last_texts scope (close_round ∷ semicolon ∷ []) d refl)
@@ -127,7 +130,8 @@ mutual
   statement_texts scope (ContinueIs d) = ap (λ r. StageText ∷ r) (last_texts scope (close_round ∷ semicolon ∷ []) d refl)
   statement_texts scope ContinueNextIs = refl
 
-  statements_texts : {ps : List Piece} {ss : Statements} (scope : Scope) → DerivesStatements ps ss → texts_of (marks_of_statements scope ss) ≡ texts_in (flat ps)
+  statements_texts : {ps : List Piece} {ss : Statements} (scope : Scope) → DerivesStatements ps ss
+      → texts_of (marks_of_statements scope ss) ≡ texts_in (flat ps)
   statements_texts scope NoStatement = refl
   statements_texts scope (OneMore {ps} {qs} {s} {ss} d ds) =
       of_pieces (marks_of_statement scope s) (marks_of_statements (after_statement scope s) ss) ps qs (statement_texts scope d)
@@ -137,7 +141,7 @@ mutual
   block_texts scope (BlockIs {ps} d) =
       statements_texts scope d ∙ sym (ap texts_in (flat_append ps (Single close_brace ∷ [])) ∙ quiet_end (flat ps) (close_brace ∷ []) refl)
 
-  part_texts : {word : ℕ} {ps : List Piece} {ss : Statements} (scope : Scope) → text_in (symbols.Word word) ≡ [] → DerivesPart word ps ss
+  part_texts : {word : ℕ} {ps : List Piece} {ss : Statements} (scope : Scope) → marked_text (symbols.Word word) ≡ [] → DerivesPart word ps ss
       → texts_of (marks_of_statements scope ss) ≡ texts_in (flat ps)
   part_texts scope h NoPart = refl
   part_texts scope h (PartIs {word} {ps} d) = block_texts scope d ∙ sym (ap (λ x. x ++ texts_in (flat ps)) h)
@@ -156,7 +160,8 @@ value_texts (NegativeValueIs n) = refl
 quiet_front : (ps qs : List Piece) → texts_in (flat ps) ≡ [] → texts_in (flat qs) ≡ texts_in (flat (ps ++ qs))
 quiet_front ps qs h = sym (texts_flat ps qs ∙ ap (λ x. x ++ texts_in (flat qs)) h)
 
-cells_texts : {ps : List Piece} {ds : List Declaration} (before : List Declaration) → DerivesCells ps ds → texts_of (marks_of_cells before ds) ≡ texts_in (flat ps)
+cells_texts : {ps : List Piece} {ds : List Declaration} (before : List Declaration) → DerivesCells ps ds
+    → texts_of (marks_of_cells before ds) ≡ texts_in (flat ps)
 cells_texts before NoCell = refl
 cells_texts before (CellIs {ps} {qs} {rs} {size} {value} x s v c) =
     ap (λ r. NameText x ∷ r)
@@ -190,7 +195,7 @@ few_texts [] = omega arith
 few_texts (t ∷ ts) =
     let few = few_texts ts in
     let here = at_most_one t in
-    let many = length-append (text_in t) (texts_in ts) in
+    let many = length-append (marked_text t) (texts_in ts) in
     omega (arith, few, here, many)
   where
     by_word : (p q : Bool) → length (if p then IterText ∷ [] else (if q then StageText ∷ [] else [])) ≤ 1
@@ -198,7 +203,7 @@ few_texts (t ∷ ts) =
     by_word false true = omega arith
     by_word false false = omega arith
 
-    at_most_one : (t : Symbol) → length (text_in t) ≤ 1
+    at_most_one : (t : Symbol) → length (marked_text t) ≤ 1
     at_most_one (symbols.Name x) = omega arith
     at_most_one (symbols.Word k) = by_word (k == 19) ((k == 9) || (k == 10))
     at_most_one (symbols.Number n) = omega arith

@@ -49,6 +49,9 @@ nodes_within (Joined {rank} {left} {right} {a} {b} code e x y) =
 
 -- ---- statements
 
+flat_length : (ps qs : List Piece) → length (flat (ps ++ qs)) ≡ length (flat ps) + length (flat qs)
+flat_length ps qs = rw (flat_append ps qs) (length-append (flat ps) (flat qs))
+
 -- the full expressions of the pieces are these, and they are so many statements
 pub record Measured (ps : List Piece) (es : List Expression) (statements : ℕ) : Type 0 where
   pub nodes : sum_by node_count es ≤ length (flat ps)
@@ -79,7 +82,7 @@ full {ps} {es} {n} {ts} {e} d m =
 
 both : {ps qs : List Piece} {es fs : List Expression} {n k : ℕ} → Measured ps es n → Measured qs fs k → Measured (ps ++ qs) (es ++ fs) (n + k)
 both {ps} {qs} {es} {fs} m o =
-    let split : length (flat (ps ++ qs)) ≡ length (flat ps) + length (flat qs) = rw (flat_append ps qs) (length-append (flat ps) (flat qs)) in
+    let split = flat_length ps qs in
     let sum = sum_by-append node_count es fs in
     record {
       nodes = (let x = m.nodes in let y = o.nodes in omega (arith, x, y, split, sum));
@@ -90,7 +93,7 @@ both {ps} {qs} {es} {fs} m o =
 -- a last symbol
 closed : {ps : List Piece} {es : List Expression} {n : ℕ} (t : Symbol) → Measured ps es n → Measured (ps ++ Single t ∷ []) es n
 closed {ps} t m =
-    let split : length (flat (ps ++ Single t ∷ [])) ≡ length (flat ps) + 1 = rw (flat_append ps (Single t ∷ [])) (length-append (flat ps) (t ∷ [])) in
+    let split = flat_length ps (Single t ∷ []) in
     record {
       nodes = (let x = m.nodes in omega (arith, x, split));
       few = (let x = m.few in omega (arith, x, split));
@@ -100,7 +103,7 @@ closed {ps} t m =
 -- pieces in front that are no statement
 behind : {qs : List Piece} {es : List Expression} {n : ℕ} (ps : List Piece) → Measured qs es n → Measured (ps ++ qs) es n
 behind {qs} ps m =
-    let split : length (flat (ps ++ qs)) ≡ length (flat ps) + length (flat qs) = rw (flat_append ps qs) (length-append (flat ps) (flat qs)) in
+    let split = flat_length ps qs in
     record {
       nodes = (let x = m.nodes in omega (arith, x, split));
       few = (let x = m.few in omega (arith, x, split));

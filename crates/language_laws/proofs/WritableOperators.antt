@@ -1,18 +1,15 @@
 -- A program that can be written has known operators, and no negative number where the grammar has no sign.
-use Rattle.std.proofs.Common.{◌≡◌, refl, ℕ, ◌≤◌, ◌≤ℤ◌, ℤ, pos, Bool, true, false, List, [], ◌∷◌, ◌++◌, ◌&&◌, inl, inr, ◌⊎◌, Option, Some, None, nat_le, arith, All}
+use Rattle.std.proofs.Common.{◌≡◌, refl, ℕ, ◌≤◌, ◌≤ℤ◌, ℤ, pos, true, List, [], ◌∷◌, ◌++◌, ◌&&◌, inl, inr, ◌⊎◌, Option, Some, None, nat_le, arith, All}
 use Rattle.std.proofs.lemmas.Bool.Decides.{nat_tests}
 use Rattle.std.proofs.lemmas.Int.{ints}
 use Rattle.std.proofs.lemmas.List.Elements.{All-nil, All-cons, All-append}
 use Rattle.pipe_model.specs.declared.tree.Declaration.{Declaration}
 use Rattle.pipe_model.specs.SpellablePrograms.{has_known_operators, expressions_of_statement, expressions_of_statements, expressions_of, HasNoNegativeSize}
 use Rattle.pipe_model.specs.SyntaxTree.{Expression, Number, Name, Element, And, Or, Binary, Unary, More, Take, Iter, Statement, Let, Assign, AssignElement, Emit, If, While, Stage, NextStage, Statements, Empty, Then, SyntaxTree}
+use Rattle.pipe_model.proofs.FirstFormCounts.{two}
 use Rattle.pipe_model.proofs.CanonicalSymbols.{IsNumeral, Numeral, IsWritable, IsWritableStatement, AreWritable, IsWritableSize, AreWritableCells, IsWritableProgram}
 
 -- ---- operators
-
-two : (a b : Bool) → a ≡ true → b ≡ true → (a && b) ≡ true
-two true b h i = i
-two false b h i = cc (h)
 
 two_place : (code : ℕ) → 3 ≤ code → code ≤ 13 → (nat_le 1 code && nat_le code 13) ≡ true
 two_place code h i = grind (arith, nat_tests)
@@ -45,6 +42,9 @@ none_known = All-nil (λ e. has_known_operators e ≡ true)
 more_known : (e : Expression) (es : List Expression) → IsWritable e → HaveKnown es → HaveKnown (e ∷ es)
 more_known e es w h = All-cons (λ e. has_known_operators e ≡ true) e es (known_operators e w) h
 
+both_known : (es fs : List Expression) → HaveKnown es → HaveKnown fs → HaveKnown (es ++ fs)
+both_known es fs h i = All-append (λ e. has_known_operators e ≡ true) es fs h i
+
 mutual
   statement_known : (s : Statement) → IsWritableStatement s → HaveKnown (expressions_of_statement s)
   statement_known (Let x e) w = more_known e [] w.1 none_known
@@ -53,7 +53,7 @@ mutual
   statement_known (Emit e) w = more_known e [] w none_known
   statement_known (If e a b) w =
       more_known e _ w.0
-      (All-append (λ e. has_known_operators e ≡ true) (expressions_of_statements a) (expressions_of_statements b) (statements_known a w.1) (statements_known b w.2))
+      (both_known (expressions_of_statements a) (expressions_of_statements b) (statements_known a w.1) (statements_known b w.2))
   statement_known (While e a) w = more_known e (expressions_of_statements a) w.0 (statements_known a w.1)
   statement_known (Stage kind e) w = more_known e [] w.1 none_known
   statement_known (NextStage kind) w = none_known
@@ -61,14 +61,14 @@ mutual
   statements_known : (ss : Statements) → AreWritable ss → HaveKnown (expressions_of_statements ss)
   statements_known Empty w = none_known
   statements_known (Then s ss) w =
-      All-append (λ e. has_known_operators e ≡ true) (expressions_of_statement s) (expressions_of_statements ss) (statement_known s w.0) (statements_known ss w.1)
+      both_known (expressions_of_statement s) (expressions_of_statements ss) (statement_known s w.0) (statements_known ss w.1)
 
 -- the operators of a program are known
 pub program_known : (tree : SyntaxTree) → IsWritableProgram tree → All (λ e. has_known_operators e ≡ true) (expressions_of tree)
 program_known tree w =
-    All-append (λ e. has_known_operators e ≡ true) (expressions_of_statements tree.init) _ (statements_known tree.init w.init)
+    both_known (expressions_of_statements tree.init) _ (statements_known tree.init w.init)
     (more_known tree.test (expressions_of_statements tree.body ++ expressions_of_statements tree.last) w.test
-    (All-append (λ e. has_known_operators e ≡ true) (expressions_of_statements tree.body) (expressions_of_statements tree.last)
+    (both_known (expressions_of_statements tree.body) (expressions_of_statements tree.last)
     (statements_known tree.body w.body) (statements_known tree.last w.last)))
 
 -- ---- numbers

@@ -5,3 +5,4 @@ pub mod ProgramLaws
 pub mod FirstFormLaws
 pub mod WholeSpellingLaws
 pub mod SpellableLaws
+pub mod MarkLaws

@@ -4,6 +4,7 @@
 
 pub mod examples;
 pub mod first_form;
+pub mod marks;
 pub mod programs;
 pub mod spellable;
 pub mod spelling;

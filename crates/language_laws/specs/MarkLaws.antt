@@ -1,0 +1,37 @@
+-- The marks of a program that a source spells are those of its tokens that are marks, one by one.
+use Rattle.std.specs.Prelude.{◌≡◌, ℕ, ℤ, pos, true, false, List, [], ◌∷◌, ◌⊎◌, length}
+use Rattle.pipe_model.specs.declared.symbol.Symbol.{Symbol}
+use Rattle.pipe_model.specs.declared.symbol.Symbol.TheVariants as symbols
+use Rattle.pipe_model.specs.declared.token.Token.{Token}
+use Rattle.pipe_model.specs.MarkPlaces.{is_mark, mark_places}
+use Rattle.pipe_model.specs.Marks.{Occurrence, DeclaredCell, DeclaredLocal, Plain, Indexed, IterWord, StageWord, Mark, marks_of}
+use Rattle.pipe_model.specs.SourceSpelling.{SourceSpells}
+use Rattle.pipe_model.specs.SyntaxTree.{SyntaxTree}
+use Rattle.pipe_model.specs.Tokens.{symbol_in}
+use Rattle.pipe_model.specs.Words.{word_pipe_wait, word_pipe_continue, word_iter}
+
+-- what occurs is this symbol of the text
+abbrev pub OccursAs : Occurrence → Symbol → Type 0
+OccursAs (DeclaredCell x size) s = s ≡ symbols.Name x
+OccursAs (DeclaredLocal x) s = s ≡ symbols.Name x
+OccursAs (Plain x) s = s ≡ symbols.Name x
+OccursAs (Indexed x) s = s ≡ symbols.Name x
+OccursAs IterWord s = s ≡ word_iter
+OccursAs StageWord s = (s ≡ word_pipe_wait) ⊎ (s ≡ word_pipe_continue)
+
+-- those of the source's tokens that are marks are these marks, in order, at these places
+pub data HaveMarks (source : List ℕ) : List Token → List Mark → List ℤ → Type 0 where
+  NoToken : HaveMarks source [] [] []
+  OtherToken : {tokens : List Token} {marks : List Mark} {places : List ℤ} (token : Token) → is_mark token.kind ≡ false
+      → HaveMarks source tokens marks places → HaveMarks source (token ∷ tokens) marks places
+  MarkToken : {tokens : List Token} {marks : List Mark} {places : List ℤ} (token : Token) (mark : Mark) → is_mark token.kind ≡ true
+      → OccursAs mark.occurrence (symbol_in source token) → HaveMarks source tokens marks places
+      → HaveMarks source (token ∷ tokens) (mark ∷ marks) (pos token.place ∷ places)
+
+-- the marks of a program that a source spells are as many as those of its tokens, so each has its place
+abbrev pub MarksAreThoseOfTokens : Type 0
+MarksAreThoseOfTokens = (source : List ℕ) (tree : SyntaxTree) (s : SourceSpells source tree) → length (marks_of tree) ≡ length (mark_places s.tokens)
+
+-- and each is the mark that its token is
+abbrev pub MarksOccurAsTokens : Type 0
+MarksOccurAsTokens = (source : List ℕ) (tree : SyntaxTree) (s : SourceSpells source tree) → HaveMarks source s.tokens (marks_of tree) (mark_places s.tokens)
