@@ -430,7 +430,7 @@ fn events(alloc: Global) -> Result<(), Fail> {
     let rest = "cell n = 0; pipe_while (n < 1) { n = 1; pipe_wait(1); emit n; }";
     let source = source(alloc, [1, 2, 50, 1], rest)?;
     let (ended, _) = Case::of(source.as_bytes()).run(alloc)?;
-    let Some(log) = ended.run_log else {
+    let Some(log) = &ended.run_log else {
         return Err(Fail::new(format_args!("there is no run log")));
     };
     let expected = [
