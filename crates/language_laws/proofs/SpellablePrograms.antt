@@ -5,7 +5,7 @@ use Rattle.pipe_model.specs.SourceSpelling.{SourceSpells}
 use Rattle.pipe_model.specs.SpellablePrograms.{IsSpellable}
 use Rattle.pipe_model.specs.SyntaxTree.{SyntaxTree}
 use Rattle.pipe_model.specs.Tokens.{symbol_in, symbols_in}
-use Rattle.pipe_model.specs.WholeGrammar.{flat}
+use Rattle.pipe_model.specs.Grammar.{flat}
 use Rattle.pipe_model.proofs.WritablePrograms.{writable_program}
 use Rattle.pipe_model.proofs.Writings.{IsSourceOf}
 use Rattle.language_laws.proofs.SpelledMarks.{marks_within}

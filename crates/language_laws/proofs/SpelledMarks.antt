@@ -8,7 +8,7 @@ use Rattle.pipe_model.specs.declared.tree.Declaration.{Declaration}
 use Rattle.pipe_model.specs.Marks as marks
 use Rattle.pipe_model.specs.Marks.{Scope, Occurrence, Mark, opening, after_statement, after_block, marks_of_expression, marks_of_statement, marks_of_statements, marks_of_cells, marks_of}
 use Rattle.pipe_model.specs.SyntaxTree.{Expression, And, Or, Binary, joined_by, Statement, Statements, SyntaxTree}
-use Rattle.pipe_model.specs.WholeGrammar.{Derives, Numeral, Named, Indexed, CallsMore, CallsTake, CallsIter, Negative, Not, Bracketed, Tighter, Joined, Piece, Single, flat, DerivesStatement, LetIs, AssignIs, AssignElementIs, EmitIs, IfIs, WhileIs, WaitIs, WaitNextIs, ContinueIs, ContinueNextIs, DerivesStatements, NoStatement, OneMore, DerivesBlock, BlockIs, DerivesPart, NoPart, PartIs, DerivesSize, NoSize, SizeIs, DerivesValue, ValueIs, NegativeValueIs, declaration, DerivesCells, NoCell, CellIs, DerivesProgram, ProgramIs}
+use Rattle.pipe_model.specs.Grammar.{Derives, Numeral, Named, Indexed, CallsMore, CallsTake, CallsIter, Negative, Not, Bracketed, Tighter, Joined, Piece, Single, flat, DerivesStatement, LetIs, AssignIs, AssignElementIs, EmitIs, IfIs, WhileIs, WaitIs, WaitNextIs, ContinueIs, ContinueNextIs, DerivesStatements, NoStatement, OneMore, DerivesBlock, BlockIs, DerivesPart, NoPart, PartIs, DerivesSize, NoSize, SizeIs, DerivesValue, ValueIs, NegativeValueIs, declaration, DerivesCells, NoCell, CellIs, DerivesProgram, ProgramIs}
 use Rattle.pipe_model.specs.Words.{semicolon, equals, close_round, close_square, close_brace}
 use Rattle.pipe_model.proofs.Pieces.{flat_append}
 

@@ -7,8 +7,8 @@ use Rattle.pipe_model.specs.declared.symbol.Symbol.{Symbol}
 use Rattle.pipe_model.specs.declared.symbol.Symbol.TheVariants as symbols
 use Rattle.pipe_model.specs.SpellablePrograms.{node_count, expressions_of_statement, expressions_of_statements, statement_count, statement_counts, expressions_of}
 use Rattle.pipe_model.specs.SyntaxTree.{Expression, And, Or, Binary, joined_by, Statement, Statements, SyntaxTree}
-use Rattle.pipe_model.specs.WholeGrammar.{Derives, Numeral, Named, Indexed, CallsMore, CallsTake, CallsIter, Negative, Not, Bracketed, Tighter, Joined, Piece, Single, FullExpression, flat, DerivesStatement, LetIs, AssignIs, AssignElementIs, EmitIs, IfIs, WhileIs, WaitIs, WaitNextIs, ContinueIs, ContinueNextIs, DerivesStatements, NoStatement, OneMore, DerivesBlock, BlockIs, DerivesPart, NoPart, PartIs, DerivesProgram, ProgramIs, limits_before}
-use Rattle.pipe_model.specs.WholeSpelling.{AreShort}
+use Rattle.pipe_model.specs.Grammar.{Derives, Numeral, Named, Indexed, CallsMore, CallsTake, CallsIter, Negative, Not, Bracketed, Tighter, Joined, Piece, Single, FullExpression, flat, DerivesStatement, LetIs, AssignIs, AssignElementIs, EmitIs, IfIs, WhileIs, WaitIs, WaitNextIs, ContinueIs, ContinueNextIs, DerivesStatements, NoStatement, OneMore, DerivesBlock, BlockIs, DerivesPart, NoPart, PartIs, DerivesProgram, ProgramIs, limits_before}
+use Rattle.pipe_model.specs.Spelling.{AreShort}
 use Rattle.pipe_model.specs.Words.{close_round, close_square}
 use Rattle.pipe_model.proofs.Pieces.{flat_append, short_front, short_back}
 

@@ -5,7 +5,7 @@ use Rattle.pipe_model.specs.FirstForm.{IsPlain, IsPlainSource}
 use Rattle.pipe_model.specs.Grammar.{DerivesProgram}
 use Rattle.pipe_model.specs.Spelling.{IsFirstForm}
 use Rattle.pipe_model.specs.SyntaxTree.{SyntaxTree}
-use Rattle.pipe_model.specs.WholeSpelling.{Spells}
+use Rattle.pipe_model.specs.Spelling.{Spells}
 
 -- the grammar of the first form derives a program exactly where the symbols spell it in the whole language and both are plain
 abbrev pub FirstFormIsThePlainPart : Type 0

@@ -3,7 +3,7 @@ use Rattle.std.specs.Prelude.{◌≡◌, ℕ, List}
 use Rattle.pipe_model.specs.declared.symbol.Symbol.{Symbol}
 use Rattle.pipe_model.specs.SourceSpelling.{SourceSpells}
 use Rattle.pipe_model.specs.SyntaxTree.{SyntaxTree}
-use Rattle.pipe_model.specs.WholeSpelling.{FirstFault, Rule, Spells}
+use Rattle.pipe_model.specs.Spelling.{FirstFault, Rule, Spells}
 
 -- symbols spell one program at most
 abbrev pub SymbolsSpellOneProgram : Type 0

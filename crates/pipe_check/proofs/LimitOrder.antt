@@ -2,7 +2,7 @@
 use Rattle.std.proofs.Common.{◌≡◌, pos, ◌*ℤ◌, Bool, not, Some, None, if◌then◌else◌, int_lt, refl}
 use Rattle.pipe_model.specs.declared.tree.Limits.{Limits}
 use Rattle.pipe_model.specs.CheckingRules.{limit_out}
-use Rattle.pipe_model.specs.Rules.{is_between}
+use Rattle.pipe_model.specs.CheckingRules.{is_between}
 
 pub limit_by : (limits : Limits) (iterations stages many steps emits : Bool) → iterations ≡ is_between (pos 1) (pos 65536) limits.iterations
     → stages ≡ is_between (pos 1) (pos 4096) limits.stages → many ≡ int_lt (pos 262144) (limits.iterations *ℤ limits.stages)

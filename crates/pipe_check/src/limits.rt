@@ -2,7 +2,7 @@
 
 ghost use Rattle.std.specs.Prelude.{◌≡◌};
 ghost use Rattle.pipe_model.specs.CheckingRules.{limit_out};
-ghost use Rattle.pipe_model.specs.Rules.{is_between};
+ghost use Rattle.pipe_model.specs.CheckingRules.{is_between};
 
 use pipe_model::tree::Limits;
 

@@ -3,7 +3,7 @@
 ghost use Rattle.std.specs.Prelude.{◌≡◌, ◌<◌, ◌∷◌, [], OnOk, length, take};
 ghost use Rattle.pipe_check.specs.Passing.{Passes};
 ghost use Rattle.pipe_model.specs.Marks.{DeclaredLocal, Indexed, IterWord, Plain, StageWord, at, opening, with_local};
-ghost use Rattle.pipe_model.specs.Rules.{is_among};
+ghost use Rattle.pipe_model.specs.CheckingRules.{is_among};
 
 use crate::cells::Cells;
 use crate::fault::CheckFault;

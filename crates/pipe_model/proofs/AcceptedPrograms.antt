@@ -1,13 +1,13 @@
 -- Symbols that the machine of programs accepts spell a program, within the bound on full expressions.
-use Rattle.std.proofs.Common.{◌≡◌, ℕ, suc, ◌<◌, ◌≤◌, ◌+◌, List, [], ◌∷◌, ◌++◌, take, drop, length, refl, sym, ap, ◌∙◌, append_assoc, append-nil, arith, subst, ◌⊎◌, inl, inr, Bool, true, false, ◌&&◌, if◌then◌else◌}
-use Rattle.std.proofs.lemmas.Bool.{cases_lt, cases_Bool}
+use Rattle.std.proofs.Common.{◌≡◌, ℕ, suc, ◌<◌, List, [], ◌∷◌, ◌++◌, take, drop, length, refl, sym, ap, ◌∙◌, append_assoc, append-nil, arith, subst, ◌⊎◌, inl, inr, Bool, true, false, ◌&&◌, if◌then◌else◌}
+use Rattle.std.proofs.lemmas.Bool.{cases_lt}
 use Rattle.std.proofs.lemmas.List.{take-append-drop, length-take}
 use Rattle.pipe_model.specs.declared.symbol.Symbol.{Symbol}
 use Rattle.pipe_model.specs.SyntaxTree.{SyntaxTree}
-use Rattle.pipe_model.specs.WholeGrammar.{Piece, Single, FullExpression, flat, DerivesProgram}
-use Rattle.pipe_model.specs.WholeSpelling.{AreShort, EndsTooLong, IsShallow, Spells}
+use Rattle.pipe_model.specs.Grammar.{Piece, Single, FullExpression, flat, DerivesProgram}
+use Rattle.pipe_model.specs.Spelling.{AreShort, EndsTooLong, IsShallow, Spells}
 use Rattle.pipe_model.specs.ExpressionMachine as expression
-use Rattle.pipe_model.specs.ProgramMachine.{State, Outside, Inside, Verdict, Accepted, Unexpected, TooLong, is_final, judge, may_end, program}
+use Rattle.pipe_model.specs.ProgramMachine.{State, Outside, Accepted, Unexpected, TooLong, is_final, judge, may_end, program}
 use Rattle.pipe_model.proofs.ExpressionFronts.{run_ended}
 use Rattle.pipe_model.proofs.FirstFaults.{too_long_found}
 use Rattle.pipe_model.proofs.Pieces.{flat_append}

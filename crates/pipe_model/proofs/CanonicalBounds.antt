@@ -9,8 +9,8 @@ use Rattle.pipe_model.specs.declared.symbol.Symbol.TheVariants as symbols
 use Rattle.pipe_model.proofs.CanonicalSymbols.{one_place_symbol, symbols_at_level, two_place_symbols, expression_symbols}
 use Rattle.pipe_model.specs.CanonicalText.{level_in}
 use Rattle.pipe_model.specs.SyntaxTree.{Expression, Number, Name, Element, And, Or, Binary, Unary, More, Take, Iter, joined_by}
-use Rattle.pipe_model.specs.WholeGrammar.{level_of, rank_of, Derives, Numeral, Named, Indexed, CallsMore, CallsTake, CallsIter, Negative, Not, Bracketed, Tighter, Joined}
-use Rattle.pipe_model.specs.WholeSpelling.{is_opening, is_closing, open_brackets, IsShallow}
+use Rattle.pipe_model.specs.Grammar.{level_of, rank_of, Derives, Numeral, Named, Indexed, CallsMore, CallsTake, CallsIter, Negative, Not, Bracketed, Tighter, Joined}
+use Rattle.pipe_model.specs.Spelling.{is_opening, is_closing, open_brackets, IsShallow}
 use Rattle.pipe_model.specs.Words.{minus, exclamation, open_round, close_round, open_square, close_square}
 
 -- ---- the most brackets that are open

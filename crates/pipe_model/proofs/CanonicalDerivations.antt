@@ -9,7 +9,7 @@ use Rattle.pipe_model.specs.declared.tree.Declaration.{Declaration}
 use Rattle.pipe_model.proofs.CanonicalSymbols.{one_place_symbol, symbols_at_level, two_place_symbols, expression_symbols, part_pieces, statement_pieces, statements_pieces, size_pieces, value_pieces, cells_pieces, program_pieces, IsWritable, IsWritableStatement, AreWritable, IsWritableProgram}
 use Rattle.pipe_model.specs.CanonicalText.{level_in}
 use Rattle.pipe_model.specs.SyntaxTree.{Expression, Number, Name, Element, And, Or, Binary, Unary, More, Take, Iter, joined_by, Statement, Let, Assign, AssignElement, Emit, If, While, Stage, NextStage, Statements, Empty, Then, SyntaxTree}
-use Rattle.pipe_model.specs.WholeGrammar.{level_of, Derives, Numeral, Named, Indexed, CallsMore, CallsTake, CallsIter, Negative, Not, Bracketed, Tighter, Joined, Piece, DerivesStatement, LetIs, AssignIs, AssignElementIs, EmitIs, IfIs, WhileIs, WaitIs, WaitNextIs, ContinueIs, ContinueNextIs, DerivesStatements, NoStatement, OneMore, BlockIs, DerivesPart, NoPart, PartIs, DerivesSize, NoSize, SizeIs, DerivesValue, ValueIs, NegativeValueIs, DerivesCells, NoCell, CellIs, DerivesProgram, ProgramIs}
+use Rattle.pipe_model.specs.Grammar.{level_of, Derives, Numeral, Named, Indexed, CallsMore, CallsTake, CallsIter, Negative, Not, Bracketed, Tighter, Joined, Piece, DerivesStatement, LetIs, AssignIs, AssignElementIs, EmitIs, IfIs, WhileIs, WaitIs, WaitNextIs, ContinueIs, ContinueNextIs, DerivesStatements, NoStatement, OneMore, BlockIs, DerivesPart, NoPart, PartIs, DerivesSize, NoSize, SizeIs, DerivesValue, ValueIs, NegativeValueIs, DerivesCells, NoCell, CellIs, DerivesProgram, ProgramIs}
 
 -- ---- expressions
 

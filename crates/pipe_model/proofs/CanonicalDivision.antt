@@ -12,7 +12,7 @@ use Rattle.pipe_model.proofs.CanonicalSymbols.{one_place_symbol, symbols_at_leve
 use Rattle.pipe_model.specs.CanonicalText.{operator_text, one_place_text, tightest, level_in, at_level, two_place, expression_text, line, else_text, statement_text, statements_text, limits_text, size_text, cell_text, part_text, loop_text, program_text}
 use Rattle.pipe_model.specs.Lexis.{is_name_byte, symbol_of}
 use Rattle.pipe_model.specs.SyntaxTree.{Expression, Number, Name, Element, And, Or, Binary, Unary, More, Take, Iter, Statement, Let, Assign, AssignElement, Emit, If, While, Stage, NextStage, Statements, Empty, Then, SyntaxTree}
-use Rattle.pipe_model.specs.WholeGrammar.{level_of, Piece, Single, FullExpression, flat}
+use Rattle.pipe_model.specs.Grammar.{level_of, Piece, Single, FullExpression, flat}
 use Rattle.pipe_model.specs.Words.{word_limits, word_iterations, word_stages, word_steps, word_emits, word_pipe_while, word_if, word_while, word_cell, minus, open_round, close_round, comma, semicolon, equals, open_square, close_square, open_brace, close_brace}
 use Rattle.pipe_model.proofs.Pieces.{flat_append}
 use Rattle.pipe_model.proofs.Writings.{IsSourceOf, Writes, Done, Space, Puts, written_source}

@@ -6,8 +6,8 @@ use Rattle.pipe_model.specs.declared.symbol.Symbol.TheVariants as symbols
 use Rattle.pipe_model.specs.declared.tree.Declaration.{Declaration}
 use Rattle.pipe_model.proofs.CanonicalSymbols.{expression_symbols, block_pieces, part_pieces, statement_pieces, statements_pieces, size_pieces, value_pieces, cells_pieces, program_pieces}
 use Rattle.pipe_model.specs.SyntaxTree.{Expression, Statement, Statements, Empty, Then, SyntaxTree}
-use Rattle.pipe_model.specs.WholeGrammar.{Derives, Piece, Single, FullExpression, flat, DerivesStatement, LetIs, AssignIs, AssignElementIs, EmitIs, IfIs, WhileIs, WaitIs, WaitNextIs, ContinueIs, ContinueNextIs, DerivesStatements, NoStatement, OneMore, DerivesBlock, BlockIs, DerivesPart, NoPart, PartIs, DerivesSize, NoSize, SizeIs, DerivesValue, ValueIs, NegativeValueIs, DerivesCells, NoCell, CellIs, DerivesProgram, ProgramIs, limits_before}
-use Rattle.pipe_model.specs.WholeSpelling.{AreShort, is_opening, is_closing}
+use Rattle.pipe_model.specs.Grammar.{Derives, Piece, Single, FullExpression, flat, DerivesStatement, LetIs, AssignIs, AssignElementIs, EmitIs, IfIs, WhileIs, WaitIs, WaitNextIs, ContinueIs, ContinueNextIs, DerivesStatements, NoStatement, OneMore, DerivesBlock, BlockIs, DerivesPart, NoPart, PartIs, DerivesSize, NoSize, SizeIs, DerivesValue, ValueIs, NegativeValueIs, DerivesCells, NoCell, CellIs, DerivesProgram, ProgramIs, limits_before}
+use Rattle.pipe_model.specs.Spelling.{AreShort, is_opening, is_closing}
 use Rattle.pipe_model.specs.Words.{minus, open_round, close_round, open_square, close_square, open_brace, close_brace}
 use Rattle.pipe_model.proofs.CanonicalBounds.{IsPlain, IsPair, NoDeeper, none_deep, plain_deep, front_deep, more_deep, both_deep, nested_deep, unbracketed_deep, none_lifts, full_least}
 use Rattle.pipe_model.proofs.Pieces.{flat_append, short_append, short_front, short_back}

@@ -6,8 +6,8 @@ use Rattle.pipe_model.specs.CanonicalText.{program_text}
 use Rattle.pipe_model.specs.SourceSpelling.{SourceSpells}
 use Rattle.pipe_model.specs.SyntaxTree.{SyntaxTree}
 use Rattle.pipe_model.specs.Tokens.{symbols_in}
-use Rattle.pipe_model.specs.WholeGrammar.{flat}
-use Rattle.pipe_model.specs.WholeSpelling.{IsShallow, Spells}
+use Rattle.pipe_model.specs.Grammar.{flat}
+use Rattle.pipe_model.specs.Spelling.{IsShallow, Spells}
 use Rattle.pipe_model.proofs.CanonicalBounds.{no_deeper_shallow}
 use Rattle.pipe_model.proofs.CanonicalDerivations.{program_derived}
 use Rattle.pipe_model.proofs.CanonicalDivision.{program_source}

@@ -8,7 +8,7 @@ use Rattle.pipe_model.specs.declared.tree.Declaration.{Declaration}
 use Rattle.pipe_model.specs.CanonicalText.{level_in, tightest}
 use Rattle.pipe_model.specs.Lexis.{symbol_of}
 use Rattle.pipe_model.specs.SyntaxTree.{Expression, Number, Name, Element, And, Or, Binary, Unary, More, Take, Iter, Statement, Let, Assign, AssignElement, Emit, If, While, Stage, NextStage, Statements, Empty, Then, SyntaxTree}
-use Rattle.pipe_model.specs.WholeGrammar.{level_of, Piece, Single, FullExpression, limits_before}
+use Rattle.pipe_model.specs.Grammar.{level_of, Piece, Single, FullExpression, limits_before}
 use Rattle.pipe_model.specs.Words.{word_cell, word_pipe_while, word_pipe_wait, word_pipe_continue, word_let, word_if, word_while, word_emit, word_more, word_take, word_iter, minus, exclamation, open_round, close_round, semicolon, equals, open_square, close_square, open_brace, close_brace}
 
 -- ---- expressions

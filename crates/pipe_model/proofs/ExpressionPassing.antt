@@ -4,8 +4,8 @@ use Rattle.std.proofs.lemmas.Bool.{cases_eq, cases_Bool}
 use Rattle.pipe_model.specs.declared.symbol.Symbol.{Symbol}
 use Rattle.pipe_model.specs.declared.symbol.Symbol.TheVariants as symbols
 use Rattle.pipe_model.specs.SyntaxTree.{Expression}
-use Rattle.pipe_model.specs.WholeGrammar.{rank_of}
-use Rattle.pipe_model.specs.WholeReading.{Reads, ReadsNumeral, ReadsName, ReadsElement, ReadsMore, ReadsTake, ReadsIter, ReadsNegative, ReadsNot, ReadsBracketed, ReadsChain, Extends, Ends, Joins, NoSign, next_rank}
+use Rattle.pipe_model.specs.Grammar.{rank_of}
+use Rattle.pipe_model.specs.Reading.{Reads, ReadsNumeral, ReadsName, ReadsElement, ReadsMore, ReadsTake, ReadsIter, ReadsNegative, ReadsNot, ReadsBracketed, ReadsChain, Extends, Ends, Joins, NoSign, next_rank}
 use Rattle.pipe_model.specs.ExpressionMachine.{Want, Sign, Operand, Index, Tail, ending, is_operator}
 
 no_index : (ts : List Symbol) (wants : List Want) → NoSign 91 ts → ending ts (Index ∷ wants) ≡ ending ts wants

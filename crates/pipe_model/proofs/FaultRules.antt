@@ -3,15 +3,15 @@ use Rattle.std.proofs.Common.{◌≡◌, ◌≢◌, ℕ, suc, ◌<◌, ◌≤◌
 use Rattle.std.proofs.lemmas.Bool.{cases_lt}
 use Rattle.pipe_model.specs.declared.symbol.Symbol.{Symbol}
 use Rattle.pipe_model.specs.SyntaxTree.{SyntaxTree}
-use Rattle.pipe_model.specs.WholeGrammar.{Piece, FullExpression, flat, DerivesProgram}
-use Rattle.pipe_model.specs.WholeSpelling.{Spells, IsFront, EndsTooLong, IsShallow, BreaksNoRule, FirstFault, UnexpectedSymbol, UnexpectedEnd, TooDeep, open_brackets, Rule, Expected, Shallow, Short}
-use Rattle.pipe_model.specs.WholeSpelling as spelling
+use Rattle.pipe_model.specs.Grammar.{Piece, FullExpression, flat, DerivesProgram}
+use Rattle.pipe_model.specs.Spelling.{Spells, IsFront, EndsTooLong, IsShallow, BreaksNoRule, FirstFault, UnexpectedSymbol, UnexpectedEnd, TooDeep, open_brackets, Rule, Expected, Shallow, Short}
+use Rattle.pipe_model.specs.Spelling as spelling
 use Rattle.pipe_model.specs.ProgramMachine.{Outside, Verdict, Accepted, Unexpected, TooLong, judge, program}
 use Rattle.pipe_model.proofs.FirstFaults.{IsUnexpected, is_unexpected, is_too_long, NoneTooLong, none_too_long, too_long_found}
 use Rattle.pipe_model.proofs.Pieces.{flat_append}
 use Rattle.pipe_model.proofs.ProgramFaults.{accepted_from, reached, reached_front}
 use Rattle.pipe_model.proofs.ProgramPassing.{accepts_program}
-use Rattle.pipe_model.proofs.WholeProgramReading.{found_program, one_program}
+use Rattle.pipe_model.proofs.ProgramReading.{found_program, one_program}
 
 -- at each point before the last at most 64 brackets are open
 pub record IsShallowBefore (ts : List Symbol) : Type 0 where

@@ -4,9 +4,9 @@ use Rattle.std.proofs.lemmas.Bool.{cases_lt}
 use Rattle.pipe_model.specs.declared.symbol.Symbol.{Symbol}
 use Rattle.pipe_model.specs.declared.symbol.Symbol.TheVariants as symbols
 use Rattle.pipe_model.specs.SyntaxTree.{Expression, SyntaxTree}
-use Rattle.pipe_model.specs.WholeGrammar.{Derives, Numeral, Named, Indexed, CallsMore, CallsTake, CallsIter, Negative, Not, Bracketed, Tighter, Joined, Piece, Single, FullExpression, flat, DerivesProgram}
-use Rattle.pipe_model.specs.WholeSpelling.{IsFront, EndsTooLong}
-use Rattle.pipe_model.specs.WholeReading.{NoSign}
+use Rattle.pipe_model.specs.Grammar.{Derives, Numeral, Named, Indexed, CallsMore, CallsTake, CallsIter, Negative, Not, Bracketed, Tighter, Joined, Piece, Single, FullExpression, flat, DerivesProgram}
+use Rattle.pipe_model.specs.Spelling.{IsFront, EndsTooLong}
+use Rattle.pipe_model.specs.Reading.{NoSign}
 use Rattle.pipe_model.specs.ExpressionMachine as expression
 use Rattle.pipe_model.specs.ProgramMachine as machine
 use Rattle.pipe_model.specs.ProgramMachine.{Want, Sign, State, Outside, Inside, Takes, Skips, move, stepped, next, step, continued, run, and_run, Verdict, Accepted, Unexpected, TooLong, is_final, judge, judged, judged_in, program}

@@ -1,10 +1,8 @@
 pub mod CellAccesses
 pub mod CellRaces
-pub mod Divisions
+pub mod LongestSymbols
 pub mod Members
-pub mod OneSpelling
 pub mod ProgramReading
-pub mod Reading
 pub mod ExpressionReading
 pub mod ExpressionRuns
 pub mod ExpressionPassing
@@ -12,7 +10,6 @@ pub mod ExpressionGrowth
 pub mod ExpressionFronts
 pub mod Pieces
 pub mod StatementReading
-pub mod WholeProgramReading
 pub mod FullExpressions
 pub mod ProgramPassing
 pub mod ProgramFronts
@@ -34,7 +31,5 @@ pub mod CanonicalBounds
 pub mod CanonicalPieces
 pub mod WritablePrograms
 pub mod CanonicalSpelling
-pub mod FirstFormCounts
-pub mod FirstFormLaws
-pub mod FirstFormSources
 pub mod AcceptedPrograms
+pub mod SourceRefusals

@@ -1,5 +1,5 @@
 -- The statements of a nested block are those of its list.
-use Rattle.std.proofs.Common.{◌≡◌, ap, ◌∙◌, List, refl}
+use Rattle.std.proofs.Common.{◌≡◌, ap, ◌∙◌, refl}
 use mathlib.Core.Former.{Count}
 use Rattle.pipe_model.specs.declared.tree.Block.{Block}
 use Rattle.pipe_model.specs.declared.tree.Expr.{Expr}

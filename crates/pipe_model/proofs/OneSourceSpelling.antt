@@ -1,9 +1,9 @@
 -- A source spells one program of the whole language at most.
-use Rattle.std.proofs.Common.{◌≡◌, ℕ, List, subst, sym}
+use Rattle.std.proofs.Common.{◌≡◌, ℕ, List, subst}
 use Rattle.pipe_model.specs.SourceSpelling.{SourceSpells}
 use Rattle.pipe_model.specs.SyntaxTree.{SyntaxTree}
 use Rattle.pipe_model.specs.Tokens.{symbols_in}
-use Rattle.pipe_model.specs.WholeSpelling.{Spells}
+use Rattle.pipe_model.specs.Spelling.{Spells}
 use Rattle.pipe_model.proofs.FaultRules.{one_spelled}
 use Rattle.pipe_model.proofs.TokenLaws.{one_list}
 

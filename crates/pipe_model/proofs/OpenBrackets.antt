@@ -1,9 +1,9 @@
 -- Counting open brackets from the front.
-use Rattle.std.proofs.Common.{◌≡◌, ◌≢◌, ℕ, ◌+◌, ◌-◌, ◌<◌, ◌≤◌, List, [], ◌∷◌, ◌++◌, length, append_assoc, append-nil, refl, sym, ap, ◌∙◌, arith, subst, ◌⊎◌, inl, inr, Bool, true, false, cond}
-use Rattle.std.specs.List.{count_by, sum_by}
+use Rattle.std.proofs.Common.{◌≡◌, ◌+◌, ◌≤◌, List, [], ◌∷◌, ◌++◌, append-nil, refl, ap, ◌∙◌, arith, subst, ◌⊎◌, inl, inr, Bool, cond}
+use Rattle.std.specs.List.{count_by}
 use Rattle.std.proofs.lemmas.List.Sums.{sum_by-append}
 use Rattle.pipe_model.specs.declared.symbol.Symbol.{Symbol}
-use Rattle.pipe_model.specs.WholeSpelling.{is_opening, is_closing, open_brackets, IsShallow}
+use Rattle.pipe_model.specs.Spelling.{open_brackets, IsShallow}
 use Rattle.pipe_model.proofs.FaultRules.{IsShallowBefore}
 
 -- one more symbol counts one more, or not

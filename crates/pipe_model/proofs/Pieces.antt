@@ -1,8 +1,8 @@
 -- Pieces one after the other: their symbols, and how long their full expressions are.
 use Rattle.std.proofs.Common.{◌≡◌, ℕ, ◌≤◌, ◌+◌, List, [], ◌∷◌, ◌++◌, length, refl, sym, ap, ◌∙◌, append_assoc, length-append, arith}
 use Rattle.pipe_model.specs.declared.symbol.Symbol.{Symbol}
-use Rattle.pipe_model.specs.WholeGrammar.{Piece, Single, FullExpression, flat}
-use Rattle.pipe_model.specs.WholeSpelling.{AreShort}
+use Rattle.pipe_model.specs.Grammar.{Piece, Single, FullExpression, flat}
+use Rattle.pipe_model.specs.Spelling.{AreShort}
 
 pub flat_append : (ps qs : List Piece) → flat (ps ++ qs) ≡ flat ps ++ flat qs
 flat_append [] qs = refl

@@ -4,8 +4,8 @@ use Rattle.std.proofs.lemmas.List.{take-append-drop, length-take}
 use Rattle.pipe_model.specs.declared.symbol.Symbol.{Symbol}
 use Rattle.pipe_model.specs.declared.symbol.Symbol.TheVariants as symbols
 use Rattle.pipe_model.specs.SyntaxTree.{Expression, SyntaxTree}
-use Rattle.pipe_model.specs.WholeGrammar.{Derives, Piece, Single, FullExpression, flat, BlockIs, DerivesProgram, ProgramIs}
-use Rattle.pipe_model.specs.WholeSpelling.{IsFront, EndsTooLong}
+use Rattle.pipe_model.specs.Grammar.{Derives, Piece, Single, FullExpression, flat, BlockIs, DerivesProgram, ProgramIs}
+use Rattle.pipe_model.specs.Spelling.{IsFront, EndsTooLong}
 use Rattle.pipe_model.specs.Words.{close_brace, open_brace}
 use Rattle.pipe_model.specs.ExpressionMachine as expression
 use Rattle.pipe_model.specs.ProgramMachine as machine
@@ -19,7 +19,7 @@ use Rattle.pipe_model.proofs.Pieces.{flat_append, all_short}
 use Rattle.pipe_model.proofs.ProgramFronts.{Completes, Nothing, OfSign, OfWord, OfNumber, OfFull, OfStatements, OfPart, OfCells, completion, Leads, step_leads}
 use Rattle.pipe_model.proofs.ProgramPassing.{accepts_program}
 use Rattle.pipe_model.proofs.StatementReading.{found_full}
-use Rattle.pipe_model.proofs.WholeProgramReading.{found_program}
+use Rattle.pipe_model.proofs.ProgramReading.{found_program}
 
 -- ---- where symbols lead
 

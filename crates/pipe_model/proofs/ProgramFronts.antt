@@ -5,7 +5,7 @@ use Rattle.pipe_model.specs.declared.symbol.Symbol.{Symbol}
 use Rattle.pipe_model.specs.declared.symbol.Symbol.TheVariants as symbols
 use Rattle.pipe_model.specs.declared.tree.Declaration.{Declaration}
 use Rattle.pipe_model.specs.SyntaxTree.{Expression, Statement, Statements}
-use Rattle.pipe_model.specs.WholeGrammar.{Derives, Numeral, Piece, Single, FullExpression, DerivesStatement, LetIs, AssignIs, AssignElementIs, EmitIs, IfIs, WhileIs, WaitIs, WaitNextIs, ContinueIs, ContinueNextIs, DerivesStatements, NoStatement, OneMore, DerivesBlock, BlockIs, DerivesPart, NoPart, PartIs, DerivesSize, NoSize, SizeIs, DerivesValue, ValueIs, NegativeValueIs, DerivesCells, NoCell, CellIs}
+use Rattle.pipe_model.specs.Grammar.{Derives, Numeral, Piece, Single, FullExpression, DerivesStatement, LetIs, AssignIs, AssignElementIs, EmitIs, IfIs, WhileIs, WaitIs, WaitNextIs, ContinueIs, ContinueNextIs, DerivesStatements, NoStatement, OneMore, DerivesBlock, BlockIs, DerivesPart, NoPart, PartIs, DerivesSize, NoSize, SizeIs, DerivesValue, ValueIs, NegativeValueIs, DerivesCells, NoCell, CellIs}
 use Rattle.pipe_model.specs.Words.{word_cell, word_pipe_wait, word_pipe_continue, word_let, word_if, word_while, word_emit, minus, open_round, close_round, semicolon, equals, open_square, close_square, open_brace, close_brace}
 use Rattle.pipe_model.specs.ProgramMachine as machine
 use Rattle.pipe_model.specs.ProgramMachine.{Want, Sign, Word, AnyName, AnyNumber, Natural, StageNumber, Target, Part, Cells, Size, Value, Move, Takes, Enters, Skips, Refuses, move, statement_move, natural_move, State, Outside, Inside, whole, entered, stepped, step, may_end}

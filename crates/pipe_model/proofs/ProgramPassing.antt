@@ -4,7 +4,7 @@ use Rattle.pipe_model.specs.declared.symbol.Symbol.{Symbol}
 use Rattle.pipe_model.specs.declared.symbol.Symbol.TheVariants as symbols
 use Rattle.pipe_model.specs.declared.tree.Declaration.{Declaration}
 use Rattle.pipe_model.specs.SyntaxTree.{Statement, Statements, SyntaxTree}
-use Rattle.pipe_model.specs.WholeReading.{ReadsStatement, ReadsLet, ReadsAssign, ReadsAssignElement, ReadsEmit, ReadsIf, ReadsWhile, ReadsWait, ReadsWaitNext, ReadsContinue, ReadsContinueNext, ReadsStatements, ReadsClose, ReadsOneMore, ReadsBlock, ReadsBraces, ReadsPart, ReadsNoPart, ReadsPartIs, ReadsSize, ReadsNoSize, ReadsSizeIs, ReadsValue, ReadsValueIs, ReadsNegativeValue, ReadsCell, ReadsCellIs, ReadsCells, ReadsNoCell, ReadsCellThen, ReadsProgram, ReadsAll, NoWord, NoSign}
+use Rattle.pipe_model.specs.Reading.{ReadsStatement, ReadsLet, ReadsAssign, ReadsAssignElement, ReadsEmit, ReadsIf, ReadsWhile, ReadsWait, ReadsWaitNext, ReadsContinue, ReadsContinueNext, ReadsStatements, ReadsClose, ReadsOneMore, ReadsBlock, ReadsBraces, ReadsPart, ReadsNoPart, ReadsPartIs, ReadsSize, ReadsNoSize, ReadsSizeIs, ReadsValue, ReadsValueIs, ReadsNegativeValue, ReadsCell, ReadsCellIs, ReadsCells, ReadsNoCell, ReadsCellThen, ReadsProgram, ReadsAll, NoWord, NoSign}
 use Rattle.pipe_model.specs.ProgramMachine as machine
 use Rattle.pipe_model.specs.ProgramMachine.{Want, Sign, Word, Part, Cells, Size, Value, Outside, Accepted, judge, program}
 use Rattle.pipe_model.proofs.FullExpressions.{passes_full, passes_stage_number}

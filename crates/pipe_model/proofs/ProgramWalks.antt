@@ -4,7 +4,7 @@ use Rattle.pipe_model.specs.declared.symbol.Symbol.{Symbol}
 use Rattle.pipe_model.specs.declared.symbol.Symbol.TheVariants as symbols
 use Rattle.pipe_model.specs.declared.tree.Declaration.{Declaration}
 use Rattle.pipe_model.specs.SyntaxTree.{Expression, Statement, Statements, SyntaxTree}
-use Rattle.pipe_model.specs.WholeGrammar.{Derives, Piece, Single, FullExpression, DerivesStatement, LetIs, AssignIs, AssignElementIs, EmitIs, IfIs, WhileIs, WaitIs, WaitNextIs, ContinueIs, ContinueNextIs, DerivesStatements, NoStatement, OneMore, DerivesBlock, BlockIs, DerivesPart, NoPart, PartIs, DerivesSize, NoSize, SizeIs, DerivesValue, ValueIs, NegativeValueIs, DerivesCells, NoCell, CellIs, DerivesProgram, ProgramIs}
+use Rattle.pipe_model.specs.Grammar.{Derives, Piece, Single, FullExpression, DerivesStatement, LetIs, AssignIs, AssignElementIs, EmitIs, IfIs, WhileIs, WaitIs, WaitNextIs, ContinueIs, ContinueNextIs, DerivesStatements, NoStatement, OneMore, DerivesBlock, BlockIs, DerivesPart, NoPart, PartIs, DerivesSize, NoSize, SizeIs, DerivesValue, ValueIs, NegativeValueIs, DerivesCells, NoCell, CellIs, DerivesProgram, ProgramIs}
 use Rattle.pipe_model.specs.Words.{word_pipe_while, open_round, close_round, semicolon, equals, close_brace}
 use Rattle.pipe_model.specs.ProgramMachine as machine
 use Rattle.pipe_model.specs.ProgramMachine.{Want, Sign, Word, AnyName, AnyNumber, StageNumber, Target, Part, Cells, Size, Value, Takes, Skips, move, program}

@@ -4,9 +4,9 @@ use Rattle.pipe_model.specs.declared.node.Kind.TheVariants as kinds
 use Rattle.pipe_model.specs.declared.symbol.Symbol.{Symbol}
 use Rattle.pipe_model.specs.declared.symbol.Symbol.TheVariants as symbols
 use Rattle.pipe_model.specs.SyntaxTree.{Expression, Statement, Let, Assign, AssignElement, Emit, If, While, Stage, Statements, Then}
-use Rattle.pipe_model.specs.WholeGrammar.{Derives, Piece, Single, FullExpression, flat, DerivesStatement, LetIs, AssignIs, AssignElementIs, EmitIs, IfIs, WhileIs, WaitIs, WaitNextIs, ContinueIs, ContinueNextIs, DerivesStatements, NoStatement, OneMore, DerivesBlock, BlockIs, DerivesPart, NoPart, PartIs}
-use Rattle.pipe_model.specs.WholeReading.{Reads, ReadsChain, ReadsFull, ReadsStatement, ReadsLet, ReadsAssign, ReadsAssignElement, ReadsEmit, ReadsIf, ReadsWhile, ReadsWait, ReadsWaitNext, ReadsContinue, ReadsContinueNext, ReadsStatements, ReadsClose, ReadsOneMore, ReadsBlock, ReadsBraces, ReadsPart, ReadsNoPart, ReadsPartIs, NoWord}
-use Rattle.pipe_model.specs.WholeSpelling.{AreShort}
+use Rattle.pipe_model.specs.Grammar.{Derives, Piece, Single, FullExpression, flat, DerivesStatement, LetIs, AssignIs, AssignElementIs, EmitIs, IfIs, WhileIs, WaitIs, WaitNextIs, ContinueIs, ContinueNextIs, DerivesStatements, NoStatement, OneMore, DerivesBlock, BlockIs, DerivesPart, NoPart, PartIs}
+use Rattle.pipe_model.specs.Reading.{Reads, ReadsChain, ReadsFull, ReadsStatement, ReadsLet, ReadsAssign, ReadsAssignElement, ReadsEmit, ReadsIf, ReadsWhile, ReadsWait, ReadsWaitNext, ReadsContinue, ReadsContinueNext, ReadsStatements, ReadsClose, ReadsOneMore, ReadsBlock, ReadsBraces, ReadsPart, ReadsNoPart, ReadsPartIs, NoWord}
+use Rattle.pipe_model.specs.Spelling.{AreShort}
 use Rattle.pipe_model.specs.Words.{word_pipe_wait, word_pipe_continue, word_let, word_if, word_while, word_emit, open_round, close_round, semicolon, equals, open_square, close_square, open_brace, close_brace}
 use Rattle.pipe_model.proofs.ExpressionReading.{sound, found_before_sign, one_reading, SameReading}
 use Rattle.pipe_model.proofs.Pieces.{flat_two, took_two, short_append, short_front, short_back}

@@ -1,5 +1,5 @@
 -- A source has at most one list of tokens, or else at most one fault.
-use Rattle.std.proofs.Common.{◌≡◌, ◌∙◌, ap, sym, subst, ℕ, ◌+◌, ◌<◌, pos, Bool, true, false, not, List, [], ◌∷◌, ◌++◌, length, take, drop, refl, arith, cond, ◌⊎◌, inl, inr, Option, Some, None, All, ◌==◌, ◌&&◌, append-nil, append_assoc, length-append, length-drop, position}
+use Rattle.std.proofs.Common.{◌≡◌, ◌∙◌, ap, sym, subst, ℕ, ◌+◌, ◌-◌, ◌<◌, ◌≤◌, ◌^◌, ◌≤ℤ◌, pos, Bool, true, false, not, List, [], ◌∷◌, ◌++◌, length, take, drop, refl, arith, cond, ◌⊎◌, inl, inr, Option, Some, None, All, ◌==◌, ◌&&◌, append-nil, append_assoc, length-append, length-drop, position}
 use Rattle.std.specs.List.{list_all}
 use Rattle.std.specs.Str.{bytes_eq}
 use Rattle.std.proofs.Math.Seq.{drop-append_seam, take-append_seam}
@@ -11,9 +11,9 @@ use Rattle.std.proofs.lemmas.List.Elements.{All-nil, All-cons, All-drop}
 use Rattle.pipe_model.specs.declared.symbol.Symbol.{Symbol}
 use Rattle.pipe_model.specs.declared.symbol.Symbol.TheVariants as symbols
 use Rattle.pipe_model.specs.declared.token.Token.{Token}
-use Rattle.pipe_model.specs.Lexis.{is_blank, is_letter, is_digit, is_name_byte, is_sign, number_of, operators, operator_or_sign, punctuation_symbol, reserved_words, symbol_of, word_or_name, word_symbol, IsWithinBounds}
+use Rattle.pipe_model.specs.Lexis.{is_blank, is_letter, is_digit, is_name_byte, is_sign, number_of, operators, operator_or_sign, punctuation_symbol, reserved_words, symbol_of, word_or_name, word_symbol}
 use Rattle.pipe_model.specs.Tokens.{begins_comment, is_line_feed, kind_of, symbol_as, symbol_in, text_in, token_at, BeginsNothing, BeginsWith, HasTokens, IsComment, IsLexed, IsReached, IsToken, IsTokenWithinBounds, LexicalFault, StandsIn, BadByte, TooWide, SourceTooLong, NameTooLong, HasFault, IsTooLong, HasBadByte, HasWideNumber, HasLongName, Scans, Stops, Blank, Comment, Taken}
-use Rattle.pipe_model.proofs.Divisions.{GoesOn, one_goes_on, blank_begins_no_symbol, one_longest}
+use Rattle.pipe_model.proofs.LongestSymbols.{GoesOn, one_goes_on, blank_begins_no_symbol, one_longest}
 
 -- ---- the text of a symbol
 
@@ -241,6 +241,14 @@ one_list source tokens others d e = elim (scans_meet d e refl) [
 ]
 
 -- ---- one fault
+
+-- a symbol within its bounds: a name has at most 64 bytes, and a number is an `i64`
+abbrev pub IsWithinBounds : Symbol → Type 0
+IsWithinBounds (symbols.Name text) = length text ≤ 64
+IsWithinBounds (symbols.Word k) = Unit {0}
+IsWithinBounds (symbols.Number n) = n ≤ℤ pos (2 ^ 63 - 1)
+IsWithinBounds (symbols.Operator code) = Unit {0}
+IsWithinBounds (symbols.Sign b) = Unit {0}
 
 -- a token within its bounds is a symbol within its bounds
 pub bounded_symbol : (place : ℕ) (text : List ℕ) (s : Symbol) → symbol_of text ≡ Some s → IsTokenWithinBounds (token_at place text s) → IsWithinBounds s

@@ -11,13 +11,13 @@ use Rattle.pipe_model.specs.declared.symbol.Symbol.TheVariants as symbols
 use Rattle.pipe_model.specs.declared.token.Token.{Token}
 use Rattle.pipe_model.specs.declared.tree.Declaration.{Declaration}
 use Rattle.pipe_model.proofs.CanonicalSymbols.{IsName, IsNumeral, Numeral, IsDeclaredValue, Positive, Negative, IsWritable, IsWritableStatement, AreWritable, IsWritableSize, AreWritableCells, IsWritableProgram}
-use Rattle.pipe_model.specs.Lexis.{is_letter, is_digit, is_name_byte, number_of, reserved_words, operators, is_sign, word_or_name, operator_or_sign, word_symbol, punctuation_symbol, symbol_of, IsWithinBounds}
+use Rattle.pipe_model.specs.Lexis.{is_letter, is_digit, is_name_byte, number_of, reserved_words, operators, is_sign, word_or_name, operator_or_sign, word_symbol, punctuation_symbol, symbol_of}
 use Rattle.pipe_model.specs.SyntaxTree.{Expression, Or, And, Binary, joined_by, Statement, Statements, SyntaxTree}
 use Rattle.pipe_model.specs.Tokens.{Scans, Stops, Blank, Comment, Taken, IsTokenWithinBounds, token_at, symbols_in}
-use Rattle.pipe_model.specs.WholeGrammar as grammar
-use Rattle.pipe_model.specs.WholeGrammar.{level_of, rank_of, Derives, Piece, Single, FullExpression, flat, DerivesStatement, DerivesStatements, DerivesBlock, DerivesPart, DerivesSize, DerivesValue, DerivesCells, DerivesProgram}
+use Rattle.pipe_model.specs.Grammar as grammar
+use Rattle.pipe_model.specs.Grammar.{level_of, rank_of, Derives, Piece, Single, FullExpression, flat, DerivesStatement, DerivesStatements, DerivesBlock, DerivesPart, DerivesSize, DerivesValue, DerivesCells, DerivesProgram}
 use Rattle.pipe_model.proofs.Pieces.{flat_append}
-use Rattle.pipe_model.proofs.TokenLaws.{behind_front, bounded_symbol, name_is_text}
+use Rattle.pipe_model.proofs.TokenLaws.{IsWithinBounds, behind_front, bounded_symbol, name_is_text}
 use Rattle.pipe_model.proofs.Writings.{IsSourceOf, token_is_symbol}
 
 -- ---- symbols

@@ -5,9 +5,9 @@ use Rattle.std.proofs.Math.Seq.{take-append_seam}
 use Rattle.pipe_model.specs.declared.symbol.Symbol.{Symbol}
 use Rattle.pipe_model.specs.declared.symbol.Symbol.TheVariants as symbols
 use Rattle.pipe_model.specs.declared.token.Token.{Token}
-use Rattle.pipe_model.specs.Lexis.{is_blank, symbol_of, IsWithinBounds}
+use Rattle.pipe_model.specs.Lexis.{is_blank, symbol_of}
 use Rattle.pipe_model.specs.Tokens.{Scans, Stops, Blank, Taken, IsToken, IsTokenWithinBounds, IsLexed, token_at, kind_of, symbol_as, symbol_in, symbols_in}
-use Rattle.pipe_model.proofs.TokenLaws.{behind_front, name_is_text, symbol_of_kind}
+use Rattle.pipe_model.proofs.TokenLaws.{IsWithinBounds, behind_front, name_is_text, symbol_of_kind}
 
 -- the tokens of the source are these symbols
 pub record IsSourceOf (source : List ℕ) (found : List Symbol) : Type 0 where

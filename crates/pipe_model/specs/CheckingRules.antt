@@ -1,7 +1,8 @@
 -- The rules that a program obeys beside its grammar, and the first of them that it breaks.
 -- Limits come first, in their order, and then the marks in the order of the text; at one mark the earlier rule of the list counts.
-use Rattle.std.specs.Prelude.{ℕ, ℤ, pos, Bool, true, false, not, ◌||◌, List, [], ◌∷◌, length, Option, Some, None, ◌+◌, ◌==◌, if◌then◌else◌, is_some, nat_lt, nat_le, int_lt}
+use Rattle.std.specs.Prelude.{ℕ, ℤ, pos, Bool, true, false, not, ◌&&◌, ◌||◌, List, [], ◌∷◌, length, Option, Some, None, ◌+◌, ◌==◌, if◌then◌else◌, is_some, nat_lt, nat_le, int_lt}
 use Rattle.std.proofs.Math.IntN.{◌*ℤ◌}
+use Rattle.std.specs.List.{list_any}
 use Rattle.std.specs.Str.{bytes_eq}
 use Rattle.pipe_model.specs.declared.region.Region.{Region}
 use Rattle.pipe_model.specs.declared.region.Region.TheVariants as regions
@@ -9,7 +10,6 @@ use Rattle.pipe_model.specs.declared.tree.Declaration.{Declaration}
 use Rattle.pipe_model.specs.declared.tree.Limits.{Limits}
 use Rattle.pipe_model.specs.Marks.{Scope, Occurrence, DeclaredCell, DeclaredLocal, Plain, Indexed, IterWord, StageWord, Mark, marks_of}
 use Rattle.pipe_model.specs.Programs.{declared_size}
-use Rattle.pipe_model.specs.Rules.{is_between, is_among}
 use Rattle.pipe_model.specs.SyntaxTree.{SyntaxTree}
 
 -- the rules of marks
@@ -53,6 +53,10 @@ abbrev pub cell_meaning : Option (Option ℤ) → Meaning
 cell_meaning None = Nothing
 cell_meaning (Some None) = PlainCell
 cell_meaning (Some (Some n)) = Array
+
+-- the name is one of these
+abbrev pub is_among : List (List ℕ) → List ℕ → Bool
+is_among names x = list_any (λ name. bytes_eq name x) names
 
 -- what the name stands for at a place: a local in scope, or else a cell
 abbrev pub meaning_at : Scope → List ℕ → Meaning
@@ -133,6 +137,10 @@ fault_or None n rest = rest
 abbrev pub first_fault : ℕ → List Mark → Option Fault
 first_fault n [] = None
 first_fault n (mark ∷ marks) = fault_or (broken_at mark) n (first_fault (n + 1) marks)
+
+-- from low to high, both counted in
+abbrev pub is_between : ℤ → ℤ → ℤ → Bool
+is_between low high z = not (int_lt z low) && not (int_lt high z)
 
 -- the first limit that is out of its range: 1 the iterations, 2 the stages, 3 the stage instances, 4 the steps, 5 the emitted numbers
 abbrev pub limit_out : Limits → Option ℕ

@@ -3,7 +3,7 @@
 use Rattle.std.specs.Prelude.{◌≡◌, ℕ, List, [], ◌∷◌, ◌++◌, Bool, true, false, ◌==◌, Option, Some, None, ◌&&◌, ◌||◌, if◌then◌else◌, nat_lt, length}
 use Rattle.pipe_model.specs.declared.symbol.Symbol.{Symbol}
 use Rattle.pipe_model.specs.declared.symbol.Symbol.TheVariants as symbols
-use Rattle.pipe_model.specs.WholeGrammar.{rank_of}
+use Rattle.pipe_model.specs.Grammar.{rank_of}
 
 -- what has to come: this sign, an operand, an index or nothing, or operators that each have an operand or nothing
 pub data Want : Type 0 where

@@ -1,17 +1,13 @@
 -- The first form of the language, as a part of the whole language: its programs have plain cells, `let`, assignment to a name, `emit`
 -- and stages in the body alone, and expressions of numbers and names with `<` and `+`. Brackets and empty blocks leave no trace in a
 -- tree, so the symbols are counted too: the test and each stage have one `(`, and no word `init` or `final` stands among them.
--- A source of the first form has no comment.
-use Rattle.std.specs.Prelude.{◌≡◌, ℕ, ◌+◌, ℤ, Bool, true, false, List, [], ◌∷◌, IsTrue, ◌==◌, ◌||◌, ◌&&◌, Option, Some, None}
+-- Comments leave no symbol, and are free.
+use Rattle.std.specs.Prelude.{◌≡◌, ℕ, ◌+◌, ℤ, Bool, true, false, List, ◌==◌, ◌||◌, ◌&&◌, Option, Some, None}
 use Rattle.std.specs.List.{count_by, list_all}
 use Rattle.pipe_model.specs.declared.symbol.Symbol.{Symbol}
 use Rattle.pipe_model.specs.declared.symbol.Symbol.TheVariants as symbols
 use Rattle.pipe_model.specs.declared.tree.Declaration.{Declaration}
-use Rattle.pipe_model.specs.declared.token.Token.{Token}
-use Rattle.pipe_model.specs.Rules.{program_obeys}
 use Rattle.pipe_model.specs.SyntaxTree.{Expression, Number, Name, Element, And, Or, Binary, Unary, More, Take, Iter, Statement, Let, Assign, AssignElement, Emit, If, While, Stage, NextStage, Statements, Empty, Then, SyntaxTree}
-use Rattle.pipe_model.specs.Tokens.{begins_comment, symbols_in, IsLexed}
-use Rattle.pipe_model.specs.WholeSpelling.{Spells}
 
 -- ---- trees
 
@@ -98,19 +94,3 @@ pub record IsPlain (ts : List Symbol) (tree : SyntaxTree) : Type 0 where
   pub body : are_plain_statements tree.body ≡ true
   pub no_part : count_by begins_part ts ≡ 0
   pub no_bracket : count_by is_open_round ts ≡ 1 + stages_in tree.body
-
--- ---- sources
-
--- two slashes stand somewhere side by side
-abbrev pub has_comment : List ℕ → Bool
-has_comment [] = false
-has_comment (b ∷ bs) = begins_comment (b ∷ bs) || has_comment bs
-
--- the source has tokens and no comment, its symbols spell the program, both are plain, and the program obeys the rules
-pub record IsPlainSource (source : List ℕ) (tree : SyntaxTree) : Type 0 where
-  pub tokens : List Token
-  pub lexed : IsLexed source tokens
-  pub no_comment : has_comment source ≡ false
-  pub spelled : Spells (symbols_in source tokens) tree
-  pub plain : IsPlain (symbols_in source tokens) tree
-  pub obeys : IsTrue (program_obeys tree)

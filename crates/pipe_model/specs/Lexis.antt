@@ -1,5 +1,5 @@
--- Lexical structure: which text is which symbol, and how the bytes of a source divide into symbols, the longest at each place.
-use Rattle.std.specs.Prelude.{◌≡◌, ◌≢◌, ℕ, ◌+◌, ◌-◌, ◌*◌, ◌≤◌, ◌^◌, pos, ◌≤ℤ◌, Bool, true, List, [], ◌∷◌, ◌++◌, length, fold, nat_le, ◌==◌, ◌&&◌, ◌||◌, Option, Some, None, if◌then◌else◌, position, codes}
+-- Lexical structure: which text is which symbol, and which symbol is the longest at a place of a source.
+use Rattle.std.specs.Prelude.{◌≡◌, ◌≢◌, ℕ, ◌+◌, ◌-◌, ◌*◌, pos, Bool, List, [], ◌∷◌, ◌++◌, fold, nat_le, ◌==◌, ◌&&◌, ◌||◌, Option, Some, None, if◌then◌else◌, position, codes}
 use Rattle.std.specs.List.{list_all, list_any}
 use Rattle.std.specs.Str.{bytes_eq}
 use Rattle.pipe_model.specs.declared.symbol.Symbol.{Symbol}
@@ -71,18 +71,3 @@ symbol_of (b ∷ bs) =
 -- no longer front of what stands here is the text of a symbol
 pub record IsLongest (text rest : List ℕ) : Type 0 where
   pub longest : (more after : List ℕ) (s : Symbol) → rest ≡ more ++ after → more ≢ [] → symbol_of (text ++ more) ≡ Some s → ⊥
-
--- the bytes divide into the symbols, each the longest at its place, with blanks between them
-pub data Divides : List ℕ → List Symbol → Type 0 where
-  AtEnd : Divides [] []
-  Blank : {bytes : List ℕ} {found : List Symbol} (b : ℕ) → is_blank b ≡ true → Divides bytes found → Divides (b ∷ bytes) found
-  Taken : {rest : List ℕ} {found : List Symbol} (text : List ℕ) (s : Symbol) → symbol_of text ≡ Some s → IsLongest text rest → Divides rest found
-      → Divides (text ++ rest) (s ∷ found)
-
--- a name has at most 64 bytes, and a number is an `i64`
-abbrev pub IsWithinBounds : Symbol → Type 0
-IsWithinBounds (symbols.Name text) = length text ≤ 64
-IsWithinBounds (symbols.Word k) = Unit {0}
-IsWithinBounds (symbols.Number n) = n ≤ℤ pos (2 ^ 63 - 1)
-IsWithinBounds (symbols.Operator code) = Unit {0}
-IsWithinBounds (symbols.Sign b) = Unit {0}

@@ -1,5 +1,5 @@
 -- The places of marks: of the tokens that the rules of programs speak of, which are the names and the words `iter`, `pipe_wait` and `pipe_continue`.
-use Rattle.std.specs.Prelude.{ℕ, ℤ, pos, List, [], ◌∷◌, Bool, true, false, ◌==◌, ◌||◌, if◌then◌else◌}
+use Rattle.std.specs.Prelude.{ℤ, pos, List, [], ◌∷◌, Bool, true, false, ◌==◌, ◌||◌, if◌then◌else◌}
 use Rattle.pipe_model.specs.declared.token.Token.{Token}
 use Rattle.pipe_model.specs.declared.token.TokenKind.{TokenKind}
 use Rattle.pipe_model.specs.declared.token.TokenKind.TheVariants as kinds

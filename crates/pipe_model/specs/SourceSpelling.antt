@@ -3,7 +3,7 @@ use Rattle.std.specs.Prelude.{ℕ, List}
 use Rattle.pipe_model.specs.declared.token.Token.{Token}
 use Rattle.pipe_model.specs.SyntaxTree.{SyntaxTree}
 use Rattle.pipe_model.specs.Tokens.{IsLexed, symbols_in}
-use Rattle.pipe_model.specs.WholeSpelling.{Spells}
+use Rattle.pipe_model.specs.Spelling.{Spells}
 
 -- the source spells the program
 pub record SourceSpells (source : List ℕ) (tree : SyntaxTree) : Type 0 where

@@ -11,6 +11,10 @@ use Rattle.pipe_model.specs.declared.trap.Trap.TheVariants as traps
 use Rattle.pipe_model.specs.declared.trap.TrapAt.{TrapAt}
 use Rattle.pipe_model.specs.declared.trap.TrapPlace.{TrapPlace}
 use Rattle.pipe_model.specs.declared.trap.TrapPlace.TheVariants as places
+use Rattle.pipe_model.specs.CheckingRules as checking
+use Rattle.pipe_model.specs.SourceRefusals.{Refusal, Lexical, Syntactic, LimitOut, RuleBroken}
+use Rattle.pipe_model.specs.Spelling as grammar
+use Rattle.pipe_model.specs.Tokens.{LexicalFault, BadByte, TooWide, SourceTooLong, NameTooLong}
 
 -- one line for each emitted number
 abbrev pub output_lines : List ℤ → List ℕ
@@ -66,9 +70,44 @@ refused_usage = codes "refused usage\n"
 abbrev pub refused_missing : List ℕ → List ℕ
 refused_missing name = codes "refused missing " ++ (name ++ codes "\n")
 
--- the source is not of the first form
-abbrev pub refused_source : List ℕ
-refused_source = codes "refused source NotYetBuilt\n"
+-- a line that ends in a number
+abbrev pub numbered_line : List ℕ → ℕ → List ℕ
+numbered_line before n = before ++ (decimal n ++ codes "\n")
+
+-- the line for what is wrong in the text of a source
+abbrev pub lexical_line : LexicalFault → List ℕ
+lexical_line (BadByte place) = numbered_line (codes "refused source BadByte at ") place
+lexical_line (TooWide place) = numbered_line (codes "refused source TooWide at ") place
+lexical_line SourceTooLong = codes "refused source SourceTooLong\n"
+lexical_line (NameTooLong place) = numbered_line (codes "refused source NameTooLong at ") place
+
+-- the line for a token that breaks a rule of the grammar
+abbrev pub syntax_line : grammar.Rule → ℕ → List ℕ
+syntax_line grammar.Expected place = numbered_line (codes "refused source Unexpected at ") place
+syntax_line grammar.Shallow place = numbered_line (codes "refused source TooDeep at ") place
+syntax_line grammar.Short place = numbered_line (codes "refused source TooLong at ") place
+
+-- the line for a mark that breaks a rule of programs
+abbrev pub rule_line : checking.Rule → ℕ → List ℕ
+rule_line checking.Unknown place = numbered_line (codes "refused check Unknown at ") place
+rule_line checking.Twice place = numbered_line (codes "refused check Twice at ") place
+rule_line checking.PipeOutside place = numbered_line (codes "refused check PipeOutside at ") place
+rule_line checking.TooManyCells place = numbered_line (codes "refused check TooManyCells at ") place
+rule_line checking.TooManyLocals place = numbered_line (codes "refused check TooManyLocals at ") place
+rule_line checking.NotAnArray place = numbered_line (codes "refused check NotAnArray at ") place
+rule_line checking.NeedsIndex place = numbered_line (codes "refused check NeedsIndex at ") place
+rule_line checking.ZeroSize place = numbered_line (codes "refused check ZeroSize at ") place
+
+-- the line that refuses a source
+abbrev pub refusal_line : Refusal → List ℕ
+refusal_line (Lexical fault) = lexical_line fault
+refusal_line (Syntactic rule place) = syntax_line rule place
+refusal_line (LimitOut which) = numbered_line (codes "refused check LimitOut ") which
+refusal_line (RuleBroken rule place) = rule_line rule place
+
+-- the program is accepted, and not of the first form
+abbrev pub refused_program : List ℕ
+refused_program = codes "refused source NotYetBuilt\n"
 
 -- the input is not empty
 abbrev pub refused_input : List ℕ

@@ -6,7 +6,7 @@ use Rattle.pipe_model.specs.declared.symbol.Symbol.{Symbol}
 use Rattle.pipe_model.specs.declared.token.TokenKind.{TokenKind}
 use Rattle.pipe_model.specs.declared.token.TokenKind.TheVariants as kinds
 use Rattle.pipe_model.specs.Tokens.{symbol_as}
-use Rattle.pipe_model.specs.WholeSpelling.{is_opening, is_closing, IsShallow}
+use Rattle.pipe_model.specs.Spelling.{is_opening, is_closing, IsShallow}
 use Rattle.pipe_model.proofs.OpenBrackets.{count_one_more, shallow_more, no_symbols_shallow}
 use Rattle.pipe_parser.specs.Depths.{OpensTooMany}
 

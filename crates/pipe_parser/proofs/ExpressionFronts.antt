@@ -3,8 +3,8 @@ use Rattle.std.proofs.Common.{◌≡◌, ℕ, ℤ, suc, List, [], ◌∷◌, ◌
 use Rattle.pipe_model.specs.declared.symbol.Symbol.{Symbol}
 use Rattle.pipe_model.specs.declared.symbol.Symbol.TheVariants as symbols
 use Rattle.pipe_model.specs.SyntaxTree.{Expression, Number, Name, Element, More, Take, Iter, joined_by}
-use Rattle.pipe_model.specs.WholeGrammar.{rank_of}
-use Rattle.pipe_model.specs.WholeReading.{Reads, ReadsNumeral, ReadsName, ReadsElement, ReadsMore, ReadsTake, ReadsIter, ReadsNegative, ReadsNot, ReadsBracketed, Extends, Joins, NoSign}
+use Rattle.pipe_model.specs.Grammar.{rank_of}
+use Rattle.pipe_model.specs.Reading.{Reads, ReadsNumeral, ReadsName, ReadsElement, ReadsMore, ReadsTake, ReadsIter, ReadsNegative, ReadsNot, ReadsBracketed, Extends, Joins, NoSign}
 use Rattle.pipe_model.specs.ExpressionMachine.{Want, Sign, Tail, ending}
 use Rattle.pipe_model.proofs.ExpressionPassing.{passes, passes_expression, tail_joins, is_op}
 use Rattle.pipe_parser.specs.declared.fault.ExpressionFault.{ExpressionFault}

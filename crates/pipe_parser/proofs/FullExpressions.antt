@@ -7,7 +7,7 @@ use Rattle.pipe_model.specs.ExpressionMachine as expression
 use Rattle.pipe_model.specs.ProgramMachine as machine
 use Rattle.pipe_model.specs.ProgramMachine.{IsRefused, Outside, judge}
 use Rattle.pipe_model.specs.SyntaxTree.{Expression}
-use Rattle.pipe_model.specs.WholeReading.{Reads, ReadsFull}
+use Rattle.pipe_model.specs.Reading.{Reads, ReadsFull}
 use Rattle.pipe_model.proofs.ExpressionReading.{sound}
 use Rattle.pipe_model.proofs.ExpressionRuns.{stopped, stuck_may_not_end}
 use Rattle.pipe_model.proofs.ExpressionWindows.{reads_more, stuck_more}

@@ -1,17 +1,4 @@
-pub mod FirstPlace
-pub mod Numerals
-pub mod Longest
-pub mod CutLaws
-pub mod Cutting
-pub mod Fronts
 pub mod Results
-pub mod Expressions
-pub mod Windows
-pub mod Statements
-pub mod Blocks
-pub mod Programs
-pub mod NameSets
-pub mod Obeying
 pub mod ExpressionFronts
 pub mod FullExpressions
 pub mod StatementFronts
@@ -19,4 +6,3 @@ pub mod ProgramFronts
 pub mod Depths
 pub mod Parses
 pub mod EachProgram
-pub mod FirstForms

@@ -4,13 +4,13 @@ use Rattle.std.proofs.Math.Seq.{take-append_seam}
 use Rattle.pipe_model.specs.declared.symbol.Symbol.{Symbol}
 use Rattle.pipe_model.specs.ProgramMachine.{Outside, Verdict, Accepted, Unexpected, TooLong, judge, program}
 use Rattle.pipe_model.specs.SyntaxTree.{SyntaxTree}
-use Rattle.pipe_model.specs.WholeReading.{ReadsProgram}
-use Rattle.pipe_model.specs.WholeSpelling.{Spells, IsShallow, FirstFault, Rule, Expected, Shallow, Short}
+use Rattle.pipe_model.specs.Reading.{ReadsProgram}
+use Rattle.pipe_model.specs.Spelling.{Spells, IsShallow, FirstFault, Rule, Expected, Shallow, Short}
 use Rattle.pipe_model.proofs.FaultRules.{IsShallowBefore, ComesToLast, first_unexpected, first_unexpected_end, first_too_long, first_too_deep}
 use Rattle.pipe_model.proofs.FirstFaults.{is_unexpected, is_too_long}
 use Rattle.pipe_model.proofs.OpenBrackets.{shallow_before_one, shallow_is_before}
 use Rattle.pipe_model.proofs.ProgramPassing.{accepts_program}
-use Rattle.pipe_model.proofs.WholeProgramReading.{sound_program}
+use Rattle.pipe_model.proofs.ProgramReading.{sound_program}
 use Rattle.pipe_parser.specs.Depths.{OpensTooMany}
 
 -- a program that was read of shallow symbols is spelled

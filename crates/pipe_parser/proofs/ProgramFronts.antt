@@ -9,8 +9,8 @@ use Rattle.pipe_model.specs.declared.tree.Limits.{Limits}
 use Rattle.pipe_model.specs.ProgramMachine as machine
 use Rattle.pipe_model.specs.ProgramMachine.{Want, Sign, Word, AnyName, AnyNumber, FullExpression, Part, Cells, Size, Value, Natural, Outside, judge, program, IsRefused}
 use Rattle.pipe_model.specs.SyntaxTree.{Expression, Statements}
-use Rattle.pipe_model.specs.WholeGrammar.{flat, limits_before, declaration}
-use Rattle.pipe_model.specs.WholeReading.{ReadsBlock, ReadsPart, ReadsSize, ReadsNoSize, ReadsSizeIs, ReadsValue, ReadsValueIs, ReadsNegativeValue, ReadsCell, ReadsCellIs, ReadsCells, ReadsNoCell, ReadsCellThen, ReadsProgram, ReadsAll, NoSign, NoWord}
+use Rattle.pipe_model.specs.Grammar.{flat, limits_before, declaration}
+use Rattle.pipe_model.specs.Reading.{ReadsBlock, ReadsPart, ReadsSize, ReadsNoSize, ReadsSizeIs, ReadsValue, ReadsValueIs, ReadsNegativeValue, ReadsCell, ReadsCellIs, ReadsCells, ReadsNoCell, ReadsCellThen, ReadsProgram, ReadsAll, NoSign, NoWord}
 use Rattle.pipe_model.proofs.ProgramPassing.{passes_cells, passes_part, passes_block, passes_cell, passes_size, passes_value}
 use Rattle.pipe_parser.specs.declared.fault.SyntaxFault.{SyntaxFault}
 use Rattle.pipe_parser.specs.declared.fault.SyntaxFault.TheVariants as faults

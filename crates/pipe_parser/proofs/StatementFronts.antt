@@ -8,7 +8,7 @@ use Rattle.pipe_model.specs.declared.tree.Stmt.{Stmt}
 use Rattle.pipe_model.specs.ProgramMachine as machine
 use Rattle.pipe_model.specs.ProgramMachine.{Want, Sign, FullExpression, Part, Outside, judge}
 use Rattle.pipe_model.specs.SyntaxTree.{Expression, Statements, Empty, Then, Let, Assign, AssignElement, Emit, If, While, statement_of, statements_of, stage_statement}
-use Rattle.pipe_model.specs.WholeReading.{ReadsFull, ReadsStatement, ReadsLet, ReadsAssign, ReadsAssignElement, ReadsEmit, ReadsIf, ReadsWhile, ReadsWait, ReadsWaitNext, ReadsContinue, ReadsContinueNext, ReadsStatements, ReadsClose, ReadsBlock, ReadsBraces, ReadsPart, ReadsNoPart, ReadsPartIs, NoSign, NoWord}
+use Rattle.pipe_model.specs.Reading.{ReadsFull, ReadsStatement, ReadsLet, ReadsAssign, ReadsAssignElement, ReadsEmit, ReadsIf, ReadsWhile, ReadsWait, ReadsWaitNext, ReadsContinue, ReadsContinueNext, ReadsStatements, ReadsClose, ReadsBlock, ReadsBraces, ReadsPart, ReadsNoPart, ReadsPartIs, NoSign, NoWord}
 use Rattle.pipe_model.proofs.FullExpressions.{passes_full, stage_number, passes_stage_number}
 use Rattle.pipe_model.proofs.ProgramPassing.{passes_block}
 use Rattle.pipe_parser.specs.declared.fault.SyntaxFault.{SyntaxFault}

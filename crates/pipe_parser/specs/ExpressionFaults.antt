@@ -3,7 +3,7 @@ use Rattle.std.specs.Prelude.{◌≡◌, ℕ, List, [], ◌∷◌}
 use Rattle.pipe_model.specs.declared.symbol.Symbol.{Symbol}
 use Rattle.pipe_model.specs.ExpressionMachine.{Want, Sign, Operand, Tail, IsStuck}
 use Rattle.pipe_model.specs.SyntaxTree.{Expression, Unary}
-use Rattle.pipe_model.specs.WholeReading.{Reads}
+use Rattle.pipe_model.specs.Reading.{Reads}
 use Rattle.pipe_parser.specs.declared.fault.ExpressionFault.{ExpressionFault}
 use Rattle.pipe_parser.specs.declared.fault.ExpressionFault.TheVariants as faults
 

@@ -2,7 +2,7 @@
 use Rattle.std.specs.Prelude.{ℕ, List, ◌⊎◌}
 use Rattle.pipe_model.specs.declared.symbol.Symbol.{Symbol}
 use Rattle.pipe_model.specs.SyntaxTree.{SyntaxTree}
-use Rattle.pipe_model.specs.WholeSpelling.{Spells, FirstFault, Rule}
+use Rattle.pipe_model.specs.Spelling.{Spells, FirstFault, Rule}
 
 -- the symbols spell a program, or a first one of them breaks a rule
 abbrev pub IsProgramOrFault : List Symbol → Type 0

@@ -1,11 +1,3 @@
-pub mod Cuts
-pub mod FirstForms
-pub mod FixedTexts
-pub mod Fronts
-pub mod Nothing
-pub mod Programs
-pub mod SameNames
-pub mod Stages
 pub mod ExpressionFaults
 pub mod SyntaxFaults
 pub mod StatementReadings

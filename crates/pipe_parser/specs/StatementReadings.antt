@@ -4,7 +4,7 @@ use Rattle.pipe_model.specs.declared.symbol.Symbol.{Symbol}
 use Rattle.pipe_model.specs.declared.tree.Expr.{Expr}
 use Rattle.pipe_model.specs.ProgramMachine.{Want, Sign, AnyName, FullExpression, StageNumber, Statements, Part}
 use Rattle.pipe_model.specs.SyntaxTree.{Expression, expression_of}
-use Rattle.pipe_model.specs.WholeReading.{ReadsFull}
+use Rattle.pipe_model.specs.Reading.{ReadsFull}
 use Rattle.pipe_model.specs.Words.{open_round, close_round, semicolon}
 
 -- what a test, an assignment and parts of other statements are

@@ -2,7 +2,7 @@
 
 ghost use Rattle.std.specs.Prelude.{◌≡◌, IfNone, IfSome, List, cond, ℕ};
 ghost use Rattle.pipe_model.specs.Tokens.{symbol_as};
-ghost use Rattle.pipe_model.specs.WholeSpelling.{is_opening, is_closing, IsShallow};
+ghost use Rattle.pipe_model.specs.Spelling.{is_opening, is_closing, IsShallow};
 ghost use Rattle.pipe_parser.specs.Depths.{OpensTooMany};
 
 use crate::symbols::Symbols;

@@ -2,11 +2,12 @@
 
 ghost use Rattle.std.specs.Prelude.{◌≡◌, ◌<◌, IfErr, IfOk, length};
 ghost use Rattle.pipe_model.specs.MarkPlaces.{is_mark, mark_places};
+ghost use Rattle.pipe_model.specs.SourceRefusals.{fault_place};
 ghost use Rattle.pipe_model.specs.SyntaxTree.{tree_of};
 ghost use Rattle.pipe_model.specs.Tokens.{IsLexed, symbols_in};
-ghost use Rattle.pipe_model.specs.WholeSpelling.{IsShallow, Spells};
+ghost use Rattle.pipe_model.specs.Spelling.{IsShallow, Spells};
 ghost use Rattle.pipe_parser.specs.Depths.{OpensTooMany};
-ghost use Rattle.pipe_parser.specs.Parses.{IsRefusal, IsFault, fault_place, IsFaultAt};
+ghost use Rattle.pipe_parser.specs.Parses.{IsRefusal, IsFault, IsFaultAt};
 ghost use Rattle.pipe_parser.specs.declared.parse.ParseFault.TheVariants as faults;
 
 use crate::depth::first_too_deep;

@@ -4,8 +4,8 @@ ghost use Rattle.std.specs.Prelude.{◌≡◌, ◌∷◌, [], ◌<◌, ◌≤◌
 ghost use Rattle.pipe_model.specs.declared.symbol.Symbol.TheVariants as terminals;
 ghost use Rattle.pipe_model.specs.ExpressionMachine.{Sign, Operand, Index, Tail};
 ghost use Rattle.pipe_model.specs.SyntaxTree.{expression_of};
-ghost use Rattle.pipe_model.specs.WholeGrammar.{rank_of};
-ghost use Rattle.pipe_model.specs.WholeReading.{Reads, Extends, next_rank};
+ghost use Rattle.pipe_model.specs.Grammar.{rank_of};
+ghost use Rattle.pipe_model.specs.Reading.{Reads, Extends, next_rank};
 ghost use Rattle.pipe_parser.specs.ExpressionFaults.{Stops, whole, closed, ReadsUnary};
 
 use crate::fault::ExpressionFault;

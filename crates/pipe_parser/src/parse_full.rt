@@ -3,7 +3,7 @@
 ghost use Rattle.std.specs.Prelude.{◌<◌, [], ◌∷◌, IfOk, IfErr, length};
 ghost use Rattle.pipe_model.specs.ProgramMachine as machine;
 ghost use Rattle.pipe_model.specs.SyntaxTree.{expression_of};
-ghost use Rattle.pipe_model.specs.WholeReading.{ReadsFull};
+ghost use Rattle.pipe_model.specs.Reading.{ReadsFull};
 ghost use Rattle.pipe_parser.specs.SyntaxFaults.{Stops};
 
 use crate::fault::{ExpressionFault, SyntaxFault};

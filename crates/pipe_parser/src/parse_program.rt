@@ -3,7 +3,7 @@
 ghost use Rattle.std.specs.Prelude.{◌≡◌, ◌<◌, [], ◌∷◌, IfOk, IfErr, length};
 ghost use Rattle.pipe_model.specs.ProgramMachine.{Sign, Word, AnyNumber, Cells, Size, Value};
 ghost use Rattle.pipe_model.specs.SyntaxTree.{expression_of, statements_of, tree_of};
-ghost use Rattle.pipe_model.specs.WholeReading.{ReadsSize, ReadsValue, ReadsCell, ReadsCells, ReadsProgram};
+ghost use Rattle.pipe_model.specs.Reading.{ReadsSize, ReadsValue, ReadsCell, ReadsCells, ReadsProgram};
 ghost use Rattle.pipe_model.specs.declared.symbol.Symbol.TheVariants as terminals;
 ghost use Rattle.pipe_parser.specs.ProgramReadings.{limit, limits, cell, loop, HasLimits, ReadsLoop};
 ghost use Rattle.pipe_parser.specs.SyntaxFaults.{Stops, Refuses};

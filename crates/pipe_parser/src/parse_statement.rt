@@ -4,7 +4,7 @@ ghost use Rattle.std.specs.Prelude.{◌≡◌, ◌<◌, ◌≤◌, [], ◌∷◌
 ghost use Rattle.pipe_model.specs.ProgramMachine as machine;
 ghost use Rattle.pipe_model.specs.ProgramMachine.{Sign, FullExpression, Target, Part};
 ghost use Rattle.pipe_model.specs.SyntaxTree.{expression_of, statement_of, statements_of};
-ghost use Rattle.pipe_model.specs.WholeReading.{ReadsFull, ReadsStatement, ReadsBlock, ReadsPart, NoSign};
+ghost use Rattle.pipe_model.specs.Reading.{ReadsFull, ReadsStatement, ReadsBlock, ReadsPart, NoSign};
 ghost use Rattle.pipe_model.specs.Words.{word_let, word_emit, word_if, word_while};
 ghost use Rattle.pipe_model.specs.declared.symbol.Symbol.TheVariants as terminals;
 ghost use Rattle.pipe_parser.specs.StatementReadings.{test, binding, element, stage, block, repetition, choice, ReadsTest, ReadsStage};

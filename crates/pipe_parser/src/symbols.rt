@@ -2,7 +2,7 @@
 
 ghost use Rattle.std.specs.Prelude.{◌≡◌, ◌∷◌, [], IfSome, IfNone, drop, length, take};
 ghost use Rattle.pipe_model.specs.Tokens.{symbol_as, symbols_in, text_in};
-ghost use Rattle.pipe_model.specs.WholeReading.{NoSign, NoWord};
+ghost use Rattle.pipe_model.specs.Reading.{NoSign, NoWord};
 ghost use Rattle.pipe_model.specs.declared.symbol.Symbol.TheVariants.{Name, Number, Operator, Sign, Word};
 ghost use Rattle.pipe_parser.specs.SymbolFronts.{NoName, NoNumber, NoOperator};
 

@@ -2,7 +2,7 @@ use Rattle.std.proofs.Common.{length, ◌+◌, ◌*◌, ◌≤◌, ◌≡◌, Li
 use Rattle.pipe_model.specs.declared.symbol.Symbol.{Symbol}
 use Rattle.pipe_model.specs.ExpressionMachine.{Want, Tail, ending}
 use Rattle.pipe_model.specs.SyntaxTree.{Expression, expression_of}
-use Rattle.pipe_model.specs.WholeReading.{Extends}
+use Rattle.pipe_model.specs.Reading.{Extends}
 use Rattle.pipe_parser.proofs.parse_expression.+expression.Given as goal
 
 abbrev pub decreases-extend : goal.decreases-extend

@@ -1,7 +1,7 @@
 use Rattle.std.proofs.Common.{rules, ◌≡◌, ◌∙◌, [], ◌∷◌, ◌++◌, arith}
 use Rattle.std.proofs.lemmas.Result.{err_from_is_err_and}
 use Rattle.pipe_model.specs.declared.symbol.Symbol.TheVariants as terminals
-use Rattle.pipe_model.specs.WholeReading.{ReadsOneMore}
+use Rattle.pipe_model.specs.Reading.{ReadsOneMore}
 use Rattle.pipe_model.proofs.NestedBlocks.{if_seen, while_seen}
 use Rattle.pipe_model.proofs.ProgramPassing.{passes_statement}
 use Rattle.pipe_parser.proofs.Results.{if_ok}

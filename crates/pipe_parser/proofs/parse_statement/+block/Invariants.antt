@@ -3,7 +3,7 @@ use Rattle.pipe_model.specs.declared.symbol.Symbol.{Symbol}
 use Rattle.pipe_model.specs.ProgramMachine as machine
 use Rattle.pipe_model.specs.ProgramMachine.{Want, Outside, judge}
 use Rattle.pipe_model.specs.SyntaxTree.{Statements}
-use Rattle.pipe_model.specs.WholeReading.{ReadsStatements}
+use Rattle.pipe_model.specs.Reading.{ReadsStatements}
 use Rattle.pipe_parser.proofs.StatementFronts.{before}
 use Rattle.pipe_parser.proofs.parse_statement.+block.Given as goal
 

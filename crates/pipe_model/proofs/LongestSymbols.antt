@@ -1,8 +1,8 @@
--- The bytes of a source divide into symbols in one way.
+-- At a place of a source one symbol is the longest.
 use Rattle.std.proofs.Common.{◌≡◌, ◌∙◌, ap, sym, ℕ, true, List, [], ◌∷◌, ◌++◌, refl, arith, ◌⊎◌, inl, inr, Some, None, append-nil}
 use Rattle.std.proofs.lemmas.Bool.Decides.{nat_tests}
 use Rattle.pipe_model.specs.declared.symbol.Symbol.{Symbol}
-use Rattle.pipe_model.specs.Lexis.{is_blank, symbol_of, IsLongest, Divides, AtEnd, Blank, Taken}
+use Rattle.pipe_model.specs.Lexis.{is_blank, symbol_of, IsLongest}
 
 -- of two fronts of one list, the longer goes on from the shorter
 pub record GoesOn (short long after_short after_long : List ℕ) : Type 0 where
@@ -57,19 +57,3 @@ one_longest x y u v s s' l l' t t' h = elim (one_goes_on x y u v h) [
   | inl r ↦ not_longer x y u v s' l r t'
   | inr r ↦ (let p = not_longer y x v u s l' r t in (sym p.0, sym p.1))
 ]
-
--- the same bytes divide into the same symbols
-pub one_division : {a b : List ℕ} {ts us : List Symbol} → Divides a ts → Divides b us → a ≡ b → ts ≡ us
-one_division AtEnd AtEnd h = refl
-one_division AtEnd (Blank b g d) h = cc (h)
-one_division AtEnd (Taken [] s t l d) h = cc (t)
-one_division AtEnd (Taken (c ∷ text) s t l d) h = cc (h)
-one_division (Blank b g d) AtEnd h = cc (h)
-one_division (Blank b g d) (Blank b' g' d') h = one_division d d' (cc (h))
-one_division (Blank b g d) (Taken [] s t l d') h = cc (t)
-one_division (Blank b g d) (Taken (c ∷ text) s t l d') h = absurd (let same : c ≡ b = cc (h) in blank_begins_no_symbol c text s (ap is_blank same ∙ g) t)
-one_division (Taken [] s t l d) e h = cc (t)
-one_division (Taken (c ∷ text) s t l d) AtEnd h = cc (h)
-one_division (Taken (c ∷ text) s t l d) (Blank b g d') h = absurd (let same : c ≡ b = cc (h) in blank_begins_no_symbol c text s (ap is_blank same ∙ g) t)
-one_division (Taken {rest} {found = ts} (c ∷ text) s t l d) (Taken {rest = rest'} {found = us} text' s' t' l' d') h =
-    let p = one_longest (c ∷ text) text' rest rest' s s' l l' t t' h in cc (ap symbol_of p.0, t, t', one_division d d' p.1)

@@ -1,9 +1,0 @@
-use Rattle.std.proofs.Common.{◌≡◌, ◌<◌, ◌^◌, take}
-use Rattle.pipe_model.specs.Lexis.{number_of}
-use Rattle.pipe_parser.proofs.lexis.number_value.Given as goal
-
-abbrev pub invariant-loop-digit : goal.invariant-loop-digit
-invariant-loop-digit l = record {
-  so_far : l.value ≡ number_of (take l.digit-index l.digits);
-  fits : l.value < 2 ^ 63;
-}
