@@ -6,7 +6,8 @@ use Rattle.pipe_model.specs.SyntaxTree.{SyntaxTree}
 use Rattle.cilkp_program.specs.Answers.{IsAnswer, OfRow, SourceFault, InputFault}
 use Rattle.cilkp_program.specs.Faults.{Rose}
 use Rattle.cilkp_program.specs.Reads.{Content}
-use Rattle.cilkp_program.specs.Rows.{Held, Outcome, Races, Finishes, Traps, Row, NoCommand, SourceRefused, InputRefused, Runs, log_of}
+use Rattle.cilkp_program.specs.Rows.{Held, Outcome, Races, Finishes, Traps, IsFormat, Row, NoCommand, SourceRefused, Formats, NotBuilt, InputRefused, Runs, log_of}
+use Rattle.cilkp_program.proofs.OneRow.{run_is_no_format}
 
 -- the status of a run
 pub outcome_status : {tree : SyntaxTree} {status : ℕ} {text : List ℕ} {reports : List Report} → Outcome tree status text reports
@@ -15,31 +16,36 @@ outcome_status (Races reports some first) = inr (inl refl)
 outcome_status (Finishes free ends) = inl refl
 outcome_status (Traps t free ends) = inr (inr refl)
 
--- the log is missing exactly where the status is that of a refusal or a fault of reading
-abbrev IsLogged : ℕ → Option RunLog → Type 0
-IsLogged status log = (log ≡ None) ↔ ((status ≡ 1) ⊎ (status ≡ 4))
+-- the log is missing exactly where the status is that of a refusal or a fault of reading, or the words are that of a format
+abbrev IsLogged : List (List ℕ) → ℕ → Option RunLog → Type 0
+IsLogged words status log = (log ≡ None) ↔ ((status ≡ 1) ⊎ ((status ≡ 4) ⊎ IsFormat words))
 
 -- what the status of an answer tells
-record TellsStatus (before now status : ℕ) (log : Option RunLog) : Type 0 where
+record TellsStatus (words : List (List ℕ)) (before now status : ℕ) (log : Option RunLog) : Type 0 where
   small : status ≤ 4
   fault : status ≡ 4 → Rose before now
-  logged : IsLogged status log
+  logged : IsLogged words status log
 
--- a status without a run
-without_run : (before now status : ℕ) → (status ≡ 1) ⊎ (status ≡ 4) → (status ≡ 4 → Rose before now) → TellsStatus before now status None
-without_run before now status is fault = record { small = small is; fault = fault; logged = (λ e. is, λ e. refl) }
-  where
-    small : {status : ℕ} → (status ≡ 1) ⊎ (status ≡ 4) → status ≤ 4
-    small (inl one) = omega (arith, one)
-    small (inr four) = omega (arith, four)
+-- a refusal
+refusal : {words : List (List ℕ)} {before now : ℕ} → TellsStatus words before now 1 None
+refusal = record { small = omega arith; fault = λ e. absurd (omega (arith, e)); logged = (λ e. inl refl, λ e. refl) }
 
--- the status of a run
-with_run : (before now status : ℕ) (log : RunLog) → (status ≡ 0) ⊎ ((status ≡ 2) ⊎ (status ≡ 3)) → TellsStatus before now status (Some log)
-with_run before now status log is =
+-- a fault of reading
+read_fault : {words : List (List ℕ)} {before now : ℕ} → Rose before now → TellsStatus words before now 4 None
+read_fault rose = record { small = omega arith; fault = λ e. rose; logged = (λ e. inr (inl refl), λ e. refl) }
+
+-- a text that is printed
+printed : {words : List (List ℕ)} {before now : ℕ} → IsFormat words → TellsStatus words before now 0 None
+printed format = record { small = omega arith; fault = λ e. absurd (omega (arith, e)); logged = (λ e. inr (inr format), λ e. refl) }
+
+-- a run
+with_run : {words : List (List ℕ)} {before now status : ℕ} (log : RunLog) → (IsFormat words → ⊥) → (status ≡ 0) ⊎ ((status ≡ 2) ⊎ (status ≡ 3))
+    → TellsStatus words before now status (Some log)
+with_run {words} {before} {now} {status} log run is =
     let some : (Some log ≡ None) → ⊥ = λ e. cc (e) in
     record {
       small = small is;
-      fault = λ four. absurd (other is (inr four));
+      fault = λ four. absurd (other is (inr (inl four)));
       logged = ((λ e. absurd (some e)), λ e. absurd (other is e));
     }
   where
@@ -48,28 +54,31 @@ with_run before now status log is =
     small (inr (inl b)) = omega (arith, b)
     small (inr (inr c)) = omega (arith, c)
 
-    other : {status : ℕ} → (status ≡ 0) ⊎ ((status ≡ 2) ⊎ (status ≡ 3)) → (status ≡ 1) ⊎ (status ≡ 4) → ⊥
+    other : {status : ℕ} → (status ≡ 0) ⊎ ((status ≡ 2) ⊎ (status ≡ 3)) → (status ≡ 1) ⊎ ((status ≡ 4) ⊎ IsFormat words) → ⊥
+    other is (inr (inr format)) = run format
     other (inl a) (inl d) = absurd (omega (arith, a, d))
-    other (inl a) (inr d) = absurd (omega (arith, a, d))
+    other (inl a) (inr (inl d)) = absurd (omega (arith, a, d))
     other (inr (inl b)) (inl d) = absurd (omega (arith, b, d))
-    other (inr (inl b)) (inr d) = absurd (omega (arith, b, d))
+    other (inr (inl b)) (inr (inl d)) = absurd (omega (arith, b, d))
     other (inr (inr c)) (inl d) = absurd (omega (arith, c, d))
-    other (inr (inr c)) (inr d) = absurd (omega (arith, c, d))
+    other (inr (inr c)) (inr (inl d)) = absurd (omega (arith, c, d))
 
 -- the status of a row
-row_status : (before now : ℕ) {words : List (List ℕ)} {held : Held} {status : ℕ} {text : List ℕ} {log : Option RunLog} {reports : List Report}
-    → Row words held status text log reports → TellsStatus before now status log
-row_status before now (NoCommand n) = without_run before now 1 (inl refl) (λ e. absurd (omega (arith, e)))
-row_status before now (SourceRefused s i w r) = without_run before now 1 (inl refl) (λ e. absurd (omega (arith, e)))
-row_status before now (InputRefused s i tree w o r) = without_run before now 1 (inl refl) (λ e. absurd (omega (arith, e)))
-row_status before now (Runs s i tree w o e r) = with_run before now _ (log_of tree) (outcome_status r)
+row_status : {before now : ℕ} {words : List (List ℕ)} {held : Held} {status : ℕ} {text : List ℕ} {log : Option RunLog} {reports : List Report}
+    → Row words held status text log reports → TellsStatus words before now status log
+row_status (NoCommand n m) = refusal
+row_status (SourceRefused s w r) = refusal
+row_status (Formats s tree w o) = printed (s, w)
+row_status (NotBuilt s i tree w o n) = refusal
+row_status (InputRefused s i tree w o r) = refusal
+row_status (Runs s i tree w o e r) = with_run (log_of tree) (λ format. run_is_no_format w format.1) (outcome_status r)
 
 -- the status of an answer
 tells_status : {words : List (List ℕ)} {holds : Option Content} {before now status : ℕ} {text : List ℕ} {log : Option RunLog} {reports : List Report}
-    → IsAnswer words holds before now status text log reports → TellsStatus before now status log
-tells_status {before = before} {now = now} (OfRow same row) = row_status before now row.row
-tells_status {before = before} {now = now} (SourceFault s i grew rose w) = without_run before now 4 (inr refl) (λ e. rose)
-tells_status {before = before} {now = now} (InputFault s i file tree grew rose w told of) = without_run before now 4 (inr refl) (λ e. rose)
+    → IsAnswer words holds before now status text log reports → TellsStatus words before now status log
+tells_status (OfRow same row) = row_status row.row
+tells_status (SourceFault s grew rose w) = read_fault rose
+tells_status (InputFault s i file tree grew rose w told of) = read_fault rose
 
 -- no answer has the status of a fault of writing
 pub no_write_fault : {words : List (List ℕ)} {holds : Option Content} {before now status : ℕ} {text : List ℕ} {log : Option RunLog} {reports : List Report}
@@ -86,7 +95,7 @@ pub answer_has_cause : {words : List (List ℕ)} {holds : Option Content} {befor
     → IsAnswer words holds before now status text log reports → status ≡ 4 → Rose before now
 answer_has_cause answer four = let t = tells_status answer in t.fault four
 
--- the run is logged, unless a refusal or a fault of reading came
+-- the run is logged, unless a refusal or a fault of reading came, or a text was to be printed
 pub answer_is_logged : {words : List (List ℕ)} {holds : Option Content} {before now status : ℕ} {text : List ℕ} {log : Option RunLog} {reports : List Report}
-    → IsAnswer words holds before now status text log reports → (log ≡ None) ↔ ((status ≡ 1) ⊎ (status ≡ 4))
+    → IsAnswer words holds before now status text log reports → (log ≡ None) ↔ ((status ≡ 1) ⊎ ((status ≡ 4) ⊎ IsFormat words))
 answer_is_logged answer = let t = tells_status answer in t.logged

@@ -12,14 +12,14 @@ use Rattle.pipe_model.specs.Reports.{AreRight}
 use Rattle.pipe_model.specs.Run.{Run, IsFinished}
 use Rattle.pipe_model.specs.RunLogs.{IsFinishedRun, accesses_after, column_of_frame, columns_after, state_after}
 use Rattle.pipe_model.specs.SerialElision.{serial_accesses, serial_columns, serial_events}
-use Rattle.pipe_model.specs.Spelling.{IsFirstForm}
+use Rattle.pipe_model.specs.SourceRefusals.{IsAccepted}
 use Rattle.pipe_model.specs.State.{State, own_columns}
 use Rattle.pipe_model.specs.SyntaxTree.{SyntaxTree}
 use Rattle.pipe_model.specs.Texts.{trap_line, trap_lines}
 use Rattle.pipe_model.specs.Throttling.{IsThrottled}
 use Rattle.pipe_model.proofs.Members.{none_among}
 use Rattle.dag_build.proofs.FirstRaceLaws.{first_races_are_right, no_report_is_race_free}
-use Rattle.language_laws.proofs.WellFormed.{first_form_is_well_formed}
+use Rattle.language_laws.proofs.WellFormed.{accepted_is_well_formed}
 use Rattle.run_laws.proofs.Elision.SerialRun.{serial_elision_is_a_run}
 use Rattle.run_laws.proofs.RunStates.FrontAndBack.{run_state_is}
 use Rattle.run_laws.proofs.RunStates.IterationCounts.{runs_keep_rules}
@@ -28,11 +28,11 @@ use Rattle.run_laws.specs.SerialLaws.{HasSerialRun}
 use Rattle.cilkp_program.specs.Answers.{HasTaken, IsAnswer, OfRow, SourceFault, InputFault, IsPrinted}
 use Rattle.cilkp_program.specs.CellNames.{race_lines}
 use Rattle.cilkp_program.specs.Faults.{Rose}
-use Rattle.cilkp_program.specs.Headline.{AnswersRun, IsAccepted, MeetsHeadline}
+use Rattle.cilkp_program.specs.Headline.{AnswersRun, IsToRun, MeetsHeadline}
 use Rattle.cilkp_program.specs.Reads.{Content}
-use Rattle.cilkp_program.specs.Rows.{HasNoRace, Held, Outcome, Races, Finishes, Traps, Row, NoCommand, SourceRefused, InputRefused, Runs, accesses_of, columns_of, log_of, output_text, run_words, trap_of}
+use Rattle.cilkp_program.specs.Rows.{HasNoRace, Held, Outcome, Races, Finishes, Traps, Row, NoCommand, SourceRefused, Formats, NotBuilt, InputRefused, Runs, NamesSource, ByRun, ByFormat, accesses_of, columns_of, log_of, output_text, run_words, trap_of}
 use Rattle.cilkp_program.proofs.AnswerStatus.{outcome_status}
-use Rattle.cilkp_program.proofs.OneRow.{one_source, refused_not_built, refused_not_empty}
+use Rattle.cilkp_program.proofs.OneRow.{one_source, plain_is_source, refused_not_accepted_file, refused_not_empty, run_is_no_format}
 
 -- the log of the serial elision tells a finished run, and its own columns and accesses are those of the elision
 record IsSerialLog (tree : SyntaxTree) (limit : ℕ) : Type 0 where
@@ -41,11 +41,11 @@ record IsSerialLog (tree : SyntaxTree) (limit : ℕ) : Type 0 where
   accesses : accesses_after (log_of tree).events ≡ accesses_of tree
   throttled : IsThrottled limit (log_of tree).events
 
--- so it is for every program of the first form and every limit of at least 1
-serial_log : (source : List ℕ) (tree : SyntaxTree) (limit : ℕ) → IsFirstForm source tree → 1 ≤ limit → IsSerialLog tree limit
+-- so it is for every accepted program and every limit of at least 1
+serial_log : (source : List ℕ) (tree : SyntaxTree) (limit : ℕ) → IsAccepted source tree → 1 ≤ limit → IsSerialLog tree limit
 serial_log source tree limit form room =
     let p : Pipeline = pipeline_of tree [] in
-    let h : HasSerialRun p limit = serial_elision_is_a_run p limit (first_form_is_well_formed source tree [] form) (omega arith) in
+    let h : HasSerialRun p limit = serial_elision_is_a_run p limit (accepted_is_well_formed source tree [] form) (omega arith) in
     let e : h.state ≡ state_after (serial_events p) = run_state_is h.run in
     let rules : KeepsRules limit (serial_events p) h.state = runs_keep_rules p limit (serial_events p) h.state h.run in
     record {
@@ -72,7 +72,7 @@ none_are_right tree free = record {
 }
 
 -- what a program comes to, by its log
-outcome_meets : (source : List ℕ) (tree : SyntaxTree) (limit : ℕ) {status : ℕ} {text : List ℕ} {reports : List Report} → IsFirstForm source tree → 1 ≤ limit
+outcome_meets : (source : List ℕ) (tree : SyntaxTree) (limit : ℕ) {status : ℕ} {text : List ℕ} {reports : List Report} → IsAccepted source tree → 1 ≤ limit
     → Outcome tree status text reports → MeetsHeadline tree limit (log_of tree) reports status text
 outcome_meets source tree limit form room (Races reports some first) =
     let h = serial_log source tree limit form room in
@@ -123,27 +123,29 @@ record IsRunOf (tree : SyntaxTree) (status : ℕ) (text : List ℕ) (log : Optio
   outcome : Outcome tree status text reports
 
 accepted_row : {words : List (List ℕ)} {content : Content} {held : Held} {status : ℕ} {text : List ℕ} {log : Option RunLog} {reports : List Report} (tree : SyntaxTree)
-    → (a : IsAccepted words content tree) → content a.source ≡ held.source → content a.input ≡ held.input → Row words held status text log reports
+    → (a : IsToRun words content tree) → content a.source ≡ held.source → content a.input ≡ held.input → Row words held status text log reports
     → IsRunOf tree status text log reports
-accepted_row tree a s i (NoCommand n) = absurd (n a.source a.input a.command)
-accepted_row tree a s i (SourceRefused source input w r) = absurd (refused_not_built tree r (rw (← s) a.program))
+accepted_row tree a s i (NoCommand n m) = absurd (n a.source a.input a.command)
+accepted_row tree a s i (SourceRefused source w r) = absurd (refused_not_accepted_file tree r (plain_is_source (rw (← s) a.program)))
+accepted_row tree a s i (Formats source other w o) = absurd (run_is_no_format a.command w)
+accepted_row tree a s i (NotBuilt source input other w o r) = absurd (r (rw (one_source other tree o (plain_is_source (rw (← s) a.program))) (rw (← s) a.program)))
 accepted_row tree a s i (InputRefused source input other w o r) = absurd (refused_not_empty r (sym i ∙ a.empty))
 accepted_row tree a s i (Runs source input other w o e r) =
-    let same : other ≡ tree = one_source other tree o (rw (← s) a.program) in
+    let same : other ≡ tree = one_source other tree (plain_is_source o) (plain_is_source (rw (← s) a.program)) in
     record { logged = ap (λ t. Some (log_of t)) same; outcome = rw (← same) r }
 
 -- what a call answers for an accepted program, where no read failed
 answer_meets : {words : List (List ℕ)} {content : Content} {before now status : ℕ} {text : List ℕ} {log : Option RunLog} {reports : List Report} (tree : SyntaxTree)
-    → ¬ (Rose before now) → IsAccepted words content tree → IsAnswer words (Some content) before now status text log reports → IsRunOf tree status text log reports
+    → ¬ (Rose before now) → IsToRun words content tree → IsAnswer words (Some content) before now status text log reports → IsRunOf tree status text log reports
 answer_meets tree calm a (OfRow same row) =
-    let both = row.told a.source a.input a.command in accepted_row tree a both.0 both.1 row.row
-answer_meets tree calm a (SourceFault s i grew rose w) = absurd (calm rose)
+    accepted_row tree a (row.told.source a.source (ByRun a.input a.command)) (row.told.input a.input (a.source, a.command)) row.row
+answer_meets tree calm a (SourceFault s grew rose w) = absurd (calm rose)
 answer_meets tree calm a (InputFault s i file other grew rose w told of) = absurd (calm rose)
 
 -- the headline of a call whose text was taken whole
 pub printed_meets : (words : List (List ℕ)) (holds : Option Content) (before now status written : ℕ) (log : Option RunLog) (reports : List Report)
     (taken_before taken_now : Option (List ℕ)) → ¬ (Rose before now) → IsPrinted words holds before now status written log reports taken_before taken_now
-    → IfSome holds (λ content. (tree : SyntaxTree) → IsAccepted words content tree → AnswersRun tree status written log reports taken_before taken_now)
+    → IfSome holds (λ content. (tree : SyntaxTree) → IsToRun words content tree → AnswersRun tree status written log reports taken_before taken_now)
 printed_meets words None before now status written log reports taken_before taken_now calm printed = tt
 printed_meets words (Some content) before now status written log reports taken_before taken_now calm printed = λ tree a. (
     let h = answer_meets tree calm a printed.answer in
@@ -154,5 +156,5 @@ printed_meets words (Some content) before now status written log reports taken_b
       whole = printed.whole;
       taken = printed.taken;
       complete = outcome_status h.outcome;
-      meets = λ limit room. outcome_meets a.program.bytes tree limit a.program.form room h.outcome;
+      meets = λ limit room. outcome_meets a.program.bytes tree limit a.program.form.accepted room h.outcome;
     })

@@ -9,3 +9,5 @@ pub mod RunTexts
 pub mod OneReports
 pub mod HeadlineLaws
 pub mod AnswerStatus
+pub mod FormatLaws
+pub mod SourceFaults

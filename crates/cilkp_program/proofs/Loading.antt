@@ -1,13 +1,19 @@
 -- What the reading of a whole file tells of a source and of an input.
 use Rattle.std.proofs.Common.{◌≡◌, ◌<◌, ◌≤◌, ◌+◌, ℕ, List, [], length, replicate, Option, Some, None, IfSome, refl, ap, sym, arith}
 use Rattle.std.proofs.lemmas.List.{length-replicate, nil_from_length}
-use Rattle.pipe_model.specs.Spelling.{IsFirstForm}
-use Rattle.pipe_model.specs.SyntaxTree.{SyntaxTree}
-use Rattle.pipe_model.specs.Texts.{refused_missing, refused_source, refused_input}
+use Rattle.pipe_lexer.specs.declared.fault.LexFault.TheVariants as lexer
+use Rattle.pipe_model.specs.SourceRefusals.{ForItsText, Lexical}
+use Rattle.pipe_model.specs.Tokens.{IsTooLong, SourceTooLong}
+use Rattle.pipe_model.specs.Texts.{refused_missing, refused_input}
 use Rattle.cilkp_program.specs.declared.whole.Whole.{Whole}
 use Rattle.cilkp_program.specs.declared.whole.Whole.TheVariants as whole
 use Rattle.cilkp_program.specs.Reads.{Content}
-use Rattle.cilkp_program.specs.Rows.{InputRefusal, InputMissing, InputNotEmpty, IsSourceOf, SourceRefusal, SourceMissing, SourceNotBuilt}
+use Rattle.cilkp_program.specs.Rows.{InputRefusal, InputMissing, InputNotEmpty, SourceRefusal, SourceMissing, NotAccepted}
+use Rattle.cilkp_program.specs.Loads.{Gave, GaveSource}
+use Rattle.cilkp_program.specs.RefusalLines.{IsLexicalLine}
+use Rattle.cilkp_program.specs.declared.load.Source.{Source}
+use Rattle.cilkp_program.specs.declared.load.Source.TheVariants as sources
+use Rattle.cilkp_program.proofs.OneRow.{one_held}
 use Rattle.cilkp_program.specs.Wholes.{IsUpTo, IsWholeOf}
 
 -- the answer is that of a file, which held what the files tell, where they tell
@@ -49,20 +55,24 @@ pub source_is_missing : (file : Option (List ℕ)) (name line : List ℕ) (limit
 source_is_missing file name line limit e h = rw e (SourceMissing (missing_is_none file limit h))
 
 -- a source that is too long is refused
-pub source_is_too_long : (file : Option (List ℕ)) (name line : List ℕ) → line ≡ refused_source → IsWholeOf file 1048576 whole.TooLong → SourceRefusal name file line
+pub source_is_too_long : (file : Option (List ℕ)) (name line : List ℕ) → IsLexicalLine lexer.SourceTooLong line → IsWholeOf file 1048576 whole.TooLong → SourceRefusal name file line
 source_is_too_long file name line e h =
     let f = too_long_is_held file 1048576 h in
-    rw e (SourceNotBuilt f.0 f.1 (λ tree form. let short = form.spelled.short in omega (arith, short, f.2)))
+    rw e (NotAccepted f.0 (Lexical SourceTooLong) f.1 (ForItsText SourceTooLong (IsTooLong f.2)))
 
--- a source of no program is refused
-pub source_is_not_built : (file : Option (List ℕ)) (name line bytes : List ℕ) (limit : ℕ) → line ≡ refused_source → IsWholeOf file limit (whole.Bytes bytes)
-    → ((tree : SyntaxTree) → IsFirstForm bytes tree → ⊥) → SourceRefusal name file line
-source_is_not_built file name line bytes limit e h n = rw e (SourceNotBuilt bytes (bytes_are_held file limit bytes h) n)
-
--- the program of a source that is there
-pub source_is_built : (file : Option (List ℕ)) (bytes : List ℕ) (limit : ℕ) (tree : SyntaxTree) → IsWholeOf file limit (whole.Bytes bytes) → IsFirstForm bytes tree
-    → IsSourceOf file tree
-source_is_built file bytes limit tree h form = record { bytes = bytes; held = bytes_are_held file limit bytes h; form = form }
+-- what the bytes of a file gave, the file gave
+pub file_gave : (file : Option (List ℕ)) (name bytes : List ℕ) (limit : ℕ) (source : Source) → IsWholeOf file limit (whole.Bytes bytes) → Gave bytes source
+    → GaveSource name file source
+file_gave file name bytes limit (sources.Accepted loaded) h g =
+    let held = bytes_are_held file limit bytes h in
+    record {
+      source = record { bytes = bytes; held = held; accepted = g.accepted };
+      plain = λ yes. record { bytes = bytes; held = held; form = g.plain yes };
+      other = λ no s. g.other no (rw (one_held file s.bytes bytes s.held held) at s.form);
+    }
+file_gave file name bytes limit (sources.Refused line) h g =
+    rw g.line_is (NotAccepted bytes g.refusal (bytes_are_held file limit bytes h) g.refused)
+file_gave file name bytes limit sources.Failed h g = absurd g
 
 -- an input that is missing is refused
 pub input_is_missing : (file : Option (List ℕ)) (name line : List ℕ) (limit : ℕ) → line ≡ refused_missing name → IsWholeOf file limit whole.Missing → InputRefusal name file line

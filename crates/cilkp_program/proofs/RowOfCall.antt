@@ -1,21 +1,22 @@
 -- Which row a call has.
-use Rattle.std.proofs.Common.{◌≡◌, ◌≢◌, ◌≤◌, ◌∙◌, ℕ, true, false, List, [], ◌∷◌, length, get_or, Option, Some, None, Result, Ok, Err, IfOk, IfSome, refl, ap, sym, arith}
+use Rattle.std.proofs.Common.{◌≡◌, ◌≢◌, ◌≤◌, ◌∙◌, ℕ, true, false, List, [], ◌∷◌, length, get_or, Option, Some, None, Result, Ok, Err, IfOk, IfSome, IsTrue, IsFalse, refl, ap, sym, arith}
 use Rattle.std.specs.Prelude.{String, string_bytes}
 use Rattle.std.specs.declared.alloc.Global.{Global}
 use Rattle.pipe_model.specs.declared.memory.NoMemory.{NoMemory}
 use Rattle.pipe_model.specs.declared.report.Report.{Report}
-use Rattle.pipe_model.specs.declared.tree.Program.{Program}
+use Rattle.pipe_model.specs.CanonicalText.{program_text}
 use Rattle.pipe_model.specs.SyntaxTree.{tree_of}
-use Rattle.pipe_model.specs.Texts.{fault_read, refused_usage}
+use Rattle.pipe_model.specs.Texts.{fault_read, refused_program, refused_usage}
 use Rattle.cilkp_program.specs.declared.call.Answer.{Answer}
+use Rattle.cilkp_program.specs.declared.load.Loaded.{Loaded}
 use Rattle.cilkp_program.specs.declared.load.Source.TheVariants as sources
 use Rattle.cilkp_program.specs.declared.load.Input.TheVariants as inputs
 use Rattle.cilkp_program.specs.Answers.{IsAnswer, OfRow, SourceFault, InputFault}
 use Rattle.cilkp_program.specs.Faults.{CountsFault}
 use Rattle.cilkp_program.specs.Loads.{IsInputAnswer, IsSourceAnswer}
 use Rattle.cilkp_program.specs.Reads.{Content}
-use Rattle.cilkp_program.specs.Rows.{AreHeldBy, Held, NoCommand, SourceRefused, InputRefused, Runs, Outcome, log_of, words_of, run_words}
-use Rattle.cilkp_program.proofs.OneRow.{inputs_same, sources_same}
+use Rattle.cilkp_program.specs.Rows.{AreHeldBy, Held, NamesSource, ByRun, ByFormat, NoCommand, SourceRefused, Formats, NotBuilt, InputRefused, Runs, Outcome, log_of, words_of, run_words, format_words}
+use Rattle.cilkp_program.proofs.OneRow.{inputs_same, one_name, run_is_no_format, unnamed}
 
 -- a list of three texts, by its length and its items
 pub three_words : (ws : List (String Global)) (a b c : String Global) → length ws ≡ 3 → a ≡ get_or ws 0 a → b ≡ get_or ws 1 b → c ≡ get_or ws 2 c
@@ -26,14 +27,32 @@ three_words (x ∷ y ∷ []) a b c h p q r = absurd (omega (arith, h))
 three_words (x ∷ y ∷ z ∷ []) a b c h p q r = cc (ap string_bytes p, ap string_bytes q, ap string_bytes r)
 three_words (x ∷ y ∷ z ∷ w ∷ ws) a b c h p q r = absurd (omega (arith, h))
 
--- which answer is given; the files hold the same throughout
+-- a list of two texts, by its length and its items
+pub two_words : (ws : List (String Global)) (a b : String Global) → length ws ≡ 2 → a ≡ get_or ws 0 a → b ≡ get_or ws 1 b → words_of ws ≡ string_bytes a ∷ string_bytes b ∷ []
+two_words [] a b h p q = absurd (omega (arith, h))
+two_words (x ∷ []) a b h p q = absurd (omega (arith, h))
+two_words (x ∷ y ∷ []) a b h p q = cc (ap string_bytes p, ap string_bytes q)
+two_words (x ∷ y ∷ z ∷ ws) a b h p q = absurd (omega (arith, h))
 
--- what the files of a command hold, where they tell
-held_told : (holds : Option Content) (words : List (List ℕ)) (source input : List ℕ) (held : Held) → words ≡ run_words source input
-    → IfSome holds (λ content. content source ≡ held.source) → IfSome holds (λ content. content input ≡ held.input) → IfSome holds (λ content. AreHeldBy content words held)
-held_told None words source input held w s i = tt
-held_told (Some content) words source input held w s i =
-    λ source' input' w'. (ap content (sources_same words source' source input' input w' w) ∙ s, ap content (inputs_same words source' source input' input w' w) ∙ i)
+-- ---- what is held; the files hold the same throughout
+
+-- what the files of a run hold, where they tell
+run_told : (holds : Option Content) (source input : List ℕ) (held : Held) → IfSome holds (λ content. content source ≡ held.source)
+    → IfSome holds (λ content. content input ≡ held.input) → IfSome holds (λ content. AreHeldBy content (run_words source input) held)
+run_told None source input held s i = tt
+run_told (Some content) source input held s i = record {
+  source = λ name named. ap content (one_name named (ByRun input refl)) ∙ s;
+  input = λ name named. ap content (inputs_same _ named.0 source name input named.1 refl) ∙ i;
+}
+
+-- what the file of a format holds, where it tells
+format_told : (holds : Option Content) (source : List ℕ) (held : Held) → IfSome holds (λ content. content source ≡ held.source)
+    → IfSome holds (λ content. AreHeldBy content (format_words source) held)
+format_told None source held s = tt
+format_told (Some content) source held s = record {
+  source = λ name named. ap content (one_name named (ByFormat refl)) ∙ s;
+  input = λ name named. absurd (run_is_no_format named.1 refl);
+}
 
 -- what a file that is not read holds, where the files tell
 unread : Option Content → List ℕ → Option (List ℕ)
@@ -45,56 +64,87 @@ unfolding unread
 unread_told None name = tt
 unread_told (Some content) name = refl
 
+-- ---- which answer is given
+
 -- words that are no command
 pub answer_no_command : (words : List (List ℕ)) (holds : Option Content) (faults : ℕ) (text : List ℕ) → ((source input : List ℕ) → words ≢ run_words source input)
-    → text ≡ refused_usage → IsAnswer words holds faults faults 1 text None []
-answer_no_command words holds faults text never t = rw t (OfRow refl (record { held = record { source = None; input = None }; told = told holds; row = NoCommand never }))
+    → ((source : List ℕ) → words ≢ format_words source) → text ≡ refused_usage → IsAnswer words holds faults faults 1 text None []
+answer_no_command words holds faults text no_run no_format t =
+    rw t (OfRow refl (record { held = record { source = None; input = None }; told = told holds; row = NoCommand no_run no_format }))
   where
     told : (holds : Option Content) → IfSome holds (λ content. AreHeldBy content words (record { source = None; input = None }))
     told None = tt
-    told (Some content) = λ source input w. absurd (never source input w)
+    told (Some content) = record { source = λ name named. absurd (unnamed no_run no_format named); input = λ name named. absurd (no_run named.0 name named.1) }
 
--- a source that is refused
-pub answer_source_refused : (words : List (List ℕ)) (holds : Option Content) (before now : ℕ) (source input text : List ℕ) → words ≡ run_words source input
-    → CountsFault false before now → IsSourceAnswer holds source (sources.Refused text) → IsAnswer words holds before now 1 text None []
-answer_source_refused words holds before now source input text w same s = OfRow same (record {
+-- a source that is refused and was to be run
+pub run_refused : (holds : Option Content) (before now : ℕ) (source input text : List ℕ) → CountsFault false before now
+    → IsSourceAnswer holds source (sources.Refused text) → IsAnswer (run_words source input) holds before now 1 text None []
+run_refused holds before now source input text same s = OfRow same (record {
   held = record { source = s.file; input = unread holds input };
-  told = held_told holds words source input _ w s.told (unread_told holds input);
-  row = SourceRefused source input w s.gave;
+  told = run_told holds source input _ s.told (unread_told holds input);
+  row = SourceRefused source (ByRun input refl) s.gave;
+})
+
+-- a source that is refused and was to be printed
+pub format_refused : (holds : Option Content) (before now : ℕ) (source text : List ℕ) → CountsFault false before now
+    → IsSourceAnswer holds source (sources.Refused text) → IsAnswer (format_words source) holds before now 1 text None []
+format_refused holds before now source text same s = OfRow same (record {
+  held = record { source = s.file; input = None };
+  told = format_told holds source _ s.told;
+  row = SourceRefused source (ByFormat refl) s.gave;
 })
 
 -- a source that could not be read
-pub answer_source_failed : (words : List (List ℕ)) (holds : Option Content) (before now : ℕ) (source input text : List ℕ) → words ≡ run_words source input
+pub source_failed : (words : List (List ℕ)) (holds : Option Content) (before now : ℕ) (source text : List ℕ) → NamesSource words source
     → CountsFault true before now → text ≡ fault_read source → IsAnswer words holds before now 4 text None []
-answer_source_failed words holds before now source input text w rose t = rw t (SourceFault source input rose.0 rose.1 w)
+source_failed words holds before now source text w rose t = rw t (SourceFault source rose.0 rose.1 w)
+
+-- a program that is printed
+pub program_printed : (holds : Option Content) (before now : ℕ) (source : List ℕ) (loaded : Loaded) → CountsFault false before now
+    → IsSourceAnswer holds source (sources.Accepted loaded) → IsAnswer (format_words source) holds before now 0 (program_text (tree_of loaded.program)) None []
+program_printed holds before now source loaded same s = OfRow same (record {
+  held = record { source = s.file; input = None };
+  told = format_told holds source _ s.told;
+  row = Formats source (tree_of loaded.program) refl s.gave.source;
+})
+
+-- a program that is not of the first form and was to be run
+pub not_built : (holds : Option Content) (before now : ℕ) (source input text : List ℕ) (loaded : Loaded) → text ≡ refused_program → CountsFault false before now
+    → IsFalse loaded.is_first_form → IsSourceAnswer holds source (sources.Accepted loaded) → IsAnswer (run_words source input) holds before now 1 text None []
+not_built holds before now source input text loaded t same other s = rw t (OfRow same (record {
+  held = record { source = s.file; input = unread holds input };
+  told = run_told holds source input _ s.told (unread_told holds input);
+  row = NotBuilt source input (tree_of loaded.program) refl s.gave.source (s.gave.other other);
+}))
 
 -- an input that is refused
-pub answer_input_refused : (words : List (List ℕ)) (holds later : Option Content) (before mid now : ℕ) (source input text : List ℕ) (program : Program)
-    → words ≡ run_words source input → later ≡ holds → CountsFault false before mid → CountsFault false mid now → IsSourceAnswer holds source (sources.Program program)
-    → IsInputAnswer later input (inputs.Refused text) → IsAnswer words holds before now 1 text None []
-answer_input_refused words holds later before mid now source input text program w keeps same same' s i = OfRow (same' ∙ same) (record {
+pub input_refused : (holds later : Option Content) (before mid now : ℕ) (source input text : List ℕ) (loaded : Loaded) → later ≡ holds
+    → CountsFault false before mid → CountsFault false mid now → IsTrue loaded.is_first_form → IsSourceAnswer holds source (sources.Accepted loaded)
+    → IsInputAnswer later input (inputs.Refused text) → IsAnswer (run_words source input) holds before now 1 text None []
+input_refused holds later before mid now source input text loaded keeps same same' plain s i = OfRow (same' ∙ same) (record {
   held = record { source = s.file; input = i.file };
-  told = held_told holds words source input _ w s.told (rw keeps at i.told);
-  row = InputRefused source input (tree_of program) w s.gave i.gave;
+  told = run_told holds source input _ s.told (rw keeps at i.told);
+  row = InputRefused source input (tree_of loaded.program) refl (s.gave.plain plain) i.gave;
 })
 
 -- an input that could not be read
-pub answer_input_failed : (words : List (List ℕ)) (holds : Option Content) (before mid now : ℕ) (source input text : List ℕ) (program : Program)
-    → words ≡ run_words source input → CountsFault false before mid → CountsFault true mid now → IsSourceAnswer holds source (sources.Program program)
-    → text ≡ fault_read input → IsAnswer words holds before now 4 text None []
-answer_input_failed words holds before mid now source input text program w same rose s t =
-    let at_mid : IsAnswer words holds mid now 4 (fault_read input) None [] = InputFault source input s.file (tree_of program) rose.0 rose.1 w s.told s.gave in
+pub input_failed : (holds : Option Content) (before mid now : ℕ) (source input text : List ℕ) (loaded : Loaded) → CountsFault false before mid
+    → CountsFault true mid now → IsTrue loaded.is_first_form → IsSourceAnswer holds source (sources.Accepted loaded) → text ≡ fault_read input
+    → IsAnswer (run_words source input) holds before now 4 text None []
+input_failed holds before mid now source input text loaded same rose plain s t =
+    let at_mid : IsAnswer (run_words source input) holds mid now 4 (fault_read input) None [] =
+        InputFault source input s.file (tree_of loaded.program) rose.0 rose.1 refl s.told (s.gave.plain plain) in
     rw (t, ← same) at_mid
 
 -- a run
-pub answer_of_run : (words : List (List ℕ)) (holds later : Option Content) (before mid now : ℕ) (source input text : List ℕ) (status : ℕ) (reports : List Report) (program : Program)
-    → words ≡ run_words source input → later ≡ holds → CountsFault false before mid → CountsFault false mid now → IsSourceAnswer holds source (sources.Program program)
-    → IsInputAnswer later input inputs.Empty → Outcome (tree_of program) status text reports
-    → IsAnswer words holds before now status text (Some (log_of (tree_of program))) reports
-answer_of_run words holds later before mid now source input text status reports program w keeps same same' s i outcome = OfRow (same' ∙ same) (record {
+pub answer_of_run : (holds later : Option Content) (before mid now : ℕ) (source input text : List ℕ) (status : ℕ) (reports : List Report) (loaded : Loaded)
+    → later ≡ holds → CountsFault false before mid → CountsFault false mid now → IsTrue loaded.is_first_form → IsSourceAnswer holds source (sources.Accepted loaded)
+    → IsInputAnswer later input inputs.Empty → Outcome (tree_of loaded.program) status text reports
+    → IsAnswer (run_words source input) holds before now status text (Some (log_of (tree_of loaded.program))) reports
+answer_of_run holds later before mid now source input text status reports loaded keeps same same' plain s i outcome = OfRow (same' ∙ same) (record {
   held = record { source = s.file; input = i.file };
-  told = held_told holds words source input _ w s.told (rw keeps at i.told);
-  row = Runs source input (tree_of program) w s.gave i.gave outcome;
+  told = run_told holds source input _ s.told (rw keeps at i.told);
+  row = Runs source input (tree_of loaded.program) refl (s.gave.plain plain) i.gave outcome;
 })
 
 -- a call that answers this

@@ -1,8 +1,5 @@
 -- The dag of a program's serial elision, as it is built from what the elision tells.
-use Rattle.std.proofs.Common.{◌≡◌, ◌∙◌, ◌<◌, ◌≤◌, ◌^◌, ℕ, ℤ, pos, negsuc, IsTrue, zero, suc, All, List, [], ◌∷◌, Option, length, map, refl, sym, ap, subst, arith}
-use Rattle.std.specs.Prelude.{not, int_lt}
-use Rattle.std.proofs.lemmas.Bool.{and_parts}
-use Rattle.std.proofs.lemmas.Bool.Decides.{nat_tests}
+use Rattle.std.proofs.Common.{◌≡◌, ◌∙◌, ◌<◌, ◌≤◌, ◌^◌, ℕ, ℤ, zero, suc, All, List, [], ◌∷◌, Option, Some, None, length, map, refl, sym, ap, subst, arith}
 use Rattle.pipe_model.specs.declared.access.NodeAccess.{NodeAccess}
 use Rattle.pipe_model.specs.declared.column.Column.{Column}
 use Rattle.pipe_model.specs.declared.event.Event.{Event}
@@ -11,21 +8,21 @@ use Rattle.pipe_model.specs.declared.node.Node.{Node}
 use Rattle.pipe_model.specs.declared.report.Report.{Report}
 use Rattle.pipe_model.specs.declared.trap.TrapAt.{TrapAt}
 use Rattle.pipe_model.specs.Behaviour.{Action, column_of}
+use Rattle.pipe_model.specs.CheckingRules.{Fault, limit_fault_or, limit_out}
 use Rattle.pipe_model.specs.Columns.{nodes_at}
 use Rattle.pipe_model.specs.FirstRaces.{AreFirstRaces}
 use Rattle.pipe_model.specs.Outcome.{ended_column, serial_ended_columns, serial_output}
 use Rattle.pipe_model.specs.Pipeline.{Pipeline}
-use Rattle.pipe_model.specs.Programs.{natural, pipeline_of}
-use Rattle.pipe_model.specs.Rules.{is_between, limits_are_in_range}
+use Rattle.pipe_model.specs.Programs.{pipeline_of}
 use Rattle.pipe_model.specs.SerialElision.{serial_accesses, serial_events, serial_traces}
-use Rattle.pipe_model.specs.Spelling.{IsFirstForm}
+use Rattle.pipe_model.specs.SourceRefusals.{IsAccepted}
 use Rattle.pipe_model.specs.SyntaxTree.{SyntaxTree}
 use Rattle.pipe_model.proofs.Members.{among_at}
 use Rattle.dag_build.specs.NodeColumns.{AreRising, IsAccessOf, node_columns}
 use Rattle.dag_build.proofs.FirstRaceLaws.{no_report_is_race_free}
-use Rattle.language_laws.proofs.WellFormed.{first_form_is_well_formed}
+use Rattle.language_laws.proofs.WellFormed.{accepted_is_well_formed}
 use Rattle.serial_elision.proofs.EventLaws.{serial_columns_are_few}
-use Rattle.serial_elision.proofs.FirstForm.{first_form_is_runnable}
+use Rattle.serial_elision.proofs.LimitRanges.{few_iterations}
 use Rattle.run_laws.proofs.Elision.SerialRun.{serial_elision_is_a_run}
 use Rattle.run_laws.proofs.RunStates.IterationCounts.{runs_keep_rules}
 use Rattle.run_laws.specs.RunLaws.{KeepsRules}
@@ -43,18 +40,18 @@ pub told_columns : (tree : SyntaxTree) (columns : List Column) → columns ≡ s
 told_columns tree columns e = ap node_columns e ∙ ended_nodes (serial_traces (pipeline_of tree []))
 
 -- the serial elision is a run that begins one iteration after the other
-serial_run : (source : List ℕ) (tree : SyntaxTree) → IsFirstForm source tree → HasSerialRun (pipeline_of tree []) 1
-serial_run source tree form = serial_elision_is_a_run (pipeline_of tree []) 1 (first_form_is_well_formed source tree [] form) (omega arith)
+serial_run : (source : List ℕ) (tree : SyntaxTree) → IsAccepted source tree → HasSerialRun (pipeline_of tree []) 1
+serial_run source tree form = serial_elision_is_a_run (pipeline_of tree []) 1 (accepted_is_well_formed source tree [] form) (omega arith)
 
 -- the stage numbers of the program's columns rise
-columns_rise : (source : List ℕ) (tree : SyntaxTree) → IsFirstForm source tree → AreRising (columns_of tree)
+columns_rise : (source : List ℕ) (tree : SyntaxTree) → IsAccepted source tree → AreRising (columns_of tree)
 columns_rise source tree form =
     let h = serial_run source tree form in
     let rules = runs_keep_rules _ _ _ _ h.run in
     subst AreRising h.columns (record { each = rules.rising })
 
 -- the dag that is built has rising columns
-pub told_columns_rise : (source : List ℕ) (tree : SyntaxTree) (columns : List Column) → IsFirstForm source tree
+pub told_columns_rise : (source : List ℕ) (tree : SyntaxTree) (columns : List Column) → IsAccepted source tree
     → columns ≡ serial_ended_columns (pipeline_of tree []) → AreRising (node_columns columns)
 told_columns_rise source tree columns form e = subst AreRising (sym (told_columns tree columns e)) (columns_rise source tree form)
 
@@ -65,7 +62,7 @@ column_inside (c ∷ cs) zero k w = omega arith
 column_inside (c ∷ cs) (suc i) k w = let h = column_inside cs i k w in omega (arith, h)
 
 -- the program's accesses are made by instances of its columns
-accesses_inside : (source : List ℕ) (tree : SyntaxTree) → IsFirstForm source tree → All (IsAccessOf (columns_of tree)) (accesses_of tree)
+accesses_inside : (source : List ℕ) (tree : SyntaxTree) → IsAccepted source tree → All (IsAccessOf (columns_of tree)) (accesses_of tree)
 accesses_inside source tree form =
     let h = serial_run source tree form in
     let rules = runs_keep_rules _ _ _ _ h.run in
@@ -73,7 +70,7 @@ accesses_inside source tree form =
     (λ k d w. let inside = rules.inside _ (among_at _ k d w) in (column_inside _ _ _ inside, inside)))
 
 -- the accesses that the elision tells are made by instances of the dag that is built
-pub told_accesses_inside : (source : List ℕ) (tree : SyntaxTree) (dag : List (List Node)) (columns : List Column) (accesses : List NodeAccess) → IsFirstForm source tree
+pub told_accesses_inside : (source : List ℕ) (tree : SyntaxTree) (dag : List (List Node)) (columns : List Column) (accesses : List NodeAccess) → IsAccepted source tree
     → dag ≡ node_columns columns → columns ≡ serial_ended_columns (pipeline_of tree []) → accesses ≡ accesses_of tree → All (IsAccessOf dag) accesses
 told_accesses_inside source tree dag columns accesses form d e a =
     rw (a, d ∙ told_columns tree columns e) (accesses_inside source tree form)
@@ -98,19 +95,17 @@ outcome_of_run tree dag columns accesses output trap reports d e a o t r (WithTr
     let free = (no_report_is_race_free _ _ reports (told_races tree dag columns accesses reports d e a r)).0 none in
     rw (none, o) (Traps at free (sym t ∙ ends))
 
--- a number that is in the range of iterations
-few_iterations : (n : ℤ) → IsTrue (is_between (pos 1) (pos 65536) n) → natural n ≤ 65536
-few_iterations (pos n) h =
-    let w = (and_parts (not (int_lt (pos n) (pos 1))) (not (int_lt (pos 65536) (pos n))) h).1 in grind (arith, nat_tests)
-few_iterations (negsuc n) h = omega arith
+-- where there is no fault, no limit is out of its range
+no_limit_out : (which : Option ℕ) (rest : Option Fault) → limit_fault_or which rest ≡ None → which ≡ None
+no_limit_out None rest h = refl
+no_limit_out (Some k) rest h = cc (h)
 
 -- the elision has few enough columns for its events to be told
-pub told_columns_are_few : (source : List ℕ) (tree : SyntaxTree) (columns : List Column) → IsFirstForm source tree
+pub told_columns_are_few : (source : List ℕ) (tree : SyntaxTree) (columns : List Column) → IsAccepted source tree
     → columns ≡ serial_ended_columns (pipeline_of tree []) → length columns ≤ 2 ^ 32
 told_columns_are_few source tree columns form e =
-    let limits : IsTrue (limits_are_in_range tree.limits) = (first_form_is_runnable source tree form).limits in
     let few = serial_columns_are_few (pipeline_of tree []) in
-    let most = few_iterations tree.limits.iterations (and_parts (is_between (pos 1) (pos 65536) tree.limits.iterations) _ limits).0 in
+    let most = few_iterations tree.limits (no_limit_out (limit_out tree.limits) _ form.obeys) in
     omega (arith, ap length e, few, most)
 
 -- the log of the elision's columns and events is that of the program

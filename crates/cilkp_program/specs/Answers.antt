@@ -7,7 +7,7 @@ use Rattle.pipe_model.specs.SyntaxTree.{SyntaxTree}
 use Rattle.pipe_model.specs.Texts.{fault_read}
 use Rattle.cilkp_program.specs.Faults.{Rose}
 use Rattle.cilkp_program.specs.Reads.{Content}
-use Rattle.cilkp_program.specs.Rows.{AreHeldBy, Held, IsSourceOf, Row, run_words}
+use Rattle.cilkp_program.specs.Rows.{AreHeldBy, Held, IsPlainSourceOf, NamesSource, Row, run_words}
 
 -- what a call is to give where no fault of reading came in it: the row of its words and of what its files held, which is what these tell, where they tell
 pub record IsRow (words : List (List ℕ)) (holds : Option Content) (status : ℕ) (text : List ℕ) (log : Option RunLog) (reports : List Report) : Type 0 where
@@ -16,13 +16,13 @@ pub record IsRow (words : List (List ℕ)) (holds : Option Content) (status : �
   pub row : Row words held status text log reports
 
 -- the status, the text, the run log and the reports that a call is to give: those of its row where no fault of reading came in the call, and else the line
--- of the fault, the input's where the source has given a program. The faults are counted before the call and after it
+-- of the fault, the input's where the source has given a program to run. The faults are counted before the call and after it
 pub data IsAnswer (words : List (List ℕ)) (holds : Option Content) (before now : ℕ) : ℕ → List ℕ → Option RunLog → List Report → Type 0 where
   OfRow : {status : ℕ} {text : List ℕ} {log : Option RunLog} {reports : List Report} → now ≡ before → IsRow words holds status text log reports
       → IsAnswer words holds before now status text log reports
-  SourceFault : (source input : List ℕ) → before ≤ now → Rose before now → words ≡ run_words source input → IsAnswer words holds before now 4 (fault_read source) None []
+  SourceFault : (source : List ℕ) → before ≤ now → Rose before now → NamesSource words source → IsAnswer words holds before now 4 (fault_read source) None []
   InputFault : (source input : List ℕ) (file : Option (List ℕ)) (tree : SyntaxTree) → before ≤ now → Rose before now → words ≡ run_words source input
-      → IfSome holds (λ content. content source ≡ file) → IsSourceOf file tree → IsAnswer words holds before now 4 (fault_read input) None []
+      → IfSome holds (λ content. content source ≡ file) → IsPlainSourceOf file tree → IsAnswer words holds before now 4 (fault_read input) None []
 
 -- the sink has taken so many bytes at the front of the text
 abbrev pub HasTaken : ℕ → List ℕ → Option (List ℕ) → Option (List ℕ) → Type 0

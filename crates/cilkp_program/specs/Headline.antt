@@ -12,14 +12,14 @@ use Rattle.pipe_model.specs.Throttling.{IsThrottled}
 use Rattle.cilkp_program.specs.Answers.{HasTaken}
 use Rattle.cilkp_program.specs.CellNames.{race_lines}
 use Rattle.cilkp_program.specs.Reads.{Content}
-use Rattle.cilkp_program.specs.Rows.{HasNoRace, IsSourceOf, output_text, run_words, trap_of}
+use Rattle.cilkp_program.specs.Rows.{HasNoRace, IsPlainSourceOf, output_text, run_words, trap_of}
 
--- the words are a command whose source spells the program and whose input is empty
-pub record IsAccepted (words : List (List ℕ)) (content : Content) (tree : SyntaxTree) : Type 0 where
+-- the words are a command that runs a source which is accepted as the program, and is of the first form, on an empty input
+pub record IsToRun (words : List (List ℕ)) (content : Content) (tree : SyntaxTree) : Type 0 where
   pub source : List ℕ
   pub input : List ℕ
   pub command : words ≡ run_words source input
-  pub program : IsSourceOf (content source) tree
+  pub program : IsPlainSourceOf (content source) tree
   pub empty : content input ≡ Some []
 
 -- a run of the program under the throttling limit, by its log, its reports, and the status and the text of the call

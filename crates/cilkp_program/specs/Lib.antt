@@ -11,3 +11,5 @@ pub mod Loads
 pub mod RowLaws
 pub mod RunTexts
 pub mod Headline
+pub mod Formatting
+pub mod RefusalLines

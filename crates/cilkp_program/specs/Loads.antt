@@ -1,22 +1,49 @@
 -- What the loading of a source and of an input answers.
-use Rattle.std.specs.Prelude.{◌≡◌, ℕ, List, [], Option, Some, IfSome, Bool, true, false}
-use Rattle.pipe_model.specs.SyntaxTree.{tree_of}
+use Rattle.std.specs.Prelude.{◌≡◌, ℕ, List, [], Option, Some, IfSome, IsTrue, IsFalse, Bool, true, false}
+use Rattle.pipe_model.specs.FirstForm.{IsFirstForm}
+use Rattle.pipe_model.specs.SourceRefusals.{IsAccepted, IsRefused, Refusal}
+use Rattle.pipe_model.specs.SyntaxTree.{SyntaxTree, tree_of}
+use Rattle.pipe_model.specs.Texts.{refusal_line}
 use Rattle.cilkp_program.specs.declared.load.Source.{Source}
 use Rattle.cilkp_program.specs.declared.load.Source.TheVariants as sources
 use Rattle.cilkp_program.specs.declared.load.Input.{Input}
 use Rattle.cilkp_program.specs.declared.load.Input.TheVariants as inputs
 use Rattle.cilkp_program.specs.Reads.{Content}
-use Rattle.cilkp_program.specs.Rows.{InputRefusal, IsSourceOf, SourceRefusal}
+use Rattle.cilkp_program.specs.Rows.{InputRefusal, IsPlainSourceOf, IsSourceOf, SourceRefusal}
 
 -- whether the loading of a source failed
 abbrev pub is_source_fault : Source → Bool
-is_source_fault (sources.Program program) = false
+is_source_fault (sources.Accepted loaded) = false
 is_source_fault (sources.Refused line) = false
 is_source_fault sources.Failed = true
 
+-- the bytes are accepted as the program, and it is known whether they are of the first form
+pub record AreLoaded (bytes : List ℕ) (tree : SyntaxTree) (is_first_form : Bool) : Type 0 where
+  pub accepted : IsAccepted bytes tree
+  pub plain : IsTrue is_first_form → IsFirstForm bytes tree
+  pub other : IsFalse is_first_form → IsFirstForm bytes tree → ⊥
+
+-- the bytes are refused, with this line
+pub record AreRefused (bytes line : List ℕ) : Type 0 where
+  pub refusal : Refusal
+  pub refused : IsRefused bytes refusal
+  pub line_is : line ≡ refusal_line refusal
+
+-- the bytes of a source gave this answer
+abbrev pub Gave : List ℕ → Source → Type 0
+Gave bytes (sources.Accepted loaded) = AreLoaded bytes (tree_of loaded.program) loaded.is_first_form
+Gave bytes (sources.Refused line) = AreRefused bytes line
+Gave bytes sources.Failed = ⊥
+
+-- the file holds the source of the program, and it is known whether it is of the first form
+pub record IsLoaded (file : Option (List ℕ)) (tree : SyntaxTree) (is_first_form : Bool) : Type 0 where
+  pub source : IsSourceOf file tree
+  pub plain : IsTrue is_first_form → IsPlainSourceOf file tree
+  pub other : IsFalse is_first_form → IsPlainSourceOf file tree → ⊥
+
 -- the file gave this answer: its program, or the line that refuses it
 abbrev pub GaveSource : List ℕ → Option (List ℕ) → Source → Type 0
-GaveSource name file (sources.Program program) = IsSourceOf file (tree_of program)
+GaveSource name file (sources.Accepted loaded) = IsLoaded file (tree_of loaded.program) loaded.is_first_form
 GaveSource name file (sources.Refused line) = SourceRefusal name file line
 GaveSource name file sources.Failed = Unit {0}
 

@@ -6,14 +6,16 @@ use Rattle.pipe_model.specs.declared.event.RunLog.{RunLog}
 use Rattle.pipe_model.specs.declared.node.Node.{Node}
 use Rattle.pipe_model.specs.declared.report.Report.{Report}
 use Rattle.pipe_model.specs.declared.trap.TrapAt.{TrapAt}
+use Rattle.pipe_model.specs.CanonicalText.{program_text}
+use Rattle.pipe_model.specs.FirstForm.{IsFirstForm}
 use Rattle.pipe_model.specs.FirstRaces.{AreFirstRaces}
 use Rattle.pipe_model.specs.Outcome.{serial_ended_columns, serial_output, serial_trap}
 use Rattle.pipe_model.specs.Programs.{pipeline_of}
 use Rattle.pipe_model.specs.Races.{IsRaceFree}
 use Rattle.pipe_model.specs.SerialElision.{serial_columns, serial_accesses, serial_events}
-use Rattle.pipe_model.specs.Spelling.{IsFirstForm}
+use Rattle.pipe_model.specs.SourceRefusals.{IsAccepted, IsRefused, Refusal}
 use Rattle.pipe_model.specs.SyntaxTree.{SyntaxTree}
-use Rattle.pipe_model.specs.Texts.{output_lines, trap_line, refused_usage, refused_missing, refused_source, refused_input}
+use Rattle.pipe_model.specs.Texts.{output_lines, trap_line, refusal_line, refused_usage, refused_missing, refused_program, refused_input}
 use Rattle.cilkp_program.specs.CellNames.{race_lines}
 use Rattle.cilkp_program.specs.Reads.{Content}
 
@@ -25,26 +27,49 @@ words_of words = map string_bytes words
 abbrev pub run_words : (source input : List ℕ) → List (List ℕ)
 run_words source input = codes "run" ∷ source ∷ input ∷ []
 
+-- the command that prints the canonical text of a source's program: `format SOURCE`
+abbrev pub format_words : (source : List ℕ) → List (List ℕ)
+format_words source = codes "format" ∷ source ∷ []
+
+-- the words are a command that prints a source's program
+abbrev pub IsFormat : List (List ℕ) → Type 0
+IsFormat words = (source : List ℕ) × (words ≡ format_words source)
+
+-- the words are a command on this source
+pub data NamesSource (words : List (List ℕ)) (source : List ℕ) : Type 0 where
+  ByRun : (input : List ℕ) → words ≡ run_words source input → NamesSource words source
+  ByFormat : words ≡ format_words source → NamesSource words source
+
+-- the words are a command that runs a source on this input
+abbrev pub NamesInput : (words : List (List ℕ)) (input : List ℕ) → Type 0
+NamesInput words input = (source : List ℕ) × (words ≡ run_words source input)
+
 -- what the two files of a command hold, each by its bytes where there is such a file
 pub record Held : Type 0 where
   pub source : Option (List ℕ)
   pub input : Option (List ℕ)
 
 -- the files of the command hold what these files tell
-abbrev pub AreHeldBy : Content → List (List ℕ) → Held → Type 0
-AreHeldBy content words held =
-    (source input : List ℕ) → words ≡ run_words source input → (content source ≡ held.source) × (content input ≡ held.input)
+pub record AreHeldBy (content : Content) (words : List (List ℕ)) (held : Held) : Type 0 where
+  pub source : (name : List ℕ) → NamesSource words name → content name ≡ held.source
+  pub input : (name : List ℕ) → NamesInput words name → content name ≡ held.input
 
--- the file holds the source of the program
+-- the file holds a source that is accepted as the program
 pub record IsSourceOf (file : Option (List ℕ)) (tree : SyntaxTree) : Type 0 where
+  pub bytes : List ℕ
+  pub held : file ≡ Some bytes
+  pub accepted : IsAccepted bytes tree
+
+-- the file holds a source of the first form, which is accepted as the program
+pub record IsPlainSourceOf (file : Option (List ℕ)) (tree : SyntaxTree) : Type 0 where
   pub bytes : List ℕ
   pub held : file ≡ Some bytes
   pub form : IsFirstForm bytes tree
 
--- the line that refuses a source of this name: there is no such file, or it is the source of no program
+-- the line that refuses a source of this name: there is no such file, or it is not accepted
 pub data SourceRefusal (name : List ℕ) (file : Option (List ℕ)) : List ℕ → Type 0 where
   SourceMissing : file ≡ None → SourceRefusal name file (refused_missing name)
-  SourceNotBuilt : (bytes : List ℕ) → file ≡ Some bytes → ((tree : SyntaxTree) → IsFirstForm bytes tree → ⊥) → SourceRefusal name file refused_source
+  NotAccepted : (bytes : List ℕ) (refusal : Refusal) → file ≡ Some bytes → IsRefused bytes refusal → SourceRefusal name file (refusal_line refusal)
 
 -- the line that refuses an input of this name: there is no such file, or it is not empty
 pub data InputRefusal (name : List ℕ) (file : Option (List ℕ)) : List ℕ → Type 0 where
@@ -83,12 +108,15 @@ pub data Outcome (tree : SyntaxTree) : ℕ → List ℕ → List Report → Type
   Traps : (t : TrapAt) → HasNoRace tree → trap_of tree ≡ Some t → Outcome tree 3 (output_text tree ++ trap_line t) []
 
 -- the row of a call by its words and its files: its status, its text, its run log where the program is run, and its reports.
--- The first refusal in this order counts: the words, the source, the input
+-- The first refusal in this order counts: the words, the source, the input. Only programs of the first form are run
 pub data Row (words : List (List ℕ)) (held : Held) : ℕ → List ℕ → Option RunLog → List Report → Type 0 where
-  NoCommand : ((source input : List ℕ) → words ≢ run_words source input) → Row words held 1 refused_usage None []
-  SourceRefused : (source input : List ℕ) {text : List ℕ} → words ≡ run_words source input → SourceRefusal source held.source text
-      → Row words held 1 text None []
-  InputRefused : (source input : List ℕ) {text : List ℕ} (tree : SyntaxTree) → words ≡ run_words source input → IsSourceOf held.source tree
+  NoCommand : ((source input : List ℕ) → words ≢ run_words source input) → ((source : List ℕ) → words ≢ format_words source)
+      → Row words held 1 refused_usage None []
+  SourceRefused : (source : List ℕ) {text : List ℕ} → NamesSource words source → SourceRefusal source held.source text → Row words held 1 text None []
+  Formats : (source : List ℕ) (tree : SyntaxTree) → words ≡ format_words source → IsSourceOf held.source tree → Row words held 0 (program_text tree) None []
+  NotBuilt : (source input : List ℕ) (tree : SyntaxTree) → words ≡ run_words source input → IsSourceOf held.source tree
+      → (IsPlainSourceOf held.source tree → ⊥) → Row words held 1 refused_program None []
+  InputRefused : (source input : List ℕ) {text : List ℕ} (tree : SyntaxTree) → words ≡ run_words source input → IsPlainSourceOf held.source tree
       → InputRefusal input held.input text → Row words held 1 text None []
   Runs : (source input : List ℕ) {status : ℕ} {text : List ℕ} {reports : List Report} (tree : SyntaxTree) → words ≡ run_words source input
-      → IsSourceOf held.source tree → held.input ≡ Some [] → Outcome tree status text reports → Row words held status text (Some (log_of tree)) reports
+      → IsPlainSourceOf held.source tree → held.input ≡ Some [] → Outcome tree status text reports → Row words held status text (Some (log_of tree)) reports

@@ -1,23 +1,26 @@
 //! The top call.
 
 ghost use Rattle.std.specs.Prelude.{◌≡◌, ◌≢◌, ℕ, ◌≤◌, ◌⊎◌, ◌↔◌, List, [], IfOk, IfSome, IfNone, OnErr};
-ghost use Rattle.pipe_model.specs.Spelling.{IsFirstForm};
+ghost use Rattle.pipe_model.specs.CanonicalText.{program_text};
+ghost use Rattle.pipe_model.specs.FirstForm.{IsFirstForm};
 ghost use Rattle.pipe_model.specs.SyntaxTree.{SyntaxTree, tree_of};
 ghost use Rattle.pipe_model.specs.Texts.{fault_read};
 ghost use Rattle.cilkp_program.specs.Answers.{IsAnswer, IsPrinted, IsCutShort, IsGivenUp};
 ghost use Rattle.cilkp_program.specs.Faults.{Grew, Rose};
-ghost use Rattle.cilkp_program.specs.Headline.{AnswersRun, IsAccepted};
-ghost use Rattle.cilkp_program.specs.Rows.{Outcome, log_of, words_of, run_words};
+ghost use Rattle.cilkp_program.specs.Formatting.{AnswersText, IsToFormat};
+ghost use Rattle.cilkp_program.specs.Headline.{AnswersRun, IsToRun};
+ghost use Rattle.cilkp_program.specs.Rows.{IsFormat, Outcome, log_of, words_of, run_words, format_words};
 ghost use Rattle.cilkp_program.specs.RunTexts.{IsPrintedAs};
 
 use crate::files::Files;
 use crate::gate::Gate;
-use crate::load::{Input, Source, load_input, load_source};
+use crate::load::{Input, Loaded, Source, load_input, load_source};
 use crate::race_text::race_text;
 use crate::sink::Sink;
 use crate::text::{line, named_line, outcome_text};
 use crate::whole::{WriteEnd, write_text};
 use dag_build::dag::Dag;
+use pipe_format::program::format;
 use pipe_model::event::RunLog;
 use pipe_model::list::{Bytes, Numbers};
 use pipe_model::memory::NoMemory;
@@ -43,10 +46,10 @@ const WRITE_FAULT: u8 = 5;
 /// How a call ended.
 #[derive(Drop)]
 pub struct Ended {
-    /// 0: the run finished without a trap. 1: refused. 2: the program has a race. 3: the run trapped. 4: a read failed.
+    /// 0: the run finished without a trap, or the text of the program was printed. 1: refused. 2: the program has a race. 3: the run trapped. 4: a read failed.
     /// 5: a write failed.
     pub status: u8,
-    /// The run of the program: its events, and its own columns; none where a refusal or a fault of reading came.
+    /// The run of the program: its events, and its own columns; none where nothing was run.
     pub run_log: Option<RunLog>,
     /// The first race of each cell that has one, rising by cell; none where the program was not run.
     pub reports: Reports,
@@ -64,7 +67,7 @@ struct Answer {
 }
 
 // The names of the source and the input, where the words are the command `run SOURCE INPUT`.
-fn file_names(words: &[String]) -> Option<(&str, &str)>
+fn run_names(words: &[String]) -> Option<(&str, &str)>
     ensures some { IfSome result (λ names. words_of words.now ≡ run_words names.0.now names.1.now) }
     ensures none { IfNone result ((source input : List ℕ) → words_of words.now ≢ run_words source input) }
 {
@@ -76,6 +79,17 @@ fn file_names(words: &[String]) -> Option<(&str, &str)>
                 None
             }
         }
+        _ => None,
+    }
+}
+
+// The name of the source, where the words are the command `format SOURCE`.
+fn format_name(words: &[String]) -> Option<&str>
+    ensures some { IfSome result (λ name. words_of words.now ≡ format_words name.now) }
+    ensures none { IfNone result ((source : List ℕ) → words_of words.now ≢ format_words source) }
+{
+    match words {
+        [format, source] => { if format.as_str() == "format" { Some(source.as_str()) } else { None } }
         _ => None,
     }
 }
@@ -102,7 +116,7 @@ fn printed_run(
 
 // What a run of the program comes to, with its log: the run is the serial one, one iteration after the other.
 fn run_program(alloc: Global, program: &Program) -> Result<Answer, NoMemory>
-    requires { (bytes : List ℕ) × IsFirstForm bytes (tree_of program.now) }
+    requires { (source : List ℕ) × IsFirstForm source (tree_of program.now) }
     ensures outcome { IfOk result (λ a. Outcome (tree_of program.now) a.status a.text a.reports) }
     ensures log { IfOk result (λ a. a.run_log ≡ Some (log_of (tree_of program.now))) }
 {
@@ -147,6 +161,64 @@ fn read_fault(alloc: Global, name: &str) -> Result<Answer, NoMemory>
     })
 }
 
+// The canonical text of a program.
+fn text_of(alloc: Global, program: &Program) -> Result<Answer, NoMemory>
+    ensures { IfOk result (λ a. a ≡ record { status = 0; text = program_text (tree_of program.now); run_log = None; reports = [] }) }
+{
+    Ok(Answer {
+        status: FINISHED,
+        text: format(alloc, program)?,
+        run_log: None,
+        reports: Reports::new(alloc),
+    })
+}
+
+// What a call is to print that runs this source on this input.
+fn answer_run<F: Files>(
+    alloc: Global,
+    files: &mut F,
+    source: &str,
+    input: &str,
+) -> Result<Answer, NoMemory>
+    ensures keeps { F.holds files.new ≡ F.holds files.old }
+    ensures grows { OnErr result (F.faults files.old ≤ F.faults files.new) }
+    ensures answer { IfOk result (λ a. IsAnswer (run_words source.now input.now) (F.holds files.old)
+        (F.faults files.old) (F.faults files.new) a.status a.text a.run_log a.reports) }
+{
+    let Loaded {
+        program,
+        is_first_form,
+    } = match load_source(alloc, files, source)? {
+        Source::Accepted(loaded) => loaded,
+        Source::Refused(text) => return Ok(refused(alloc, text)),
+        Source::Failed => return read_fault(alloc, source),
+    };
+    if !is_first_form {
+        return Ok(refused(alloc, line(alloc, "refused source NotYetBuilt\n")?));
+    }
+    match load_input(alloc, files, input)? {
+        Input::Empty => {}
+        Input::Refused(text) => return Ok(refused(alloc, text)),
+        Input::Failed => return read_fault(alloc, input),
+    }
+    let answer = run_program(alloc, program.program())?;
+    Ok(answer)
+}
+
+// What a call is to print that prints the canonical text of this source's program.
+fn answer_format<F: Files>(alloc: Global, files: &mut F, source: &str) -> Result<Answer, NoMemory>
+    ensures keeps { F.holds files.new ≡ F.holds files.old }
+    ensures grows { OnErr result (F.faults files.old ≤ F.faults files.new) }
+    ensures answer { IfOk result (λ a. IsAnswer (format_words source.now) (F.holds files.old)
+        (F.faults files.old) (F.faults files.new) a.status a.text a.run_log a.reports) }
+{
+    match load_source(alloc, files, source)? {
+        Source::Accepted(loaded) => text_of(alloc, loaded.program.program()),
+        Source::Refused(text) => Ok(refused(alloc, text)),
+        Source::Failed => read_fault(alloc, source),
+    }
+}
+
 // What a call with these words is to print.
 fn answer_for<F: Files>(alloc: Global, words: &[String], files: &mut F) -> Result<Answer, NoMemory>
     ensures keeps { F.holds files.new ≡ F.holds files.old }
@@ -154,26 +226,19 @@ fn answer_for<F: Files>(alloc: Global, words: &[String], files: &mut F) -> Resul
     ensures answer { IfOk result (λ a. IsAnswer (words_of words.now) (F.holds files.old)
         (F.faults files.old) (F.faults files.new) a.status a.text a.run_log a.reports) }
 {
-    let Some((source, input)) = file_names(words) else {
-        return Ok(refused(alloc, line(alloc, "refused usage\n")?));
-    };
-    let program = match load_source(alloc, files, source)? {
-        Source::Program(program) => program,
-        Source::Refused(text) => return Ok(refused(alloc, text)),
-        Source::Failed => return read_fault(alloc, source),
-    };
-    match load_input(alloc, files, input)? {
-        Input::Empty => {}
-        Input::Refused(text) => return Ok(refused(alloc, text)),
-        Input::Failed => return read_fault(alloc, input),
+    if let Some((source, input)) = run_names(words) {
+        return answer_run(alloc, files, source, input);
     }
-    let answer = run_program(alloc, &program)?;
-    Ok(answer)
+    if let Some(source) = format_name(words) {
+        return answer_format(alloc, files, source);
+    }
+    Ok(refused(alloc, line(alloc, "refused usage\n")?))
 }
 
-/// Answers the words of a command, which are `run SOURCE INPUT`: all text goes to `out`, and what is answered is the
-/// status, the log of the run, the reports of races, and how many bytes were taken. The source has to be of the first
-/// form, and the input empty. The run is the serial one today, which is a run for every throttling limit of at least 1.
+/// Answers the words of a command, which are `run SOURCE INPUT` or `format SOURCE`: all text goes to `out`, and what is
+/// answered is the status, the log of the run, the reports of races, and how many bytes were taken. `run` takes sources of
+/// the first form and an empty input. The run is the serial one today, which is a run for every throttling limit of at
+/// least 1. `format` takes every source that is accepted, and prints the canonical text of its program.
 /// The runtime value and the gate are taken and not used yet. Fails for want of memory alone.
 pub fn cilkp<R: Drop, F: Files, S: Sink, G: Gate + Sync>(
     _rt: R,
@@ -188,8 +253,12 @@ pub fn cilkp<R: Drop, F: Files, S: Sink, G: Gate + Sync>(
     // when the serial elision's dag has such a pair, and otherwise prints exactly the serial elision's output and trap; at
     // most the throttling limit of iterations are alive at any event.
     ensures headline { IfOk result (λ e. ¬ (Rose (F.faults files.old) (F.faults files.new)) → ¬ (Rose (S.faults out.old) (S.faults out.new)) →
-        IfSome (F.holds files.old) (λ content. (tree : SyntaxTree) → IsAccepted (words_of words.now) content tree →
+        IfSome (F.holds files.old) (λ content. (tree : SyntaxTree) → IsToRun (words_of words.now) content tree →
         AnswersRun tree e.status e.written e.run_log e.reports (S.taken out.old) (S.taken out.new))) }
+    // For every accepted program that is to be printed, where no fault came from outside, its canonical text is taken whole.
+    ensures formatted { IfOk result (λ e. ¬ (Rose (F.faults files.old) (F.faults files.new)) → ¬ (Rose (S.faults out.old) (S.faults out.new)) →
+        IfSome (F.holds files.old) (λ content. (tree : SyntaxTree) → IsToFormat (words_of words.now) content tree →
+        AnswersText tree e.status e.written e.run_log e.reports (S.taken out.old) (S.taken out.new))) }
 
     // The text of the call's row, or of its fault of reading, was taken whole; the run log and the reports are those of the row.
     ensures printed { IfOk result (λ e. e.status ≢ 5 →
@@ -203,8 +272,8 @@ pub fn cilkp<R: Drop, F: Files, S: Sink, G: Gate + Sync>(
     ensures given_up { OnErr result
         (IsGivenUp (words_of words.now) (F.holds files.old) (F.faults files.old) (F.faults files.new)
         (S.taken out.old) (S.taken out.new)) }
-    // The run log is there exactly where neither a refusal nor a fault of reading came.
-    ensures logged { IfOk result (λ e. e.status ≢ 5 → (e.run_log ≡ None) ↔ ((e.status ≡ 1) ⊎ (e.status ≡ 4))) }
+    // The run log is there exactly where neither a refusal nor a fault of reading came, and the words are not that of a format.
+    ensures logged { IfOk result (λ e. e.status ≢ 5 → (e.run_log ≡ None) ↔ ((e.status ≡ 1) ⊎ ((e.status ≡ 4) ⊎ IsFormat (words_of words.now)))) }
 
     // Each fault has its cause in this call, and is told where its count grew.
     ensures read_fault { IfOk result (λ e. e.status ≡ 4 → Rose (F.faults files.old) (F.faults files.new)) }

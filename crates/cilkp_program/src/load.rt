@@ -1,31 +1,43 @@
 //! The source and the input of a command.
 
-ghost use Rattle.std.specs.Prelude.{◌≡◌, List, IfOk, IfSome, IfNone, OnErr};
-ghost use Rattle.pipe_model.specs.Spelling.{IsFirstForm};
-ghost use Rattle.pipe_model.specs.SyntaxTree.{SyntaxTree, tree_of};
+ghost use Rattle.std.specs.Prelude.{◌≡◌, IfOk, OnErr};
 ghost use Rattle.cilkp_program.specs.Faults.{CountsFault};
-ghost use Rattle.cilkp_program.specs.Loads.{is_source_fault, IsSourceAnswer, is_input_fault, IsInputAnswer};
+ghost use Rattle.cilkp_program.specs.Loads.{is_source_fault, Gave, IsSourceAnswer, is_input_fault, IsInputAnswer};
 
 use crate::files::Files;
+use crate::first_form::is_first_form;
+use crate::refusal::{check_line, lexical_line, syntax_line};
 use crate::text::{line, named_line};
 use crate::whole::{Whole, read_whole};
+use pipe_check::checked::Checked;
+use pipe_check::program::check;
+use pipe_lexer::fault::LexFault;
+use pipe_lexer::scan::tokens;
 use pipe_model::list::Bytes;
 use pipe_model::memory::NoMemory;
-use pipe_model::tree::Program;
-use pipe_parser::first_form::{FirstFault, LONGEST_SOURCE, read_program};
+use pipe_parser::parse::{Parsed, parse};
 use std::alloc::Global;
+
+/// How many bytes a source has at most.
+const LONGEST_SOURCE: usize = 1_048_576;
 
 const MISSING: &str = "refused missing ";
 
-const SOURCE_NOT_BUILT: &str = "refused source NotYetBuilt\n";
-
 const INPUT_NOT_BUILT: &str = "refused input NotYetBuilt\n";
+
+/// The program of a source that is accepted.
+#[derive(Drop)]
+pub struct Loaded {
+    pub program: Checked,
+    /// Whether the source is of the first form, comments aside: only such programs can be run today.
+    pub is_first_form: bool,
+}
 
 /// How the loading of a source ended.
 #[derive(Drop)]
 pub enum Source {
-    /// The program of the source.
-    Program(Program),
+    /// The source is accepted.
+    Accepted(Loaded),
     /// The line that refuses the source.
     Refused(Bytes),
     /// A read failed.
@@ -40,27 +52,33 @@ pub fn load_source<F: Files>(alloc: Global, files: &mut F, name: &str) -> Result
     ensures memory { OnErr result (F.faults files.new ≡ F.faults files.old) }
     ensures answer { IfOk result (λ source. IsSourceAnswer (F.holds files.old) name.now source) }
 {
-    let bytes = match read_whole(alloc, files, name, LONGEST_SOURCE)? {
-        Whole::Missing => return Ok(Source::Refused(named_line(alloc, MISSING, name)?)),
-        Whole::Failed => return Ok(Source::Failed),
-        Whole::TooLong => return Ok(Source::Refused(line(alloc, SOURCE_NOT_BUILT)?)),
-        Whole::Bytes(bytes) => bytes,
-    };
-    match program_of(alloc, bytes.as_slice())? {
-        Some(program) => Ok(Source::Program(program)),
-        None => Ok(Source::Refused(line(alloc, SOURCE_NOT_BUILT)?)),
+    match read_whole(alloc, files, name, LONGEST_SOURCE)? {
+        Whole::Missing => Ok(Source::Refused(named_line(alloc, MISSING, name)?)),
+        Whole::Failed => Ok(Source::Failed),
+        Whole::TooLong => Ok(Source::Refused(lexical_line(alloc, LexFault::SourceTooLong)?)),
+        Whole::Bytes(bytes) => source_of(alloc, bytes.as_slice()),
     }
 }
 
-// The program of a source of the first form.
-fn program_of(alloc: Global, source: &[u8]) -> Result<Option<Program>, NoMemory>
-    ensures some { IfOk result (λ o. IfSome o (λ program. IsFirstForm source.now (tree_of program))) }
-    ensures none { IfOk result (λ o. IfNone o ((tree : SyntaxTree) → IsFirstForm source.now tree → ⊥)) }
+// The program of these bytes, or the line that refuses them: the first fault of the lexer, the parser or the checker.
+fn source_of(alloc: Global, source: &[u8]) -> Result<Source, NoMemory>
+    ensures { IfOk result (λ answer. Gave source.now answer) }
 {
-    match read_program(alloc, source) {
-        Ok(program) => Ok(Some(program)),
-        Err(FirstFault::NotYetBuilt) => Ok(None),
-        Err(FirstFault::NoMemory) => Err(NoMemory),
+    let tokens = match tokens(alloc, source) {
+        Ok(tokens) => tokens,
+        Err(fault) => return Ok(Source::Refused(lexical_line(alloc, fault)?)),
+    };
+    let Parsed { program, places } = match parse(alloc, source, &tokens) {
+        Ok(parsed) => parsed,
+        Err(fault) => return Ok(Source::Refused(syntax_line(alloc, fault)?)),
+    };
+    let is_first_form = is_first_form(tokens.as_slice(), &program);
+    match check(alloc, program) {
+        Ok(program) => Ok(Source::Accepted(Loaded {
+            program,
+            is_first_form,
+        })),
+        Err(fault) => Ok(Source::Refused(check_line(alloc, fault, places.as_slice())?)),
     }
 }
 

@@ -6,6 +6,7 @@ pub mod call;
 pub mod fault_count;
 pub mod fault_plan;
 pub mod files;
+pub mod first_form;
 pub mod gate;
 pub mod law;
 pub mod load;
@@ -15,6 +16,7 @@ pub mod race_text;
 #[cfg(test)]
 mod race_text_tests;
 pub mod real;
+pub mod refusal;
 #[cfg(test)]
 mod row_tests;
 pub mod sink;

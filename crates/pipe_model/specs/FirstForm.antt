@@ -7,6 +7,8 @@ use Rattle.std.specs.List.{count_by, list_all}
 use Rattle.pipe_model.specs.declared.symbol.Symbol.{Symbol}
 use Rattle.pipe_model.specs.declared.symbol.Symbol.TheVariants as symbols
 use Rattle.pipe_model.specs.declared.tree.Declaration.{Declaration}
+use Rattle.pipe_model.specs.SourceRefusals.{IsAccepted}
+use Rattle.pipe_model.specs.Tokens.{symbols_in}
 use Rattle.pipe_model.specs.SyntaxTree.{Expression, Number, Name, Element, And, Or, Binary, Unary, More, Take, Iter, Statement, Let, Assign, AssignElement, Emit, If, While, Stage, NextStage, Statements, Empty, Then, SyntaxTree}
 
 -- ---- trees
@@ -94,3 +96,10 @@ pub record IsPlain (ts : List Symbol) (tree : SyntaxTree) : Type 0 where
   pub body : are_plain_statements tree.body ≡ true
   pub no_part : count_by begins_part ts ≡ 0
   pub no_bracket : count_by is_open_round ts ≡ 1 + stages_in tree.body
+
+-- ---- sources
+
+-- the source is accepted as the program, and both are of the first form
+pub record IsFirstForm (source : List ℕ) (tree : SyntaxTree) : Type 0 where
+  pub accepted : IsAccepted source tree
+  pub plain : IsPlain (symbols_in source accepted.spelled.tokens) tree

@@ -1,0 +1,89 @@
+-- The faults of the lexer, the parser and the checker are refusals of the source, and their lines are its line.
+use Rattle.std.proofs.Common.{◌≡◌, ℕ, pos, List, slice_get, Some, None, IsTrue, IsFalse, Bool, refl}
+use Rattle.pipe_check.specs.declared.fault.CheckFault.{CheckFault}
+use Rattle.pipe_check.specs.declared.fault.CheckFault.TheVariants as checks
+use Rattle.pipe_check.specs.Passing.{Tells}
+use Rattle.pipe_lexer.specs.declared.fault.LexFault.{LexFault}
+use Rattle.pipe_lexer.specs.declared.fault.LexFault.TheVariants as lexer
+use Rattle.pipe_lexer.specs.Faults.{IsFaultOf}
+use Rattle.pipe_model.specs.declared.token.Token.{Token}
+use Rattle.pipe_model.specs.CheckingRules as checking
+use Rattle.pipe_model.specs.CheckingRules.{Broken, fault_of}
+use Rattle.pipe_model.specs.FirstForm.{IsFirstForm, IsPlain}
+use Rattle.pipe_model.specs.MarkPlaces.{mark_places}
+use Rattle.pipe_model.specs.SourceRefusals.{IsAccepted, Lexical, Syntactic, LimitOut, RuleBroken, ForItsText, ForAToken, ForALimit, ForARule}
+use Rattle.pipe_model.specs.SourceSpelling.{SourceSpells}
+use Rattle.pipe_model.specs.Spelling as grammar
+use Rattle.pipe_model.specs.SyntaxTree.{SyntaxTree}
+use Rattle.pipe_model.specs.Tokens.{BadByte, TooWide, SourceTooLong, NameTooLong, IsLexed, symbols_in}
+use Rattle.pipe_parser.specs.declared.parse.ParseFault.{ParseFault}
+use Rattle.pipe_parser.specs.declared.parse.ParseFault.TheVariants as parser
+use Rattle.pipe_parser.specs.Parses.{IsFault}
+use Rattle.language_laws.proofs.MarkPlaces.{place_of_broken}
+use Rattle.pipe_model.proofs.SourceRefusals.{one_lexed}
+use Rattle.cilkp_program.specs.Loads.{AreLoaded, AreRefused}
+use Rattle.cilkp_program.specs.RefusalLines.{HasPlace, IsCheckLine, IsLexicalLine, IsRuleLine, IsSyntaxLine}
+
+-- a fault of the text
+pub text_refused : (source : List ℕ) (fault : LexFault) (line : List ℕ) → IsFaultOf source fault → IsLexicalLine fault line → AreRefused source line
+text_refused source (lexer.BadByte place) line h e = record { refusal = Lexical (BadByte place); refused = ForItsText _ h; line_is = e }
+text_refused source (lexer.TooWide place) line h e = record { refusal = Lexical (TooWide place); refused = ForItsText _ h; line_is = e }
+text_refused source lexer.SourceTooLong line h e = record { refusal = Lexical SourceTooLong; refused = ForItsText _ h; line_is = e }
+text_refused source (lexer.NameTooLong place) line h e = record { refusal = Lexical (NameTooLong place); refused = ForItsText _ h; line_is = e }
+text_refused source lexer.NoMemory line h e = absurd e
+
+-- a fault of the tokens
+pub tokens_refused : (source : List ℕ) (tokens : List Token) (fault : ParseFault) (line : List ℕ) → IsLexed source tokens → IsFault source tokens fault
+    → IsSyntaxLine fault line → AreRefused source line
+tokens_refused source tokens (parser.Unexpected place) line l h e =
+    record { refusal = Syntactic grammar.Expected place; refused = ForAToken tokens grammar.Expected place l h; line_is = e }
+tokens_refused source tokens (parser.TooDeep place) line l h e =
+    record { refusal = Syntactic grammar.Shallow place; refused = ForAToken tokens grammar.Shallow place l h; line_is = e }
+tokens_refused source tokens (parser.TooLong place) line l h e =
+    record { refusal = Syntactic grammar.Short place; refused = ForAToken tokens grammar.Short place l h; line_is = e }
+tokens_refused source tokens parser.NoMemory line l h e = absurd e
+
+-- the mark of a fault has a place
+pub fault_has_place : (source : List ℕ) (tree : SyntaxTree) (s : SourceSpells source tree) (fault : CheckFault) → Tells fault (fault_of tree)
+    → HasPlace fault (mark_places s.tokens)
+fault_has_place source tree s (checks.LimitOut which) t = tt
+fault_has_place source tree s (checks.Unknown mark) t = place_of_broken source tree s _ mark t
+fault_has_place source tree s (checks.Twice mark) t = place_of_broken source tree s _ mark t
+fault_has_place source tree s (checks.PipeOutside mark) t = place_of_broken source tree s _ mark t
+fault_has_place source tree s (checks.TooManyCells mark) t = place_of_broken source tree s _ mark t
+fault_has_place source tree s (checks.TooManyLocals mark) t = place_of_broken source tree s _ mark t
+fault_has_place source tree s (checks.NotAnArray mark) t = place_of_broken source tree s _ mark t
+fault_has_place source tree s (checks.NeedsIndex mark) t = place_of_broken source tree s _ mark t
+fault_has_place source tree s (checks.ZeroSize mark) t = place_of_broken source tree s _ mark t
+fault_has_place source tree s checks.NoMemory t = tt
+
+-- a rule that is broken
+rule_refused : (source : List ℕ) (tree : SyntaxTree) (s : SourceSpells source tree) (rule : checking.Rule) (mark : ℕ) (line : List ℕ)
+    → fault_of tree ≡ Some (Broken rule mark) → IsRuleLine rule (mark_places s.tokens) mark line → AreRefused source line
+rule_refused source tree s rule mark line t r =
+    record { refusal = RuleBroken rule r.place; refused = ForARule tree rule mark r.place s t r.found; line_is = r.line_is }
+
+-- a fault of the program
+pub program_refused : (source : List ℕ) (tree : SyntaxTree) (s : SourceSpells source tree) (fault : CheckFault) (line : List ℕ) → Tells fault (fault_of tree)
+    → IsCheckLine fault (mark_places s.tokens) line → AreRefused source line
+program_refused source tree s (checks.LimitOut which) line t e = record { refusal = LimitOut which; refused = ForALimit tree which s t; line_is = e }
+program_refused source tree s (checks.Unknown mark) line t r = rule_refused source tree s _ mark line t r
+program_refused source tree s (checks.Twice mark) line t r = rule_refused source tree s _ mark line t r
+program_refused source tree s (checks.PipeOutside mark) line t r = rule_refused source tree s _ mark line t r
+program_refused source tree s (checks.TooManyCells mark) line t r = rule_refused source tree s _ mark line t r
+program_refused source tree s (checks.TooManyLocals mark) line t r = rule_refused source tree s _ mark line t r
+program_refused source tree s (checks.NotAnArray mark) line t r = rule_refused source tree s _ mark line t r
+program_refused source tree s (checks.NeedsIndex mark) line t r = rule_refused source tree s _ mark line t r
+program_refused source tree s (checks.ZeroSize mark) line t r = rule_refused source tree s _ mark line t r
+program_refused source tree s checks.NoMemory line t e = absurd e
+
+-- a program that breaks no rule is accepted, and it is known whether it is of the first form
+pub program_accepted : (source : List ℕ) (tree : SyntaxTree) (s : SourceSpells source tree) (is_first_form : Bool) → fault_of tree ≡ None
+    → (IsTrue is_first_form → IsPlain (symbols_in source s.tokens) tree) → (IsFalse is_first_form → IsPlain (symbols_in source s.tokens) tree → ⊥)
+    → AreLoaded source tree is_first_form
+program_accepted source tree s is_first_form obeys yes no =
+    record {
+      accepted = record { spelled = s; obeys = obeys };
+      plain = λ h. record { accepted = record { spelled = s; obeys = obeys }; plain = yes h };
+      other = λ h form. no h (rw (one_lexed source form.accepted.spelled.tokens s.tokens form.accepted.spelled.lexed s.lexed) at form.plain);
+    }

@@ -1,0 +1,64 @@
+-- The line of each fault of the lexer, the parser and the checker. Want of memory has none.
+use Rattle.std.specs.Prelude.{◌≡◌, ℕ, ℤ, pos, List, slice_get, Some}
+use Rattle.pipe_check.specs.declared.fault.CheckFault.{CheckFault}
+use Rattle.pipe_check.specs.declared.fault.CheckFault.TheVariants as checks
+use Rattle.pipe_lexer.specs.declared.fault.LexFault.{LexFault}
+use Rattle.pipe_lexer.specs.declared.fault.LexFault.TheVariants as lexer
+use Rattle.pipe_parser.specs.declared.parse.ParseFault.{ParseFault}
+use Rattle.pipe_parser.specs.declared.parse.ParseFault.TheVariants as parser
+use Rattle.pipe_model.specs.CheckingRules as checking
+use Rattle.pipe_model.specs.SourceRefusals.{LimitOut}
+use Rattle.pipe_model.specs.Spelling as grammar
+use Rattle.pipe_model.specs.Texts.{lexical_line, refusal_line, rule_line, syntax_line}
+use Rattle.pipe_model.specs.Tokens.{BadByte, TooWide, SourceTooLong, NameTooLong}
+
+-- the line of a fault of the text
+abbrev pub IsLexicalLine : LexFault → List ℕ → Type 0
+IsLexicalLine (lexer.BadByte place) line = line ≡ lexical_line (BadByte place)
+IsLexicalLine (lexer.TooWide place) line = line ≡ lexical_line (TooWide place)
+IsLexicalLine lexer.SourceTooLong line = line ≡ lexical_line SourceTooLong
+IsLexicalLine (lexer.NameTooLong place) line = line ≡ lexical_line (NameTooLong place)
+IsLexicalLine lexer.NoMemory line = ⊥
+
+-- the line of a fault of the tokens
+abbrev pub IsSyntaxLine : ParseFault → List ℕ → Type 0
+IsSyntaxLine (parser.Unexpected place) line = line ≡ syntax_line grammar.Expected place
+IsSyntaxLine (parser.TooDeep place) line = line ≡ syntax_line grammar.Shallow place
+IsSyntaxLine (parser.TooLong place) line = line ≡ syntax_line grammar.Short place
+IsSyntaxLine parser.NoMemory line = ⊥
+
+-- the mark with this number has a place
+abbrev pub HasPlaceAt : List ℤ → ℕ → Type 0
+HasPlaceAt places mark = (place : ℕ) × (slice_get places mark ≡ Some (pos place))
+
+-- the mark of a fault of the program has a place, where the fault has a mark
+abbrev pub HasPlace : CheckFault → List ℤ → Type 0
+HasPlace (checks.LimitOut which) places = Unit {0}
+HasPlace (checks.Unknown mark) places = HasPlaceAt places mark
+HasPlace (checks.Twice mark) places = HasPlaceAt places mark
+HasPlace (checks.PipeOutside mark) places = HasPlaceAt places mark
+HasPlace (checks.TooManyCells mark) places = HasPlaceAt places mark
+HasPlace (checks.TooManyLocals mark) places = HasPlaceAt places mark
+HasPlace (checks.NotAnArray mark) places = HasPlaceAt places mark
+HasPlace (checks.NeedsIndex mark) places = HasPlaceAt places mark
+HasPlace (checks.ZeroSize mark) places = HasPlaceAt places mark
+HasPlace checks.NoMemory places = Unit {0}
+
+-- the line of a rule that is broken at the mark with this number, by the places of the marks
+pub record IsRuleLine (rule : checking.Rule) (places : List ℤ) (mark : ℕ) (line : List ℕ) : Type 0 where
+  pub place : ℕ
+  pub found : slice_get places mark ≡ Some (pos place)
+  pub line_is : line ≡ rule_line rule place
+
+-- the line of a fault of the program
+abbrev pub IsCheckLine : CheckFault → List ℤ → List ℕ → Type 0
+IsCheckLine (checks.LimitOut which) places line = line ≡ refusal_line (LimitOut which)
+IsCheckLine (checks.Unknown mark) places line = IsRuleLine checking.Unknown places mark line
+IsCheckLine (checks.Twice mark) places line = IsRuleLine checking.Twice places mark line
+IsCheckLine (checks.PipeOutside mark) places line = IsRuleLine checking.PipeOutside places mark line
+IsCheckLine (checks.TooManyCells mark) places line = IsRuleLine checking.TooManyCells places mark line
+IsCheckLine (checks.TooManyLocals mark) places line = IsRuleLine checking.TooManyLocals places mark line
+IsCheckLine (checks.NotAnArray mark) places line = IsRuleLine checking.NotAnArray places mark line
+IsCheckLine (checks.NeedsIndex mark) places line = IsRuleLine checking.NeedsIndex places mark line
+IsCheckLine (checks.ZeroSize mark) places line = IsRuleLine checking.ZeroSize places mark line
+IsCheckLine checks.NoMemory places line = ⊥

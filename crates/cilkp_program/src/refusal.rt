@@ -1,0 +1,93 @@
+//! The lines that refuse a source.
+
+ghost use Rattle.std.specs.Prelude.{◌≡◌, ℕ, pos, slice_get, Some, IfOk};
+ghost use Rattle.pipe_model.specs.Texts.{numbered_line};
+ghost use Rattle.cilkp_program.specs.RefusalLines.{IsCheckLine, IsLexicalLine, IsSyntaxLine, HasPlace, HasPlaceAt};
+
+use crate::text::line;
+use pipe_check::fault::CheckFault;
+use pipe_lexer::fault::LexFault;
+use pipe_model::list::Bytes;
+use pipe_model::memory::NoMemory;
+use pipe_parser::parse::ParseFault;
+use std::alloc::Global;
+
+// A line that ends in a number.
+fn numbered_line(alloc: Global, before: &str, number: u32) -> Result<Bytes, NoMemory>
+    ensures { IfOk result (λ bytes. bytes ≡ numbered_line before.now number) }
+{
+    let text = format!(in alloc; "{before}{number}\n")?;
+    Ok(Bytes::from_vec(text.into_bytes()))
+}
+
+/// The line of a fault of the lexer. Fails for want of memory alone, which is the answer to a fault that is one too.
+pub fn lexical_line(alloc: Global, fault: LexFault) -> Result<Bytes, NoMemory>
+    ensures { IfOk result (λ bytes. IsLexicalLine fault bytes) }
+{
+    match fault {
+        LexFault::BadByte(place) => numbered_line(alloc, "refused source BadByte at ", place),
+        LexFault::TooWide(place) => numbered_line(alloc, "refused source TooWide at ", place),
+        LexFault::SourceTooLong => line(alloc, "refused source SourceTooLong\n"),
+        LexFault::NameTooLong(place) => {
+            numbered_line(alloc, "refused source NameTooLong at ", place)
+        }
+        LexFault::NoMemory => Err(NoMemory),
+    }
+}
+
+/// The line of a fault of the parser. Fails for want of memory alone, which is the answer to a fault that is one too.
+pub fn syntax_line(alloc: Global, fault: ParseFault) -> Result<Bytes, NoMemory>
+    ensures { IfOk result (λ bytes. IsSyntaxLine fault bytes) }
+{
+    match fault {
+        ParseFault::Unexpected(place) => numbered_line(alloc, "refused source Unexpected at ", place),
+        ParseFault::TooDeep(place) => numbered_line(alloc, "refused source TooDeep at ", place),
+        ParseFault::TooLong(place) => numbered_line(alloc, "refused source TooLong at ", place),
+        ParseFault::NoMemory => Err(NoMemory),
+    }
+}
+
+// A line that ends in the place of the mark with this number.
+fn placed_line(
+    alloc: Global,
+    before: &str,
+    places: &[i64],
+    mark: u32,
+) -> Result<Bytes, NoMemory>
+    requires { HasPlaceAt places.now mark }
+    ensures { IfOk result (λ bytes. (place : ℕ) × (slice_get places.now mark ≡ Some (pos place)) × (bytes ≡ numbered_line before.now place)) }
+{
+    let place = places[mark as usize];
+    let text = format!(in alloc; "{before}{place}\n")?;
+    Ok(Bytes::from_vec(text.into_bytes()))
+}
+
+/// The line of a fault of the checker, by the places of the program's marks. Fails for want of memory alone, which is the
+/// answer to a fault that is one too.
+pub fn check_line(alloc: Global, fault: CheckFault, places: &[i64]) -> Result<Bytes, NoMemory>
+    requires { HasPlace fault places.now }
+    ensures { IfOk result (λ bytes. IsCheckLine fault places.now bytes) }
+{
+    match fault {
+        CheckFault::LimitOut(which) => numbered_line(alloc, "refused check LimitOut ", which),
+        CheckFault::Unknown(mark) => placed_line(alloc, "refused check Unknown at ", places, mark),
+        CheckFault::Twice(mark) => placed_line(alloc, "refused check Twice at ", places, mark),
+        CheckFault::PipeOutside(mark) => {
+            placed_line(alloc, "refused check PipeOutside at ", places, mark)
+        }
+        CheckFault::TooManyCells(mark) => {
+            placed_line(alloc, "refused check TooManyCells at ", places, mark)
+        }
+        CheckFault::TooManyLocals(mark) => {
+            placed_line(alloc, "refused check TooManyLocals at ", places, mark)
+        }
+        CheckFault::NotAnArray(mark) => {
+            placed_line(alloc, "refused check NotAnArray at ", places, mark)
+        }
+        CheckFault::NeedsIndex(mark) => {
+            placed_line(alloc, "refused check NeedsIndex at ", places, mark)
+        }
+        CheckFault::ZeroSize(mark) => placed_line(alloc, "refused check ZeroSize at ", places, mark),
+        CheckFault::NoMemory => Err(NoMemory),
+    }
+}
