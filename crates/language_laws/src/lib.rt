@@ -3,10 +3,8 @@
 #![tactic(auto)]
 
 pub mod examples;
-pub mod first_form;
 pub mod marks;
 pub mod programs;
 pub mod spellable;
 pub mod spelling;
 pub mod tokens;
-pub mod whole_spelling;
