@@ -8,3 +8,4 @@ pub mod TokenCounts
 pub mod WritableOperators
 pub mod SpellablePrograms
 pub mod MarkedTokens
+pub mod MarkPlaces
