@@ -9,3 +9,4 @@ pub mod WritableOperators
 pub mod SpellablePrograms
 pub mod MarkedTokens
 pub mod MarkPlaces
+pub mod AcceptedOrRefused

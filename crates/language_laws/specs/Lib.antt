@@ -4,3 +4,4 @@ pub mod TokenLaws
 pub mod ProgramLaws
 pub mod SpellableLaws
 pub mod MarkLaws
+pub mod RefusalLaws

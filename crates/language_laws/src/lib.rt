@@ -5,6 +5,7 @@
 pub mod examples;
 pub mod marks;
 pub mod programs;
+pub mod refusals;
 pub mod spellable;
 pub mod spelling;
 pub mod tokens;
