@@ -8,3 +8,5 @@ pub mod TokenCounts
 pub mod WritableOperators
 pub mod SpellablePrograms
 pub mod MarkedTokens
+pub mod MarkPlaces
+pub mod AcceptedOrRefused

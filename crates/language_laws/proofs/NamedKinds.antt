@@ -1,8 +1,7 @@
 -- The kinds of the stages that statements name.
 use Rattle.std.proofs.Common.{◌≢◌, ℕ, List}
 use Rattle.pipe_model.specs.declared.node.Kind.TheVariants.{Zero}
-use Rattle.pipe_model.specs.declared.symbol.Symbol.{Symbol}
-use Rattle.pipe_model.specs.Grammar.{DerivesStatement, LetIs, AssignIs, EmitIs, WaitIs, WaitNextIs, ContinueIs, ContinueNextIs, DerivesStatements, NoStatement, OneMore}
+use Rattle.pipe_model.specs.Grammar.{Piece, DerivesStatement, LetIs, AssignIs, AssignElementIs, EmitIs, IfIs, WhileIs, WaitIs, WaitNextIs, ContinueIs, ContinueNextIs, DerivesStatements, NoStatement, OneMore, DerivesBlock, BlockIs, DerivesPart, NoPart, PartIs}
 use Rattle.pipe_model.specs.SyntaxTree.{Statement, Let, Assign, AssignElement, Emit, If, While, Stage, NextStage, Statements, Empty, Then}
 
 abbrev mutual
@@ -22,16 +21,30 @@ abbrev mutual
   AllNameKinds Empty = Unit {0}
   AllNameKinds (Then s ss) = NamesKinds s × AllNameKinds ss
 
-derived_names_kinds : {longest : ℕ} {ts : List Symbol} {s : Statement} → DerivesStatement longest ts s → NamesKinds s
-derived_names_kinds (LetIs name d) = tt
-derived_names_kinds (AssignIs name d) = tt
-derived_names_kinds (EmitIs d) = tt
-derived_names_kinds (WaitIs d) = λ e. cc (e)
-derived_names_kinds WaitNextIs = λ e. cc (e)
-derived_names_kinds (ContinueIs d) = λ e. cc (e)
-derived_names_kinds ContinueNextIs = λ e. cc (e)
+mutual
+  -- a derived statement names its kinds by the words of the grammar
+  derived_names_kinds : {ps : List Piece} {s : Statement} → DerivesStatement ps s → NamesKinds s
+  derived_names_kinds (LetIs x d) = tt
+  derived_names_kinds (AssignIs x d) = tt
+  derived_names_kinds (AssignElementIs x i d) = tt
+  derived_names_kinds (EmitIs d) = tt
+  derived_names_kinds (IfIs d a b) = (block_names_kinds a, part_names_kinds b)
+  derived_names_kinds (WhileIs d a) = block_names_kinds a
+  derived_names_kinds (WaitIs d) = λ e. cc (e)
+  derived_names_kinds WaitNextIs = λ e. cc (e)
+  derived_names_kinds (ContinueIs d) = λ e. cc (e)
+  derived_names_kinds ContinueNextIs = λ e. cc (e)
 
--- what is derived names kinds
-pub derived_name_kinds : {longest : ℕ} {ts : List Symbol} {ss : Statements} → DerivesStatements longest ts ss → AllNameKinds ss
-derived_name_kinds NoStatement = tt
-derived_name_kinds (OneMore d ds) = (derived_names_kinds d, derived_name_kinds ds)
+  -- so does each of derived statements
+  derived_name_kinds : {ps : List Piece} {ss : Statements} → DerivesStatements ps ss → AllNameKinds ss
+  derived_name_kinds NoStatement = tt
+  derived_name_kinds (OneMore d ds) = (derived_names_kinds d, derived_name_kinds ds)
+
+  -- so does each statement of a block
+  pub block_names_kinds : {ps : List Piece} {ss : Statements} → DerivesBlock ps ss → AllNameKinds ss
+  block_names_kinds (BlockIs d) = derived_name_kinds d
+
+  -- so does each of a part that may be missing
+  part_names_kinds : {word : ℕ} {ps : List Piece} {ss : Statements} → DerivesPart word ps ss → AllNameKinds ss
+  part_names_kinds NoPart = tt
+  part_names_kinds (PartIs d) = block_names_kinds d

@@ -1,21 +1,20 @@
--- The programs of the first form are well-formed pipelines.
-use Rattle.std.proofs.Common.{◌≡◌, ℕ, zero, suc, ℤ, pos, negsuc, Bool, true, false, ◌&&◌, List, [], refl, if◌then◌else◌}
+-- Accepted programs are well-formed pipelines.
+use Rattle.std.proofs.Common.{◌≡◌, ℕ, zero, suc, ℤ, pos, negsuc, Bool, true, false, not, List, [], Option, Some, None, refl, if◌then◌else◌}
 use Rattle.std.specs.Ordering.{int_eq}
 use Rattle.std.proofs.lemmas.Bool.Decides.{Decides-int_eq}
 use Rattle.pipe_model.specs.declared.column.ColumnEnd.{ColumnEnd}
-use Rattle.pipe_model.specs.declared.symbol.Symbol.{Symbol}
 use Rattle.pipe_model.specs.declared.trap.Trap.TheVariants as traps
 use Rattle.pipe_model.specs.Behaviour.{is_closing}
 use Rattle.pipe_model.specs.Evaluation.{Setting, first_environment, run_iteration}
-use Rattle.pipe_model.specs.Grammar.{DerivesProgram, ProgramIs}
+use Rattle.pipe_model.specs.CheckingRules.{Fault, fault_of, is_between, limit_fault_or, limit_out}
+use Rattle.pipe_model.specs.Grammar.{Piece, DerivesProgram, ProgramIs}
 use Rattle.pipe_model.specs.Interaction.{Interaction, with_budget}
 use Rattle.pipe_model.specs.Pipeline.{AlwaysClosesLoop, IsWellFormed}
 use Rattle.pipe_model.specs.Programs.{natural, pipeline_of, setting_of}
-use Rattle.pipe_model.specs.Rules.{is_between, limits_are_in_range}
-use Rattle.pipe_model.specs.Spelling.{IsFirstForm}
+use Rattle.pipe_model.specs.SourceRefusals.{IsAccepted}
 use Rattle.pipe_model.specs.SyntaxTree.{Expression, Statements, SyntaxTree}
 use Rattle.language_laws.proofs.LegalStages.{Rises, RisesReturn, RisesRaise, RisesStep, EndsRightly, either_by_zero, legal-with_budget, rises-bind, rises-execute_all, straight-then}
-use Rattle.language_laws.proofs.NamedKinds.{AllNameKinds, derived_name_kinds}
+use Rattle.language_laws.proofs.NamedKinds.{AllNameKinds, block_names_kinds}
 use Rattle.language_laws.proofs.Straight.{IsStraight, Returns, Raises, Steps, Gets, Sets, straight-bind, straight-evaluate}
 use Rattle.language_laws.proofs.Straight.{either_by_zero as straight_by_zero}
 
@@ -51,27 +50,36 @@ closes-run_iteration w test body last =
     (let t : int_eq (pos w.world.iteration) w.world.iterations ≡ true = (Decides-int_eq (pos w.world.iteration) w.world.iterations).1 last in
     rw t (Raises traps.IterLimit))))
 
--- of two tests that both pass, the first passes
-first_passes : (a b : Bool) → (a && b) ≡ true → a ≡ true
-first_passes true b h = refl
-first_passes false b h = h
-
 -- a number from 1 on is its natural number
 natural_is : (z : ℤ) → is_between (pos 1) (pos 65536) z ≡ true → pos (natural z) ≡ z
 natural_is (pos n) h = refl
 natural_is (negsuc n) h = cc (h)
 
--- the body of a derived program
-body_is_derived : {longest : ℕ} {ts : List Symbol} {tree : SyntaxTree} → DerivesProgram longest ts tree → AllNameKinds tree.body
-body_is_derived (ProgramIs n s b e cells test body) = derived_name_kinds body
+-- where no limit is out of its range, the first test of the first limit passed
+first_in_range : (ok : Bool) (rest : Option ℕ) → (if not ok then Some 1 else rest) ≡ None → ok ≡ true
+first_in_range true rest h = refl
+first_in_range false rest h = cc (h)
 
--- a program of the first form is a well-formed pipeline
-pub first_form_is_well_formed : (source : List ℕ) (tree : SyntaxTree) (input : List ℤ) → IsFirstForm source tree → IsWellFormed (pipeline_of tree input)
-first_form_is_well_formed source tree input f = record {
-  legal = λ i. legal-with_budget (natural tree.limits.steps) (natural tree.limits.steps) (rises-run_iteration (setting_of tree input i) tree.test tree.body (body_is_derived f.spelled.derived));
+-- a program without a fault has no limit that is out of its range
+no_limit_out : (o : Option ℕ) (rest : Option Fault) → limit_fault_or o rest ≡ None → o ≡ None
+no_limit_out None rest h = refl
+no_limit_out (Some which) rest h = cc (h)
+
+-- the iterations of a program without a fault are in their range
+iterations_in_range : (tree : SyntaxTree) → fault_of tree ≡ None → is_between (pos 1) (pos 65536) tree.limits.iterations ≡ true
+iterations_in_range tree h = first_in_range (is_between (pos 1) (pos 65536) tree.limits.iterations) _ (no_limit_out (limit_out tree.limits) _ h)
+
+-- the body of a derived program
+body_is_derived : {ps : List Piece} {tree : SyntaxTree} → DerivesProgram ps tree → AllNameKinds tree.body
+body_is_derived (ProgramIs n s b e cells init test body last) = block_names_kinds body
+
+-- an accepted program is a well-formed pipeline
+pub accepted_is_well_formed : (source : List ℕ) (tree : SyntaxTree) (input : List ℤ) → IsAccepted source tree → IsWellFormed (pipeline_of tree input)
+accepted_is_well_formed source tree input a = record {
+  legal = λ i. legal-with_budget (natural tree.limits.steps) (natural tree.limits.steps)
+      (rises-run_iteration (setting_of tree input i) tree.test tree.body (body_is_derived a.spelled.spelled.derived));
   closes =
-      let ranges = first_passes (limits_are_in_range tree.limits) _ f.obeys in
-      let last = natural_is tree.limits.iterations (first_passes (is_between (pos 1) (pos 65536) tree.limits.iterations) _ ranges) in
+      let last = natural_is tree.limits.iterations (iterations_in_range tree a.obeys) in
       closes-with_budget (natural tree.limits.steps) (natural tree.limits.steps)
       (closes-run_iteration (setting_of tree input (natural tree.limits.iterations)) tree.test tree.body last);
 }

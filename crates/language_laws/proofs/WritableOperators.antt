@@ -1,12 +1,12 @@
 -- A program that can be written has known operators, and no negative number where the grammar has no sign.
 use Rattle.std.proofs.Common.{◌≡◌, refl, ℕ, ◌≤◌, ◌≤ℤ◌, ℤ, pos, true, List, [], ◌∷◌, ◌++◌, ◌&&◌, inl, inr, ◌⊎◌, Option, Some, None, nat_le, arith, All}
+use Rattle.std.proofs.lemmas.Bool.{and_from}
 use Rattle.std.proofs.lemmas.Bool.Decides.{nat_tests}
 use Rattle.std.proofs.lemmas.Int.{ints}
 use Rattle.std.proofs.lemmas.List.Elements.{All-nil, All-cons, All-append}
 use Rattle.pipe_model.specs.declared.tree.Declaration.{Declaration}
 use Rattle.pipe_model.specs.SpellablePrograms.{has_known_operators, expressions_of_statement, expressions_of_statements, expressions_of, HasNoNegativeSize}
 use Rattle.pipe_model.specs.SyntaxTree.{Expression, Number, Name, Element, And, Or, Binary, Unary, More, Take, Iter, Statement, Let, Assign, AssignElement, Emit, If, While, Stage, NextStage, Statements, Empty, Then, SyntaxTree}
-use Rattle.pipe_model.proofs.FirstFormCounts.{two}
 use Rattle.pipe_model.proofs.CanonicalSymbols.{IsNumeral, Numeral, IsWritable, IsWritableStatement, AreWritable, IsWritableSize, AreWritableCells, IsWritableProgram}
 
 -- ---- operators
@@ -22,12 +22,12 @@ known_operators : (e : Expression) → IsWritable e → has_known_operators e �
 known_operators (Number n) w = refl
 known_operators (Name x) w = refl
 known_operators (Element x i) w = known_operators i w.1
-known_operators (And a b) w = two (has_known_operators a) (has_known_operators b) (known_operators a w.0) (known_operators b w.1)
-known_operators (Or a b) w = two (has_known_operators a) (has_known_operators b) (known_operators a w.0) (known_operators b w.1)
+known_operators (And a b) w = and_from (has_known_operators a) (has_known_operators b) (known_operators a w.0) (known_operators b w.1)
+known_operators (Or a b) w = and_from (has_known_operators a) (has_known_operators b) (known_operators a w.0) (known_operators b w.1)
 known_operators (Binary code a b) w =
-    two (nat_le 1 code && nat_le code 13) (has_known_operators a && has_known_operators b) (two_place code w.0 w.1)
-    (two (has_known_operators a) (has_known_operators b) (known_operators a w.2) (known_operators b w.3))
-known_operators (Unary code a) w = two (nat_le 1 code && nat_le code 2) (has_known_operators a) (one_place code w.0) (known_operators a w.1)
+    and_from (nat_le 1 code && nat_le code 13) (has_known_operators a && has_known_operators b) (two_place code w.0 w.1)
+    (and_from (has_known_operators a) (has_known_operators b) (known_operators a w.2) (known_operators b w.3))
+known_operators (Unary code a) w = and_from (nat_le 1 code && nat_le code 2) (has_known_operators a) (one_place code w.0) (known_operators a w.1)
 known_operators More w = refl
 known_operators Take w = refl
 known_operators Iter w = refl

@@ -3,19 +3,21 @@ use Rattle.std.specs.Prelude.{◌≡◌, ℕ, ℤ, pos, List, [], ◌∷◌, Opt
 use Rattle.pipe_model.specs.declared.node.Kind.TheVariants as kinds
 use Rattle.pipe_model.specs.declared.symbol.Symbol.{Symbol}
 use Rattle.pipe_model.specs.declared.symbol.Symbol.TheVariants as symbols
+use Rattle.pipe_model.specs.declared.token.Token.{Token}
 use Rattle.pipe_model.specs.declared.trap.Trap.{Trap}
 use Rattle.pipe_model.specs.declared.trap.Trap.TheVariants as traps
 use Rattle.pipe_model.specs.declared.trap.TrapAt.{TrapAt}
 use Rattle.pipe_model.specs.declared.trap.TrapPlace.TheVariants.{At}
+use Rattle.pipe_model.specs.declared.tree.Declaration.{Declaration}
 use Rattle.pipe_model.specs.Columns.{at}
 use Rattle.pipe_model.specs.Behaviour.{node_of}
-use Rattle.pipe_model.specs.Grammar.{DerivesStatement, plain_cell}
-use Rattle.pipe_model.specs.Lexis.{Divides}
+use Rattle.pipe_model.specs.Grammar.{DerivesStatement, Piece, declaration, flat}
 use Rattle.pipe_model.specs.Outcome.{serial_output, serial_trap}
 use Rattle.pipe_model.specs.Programs.{pipeline_of}
 use Rattle.pipe_model.specs.SerialElision.{serial_columns}
 use Rattle.pipe_model.specs.SyntaxTree.{Expression, Number, Name, Binary, Let, Assign, Emit, Stage, Empty, Then, SyntaxTree}
 use Rattle.pipe_model.specs.Texts.{output_lines, trap_line}
+use Rattle.pipe_model.specs.Tokens.{HasTokens, symbols_in, token_at}
 use Rattle.pipe_model.specs.Words.{word_let, equals, semicolon}
 
 -- a plain cell or a local of one letter
@@ -27,6 +29,10 @@ s = codes "s"
 
 abbrev pub t : List ℕ
 t = codes "t"
+
+-- the declaration of a plain cell
+abbrev pub plain_cell : List ℕ → ℤ → Declaration
+plain_cell name value = declaration name None value
 
 -- a + b, and a < b
 abbrev pub plus : Expression → Expression → Expression
@@ -100,10 +106,22 @@ PrefixSumsHaveStages =
 abbrev pub LinesArePrinted : Type 0
 LinesArePrinted = (output_lines (pos 1 ∷ pos 3 ∷ []) ≡ codes "1\n3\n") × (trap_line (trap_at traps.IterLimit 2 0 (pos 0)) ≡ codes "trap IterLimit at 2/0\n")
 
--- the symbols of `let t = n;`
+-- a line of source
+abbrev pub let_text : List ℕ
+let_text = codes "let t = n;"
+
+-- its tokens
+abbrev pub let_tokens : List Token
+let_tokens =
+    token_at 0 (codes "let") word_let ∷ token_at 4 t (symbols.Name t) ∷ token_at 6 (codes "=") equals ∷ token_at 8 n (symbols.Name n)
+    ∷ token_at 9 (codes ";") semicolon ∷ []
+
+-- its symbols
 abbrev pub let_symbols : List Symbol
 let_symbols = word_let ∷ symbols.Name t ∷ equals ∷ symbols.Name n ∷ semicolon ∷ []
 
--- the text divides into these symbols, which derive this statement
+-- the text has these tokens, which are these symbols, and the symbols are pieces that derive this statement
 abbrev pub LetIsSpelled : Type 0
-LetIsSpelled = Divides (codes "let t = n;") let_symbols × DerivesStatement 256 let_symbols (Let t (Name n))
+LetIsSpelled =
+    HasTokens let_text let_tokens × (symbols_in let_text let_tokens ≡ let_symbols)
+    × ((pieces : List Piece) × (flat pieces ≡ let_symbols) × DerivesStatement pieces (Let t (Name n)))

@@ -2,7 +2,6 @@ pub mod Examples
 pub mod SpellingLaws
 pub mod TokenLaws
 pub mod ProgramLaws
-pub mod FirstFormLaws
-pub mod WholeSpellingLaws
 pub mod SpellableLaws
 pub mod MarkLaws
+pub mod RefusalLaws

@@ -1,19 +1,23 @@
--- The laws of lexis, grammar and spelling.
+-- The laws of spelling: symbols, and the source whose tokens they are, spell one program at most, and have one first fault at most.
 use Rattle.std.specs.Prelude.{◌≡◌, ℕ, List}
 use Rattle.pipe_model.specs.declared.symbol.Symbol.{Symbol}
-use Rattle.pipe_model.specs.Grammar.{DerivesProgram}
-use Rattle.pipe_model.specs.Lexis.{Divides}
-use Rattle.pipe_model.specs.Spelling.{Spells}
+use Rattle.pipe_model.specs.SourceSpelling.{SourceSpells}
 use Rattle.pipe_model.specs.SyntaxTree.{SyntaxTree}
+use Rattle.pipe_model.specs.Spelling.{FirstFault, Rule, Spells}
 
--- bytes divide into symbols in one way at most
-abbrev pub SourcesDivideInOneWay : Type 0
-SourcesDivideInOneWay = (source : List ℕ) (symbols others : List Symbol) → Divides source symbols → Divides source others → symbols ≡ others
-
--- symbols derive one program at most, whatever the bound on the length of expressions
-abbrev pub SymbolsDeriveOneProgram : Type 0
-SymbolsDeriveOneProgram = (longest : ℕ) (symbols : List Symbol) (tree other : SyntaxTree) → DerivesProgram longest symbols tree → DerivesProgram longest symbols other → tree ≡ other
+-- symbols spell one program at most
+abbrev pub SymbolsSpellOneProgram : Type 0
+SymbolsSpellOneProgram = (symbols : List Symbol) (tree other : SyntaxTree) → Spells symbols tree → Spells symbols other → tree ≡ other
 
 -- a source spells one program at most
 abbrev pub SourcesSpellOneProgram : Type 0
-SourcesSpellOneProgram = (source : List ℕ) (tree other : SyntaxTree) → Spells source tree → Spells source other → tree ≡ other
+SourcesSpellOneProgram = (source : List ℕ) (tree other : SyntaxTree) → SourceSpells source tree → SourceSpells source other → tree ≡ other
+
+-- symbols have one first fault at most
+abbrev pub SymbolsHaveOneFirstFault : Type 0
+SymbolsHaveOneFirstFault =
+    (symbols : List Symbol) (rule other : Rule) (k m : ℕ) → FirstFault symbols rule k → FirstFault symbols other m → (k ≡ m) × (rule ≡ other)
+
+-- and none where they spell a program
+abbrev pub ProgramsHaveNoFault : Type 0
+ProgramsHaveNoFault = (symbols : List Symbol) (tree : SyntaxTree) (rule : Rule) (k : ℕ) → Spells symbols tree → FirstFault symbols rule k → ⊥

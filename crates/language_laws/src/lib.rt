@@ -3,10 +3,9 @@
 #![tactic(auto)]
 
 pub mod examples;
-pub mod first_form;
 pub mod marks;
 pub mod programs;
+pub mod refusals;
 pub mod spellable;
 pub mod spelling;
 pub mod tokens;
-pub mod whole_spelling;

@@ -1,18 +1,19 @@
-//! Lexis, grammar and spelling.
+//! Spelling: of symbols, and of the sources whose tokens they are.
 
-ghost use Rattle.language_laws.specs.SpellingLaws.{SourcesDivideInOneWay, SymbolsDeriveOneProgram, SourcesSpellOneProgram};
+ghost use Rattle.language_laws.specs.SpellingLaws.{SymbolsSpellOneProgram, SourcesSpellOneProgram, SymbolsHaveOneFirstFault, ProgramsHaveNoFault};
 
-/// The bytes of a source divide into symbols in one way at most.
-pub fn sources_divide_in_one_way()
-    ensures { SourcesDivideInOneWay }
-{}
-
-/// Symbols derive one program at most.
-pub fn symbols_derive_one_program()
-    ensures { SymbolsDeriveOneProgram }
+/// Symbols spell one program at most.
+pub fn symbols_spell_one_program()
+    ensures { SymbolsSpellOneProgram }
 {}
 
 /// A source spells one program at most.
 pub fn sources_spell_one_program()
     ensures { SourcesSpellOneProgram }
+{}
+
+/// Symbols have one first fault at most, and none where they spell a program.
+pub fn symbols_have_one_first_fault()
+    ensures one { SymbolsHaveOneFirstFault }
+    ensures none { ProgramsHaveNoFault }
 {}

@@ -1,18 +1,24 @@
-use Rattle.std.proofs.Common.{refl, [], ◌∷◌, arith}
-use Rattle.pipe_model.specs.Grammar.{LetIs, Tighter, Named}
-use Rattle.pipe_model.specs.Lexis.{Blank, Taken, AtEnd}
+use Rattle.std.proofs.Common.{refl, [], ◌∷◌}
+use Rattle.std.specs.Prelude.{codes}
+use Rattle.pipe_model.specs.Grammar.{LetIs, Tighter, Named, Single, FullExpression}
+use Rattle.pipe_model.specs.Tokens.{Blank, Taken, Stops}
 use Rattle.pipe_model.specs.Words.{word_let, equals, semicolon}
 use Rattle.pipe_model.specs.declared.symbol.Symbol.TheVariants as symbols
-use Rattle.pipe_parser.proofs.Longest.{word_is_longest, one_is_longest}
+use Rattle.pipe_model.proofs.WrittenTokens.{word_token, spaced_token, closed_token}
 use Rattle.language_laws.specs.Examples.{n, t}
 use Rattle.language_laws.proofs.examples.let_is_spelled.Goals as goal
 
 pub returns : goal.returns
 returns c = (
-  Taken (108 ∷ 101 ∷ 116 ∷ []) word_let refl (word_is_longest 108 (101 ∷ 116 ∷ 32 ∷ 116 ∷ 32 ∷ 61 ∷ 32 ∷ 110 ∷ 59 ∷ []) refl) (Blank 32 refl
-      (Taken t (symbols.Name t) refl (word_is_longest 116 (32 ∷ 61 ∷ 32 ∷ 110 ∷ 59 ∷ []) refl) (Blank 32 refl
-      (Taken (61 ∷ []) equals refl (one_is_longest 61 (32 ∷ 110 ∷ 59 ∷ []) (refl, refl) (λ h. refl)) (Blank 32 refl
-      (Taken n (symbols.Name n) refl (word_is_longest 110 (59 ∷ []) refl)
-      (Taken (59 ∷ []) semicolon refl (one_is_longest 59 [] (refl, refl) (λ h. absurd (omega (arith, h)))) AtEnd))))))),
-  LetIs t (record { derived = Tighter (Tighter (Tighter (Tighter (Tighter (Tighter (Named n)))))); short = omega arith }),
+  Taken (codes "let") word_let (word_token (codes "let") word_let 32 (codes "t = n;") refl refl refl) (Blank 32 refl
+      (Taken t (symbols.Name t) (word_token t (symbols.Name t) 32 (codes "= n;") refl refl refl) (Blank 32 refl
+      (Taken (codes "=") equals (spaced_token (codes "=") (codes "n;") equals refl (λ more. refl) refl) (Blank 32 refl
+      (Taken n (symbols.Name n) (word_token n (symbols.Name n) 59 [] refl refl refl)
+      (Taken (codes ";") semicolon (closed_token 59 [] semicolon refl (λ b more. refl) refl) (Stops 10 [])))))))),
+  refl,
+  (
+    Single word_let ∷ Single (symbols.Name t) ∷ Single equals ∷ FullExpression (symbols.Name n ∷ []) ∷ Single semicolon ∷ [],
+    refl,
+    LetIs t (Tighter (Tighter (Tighter (Tighter (Tighter (Tighter (Named n))))))),
+  ),
 )

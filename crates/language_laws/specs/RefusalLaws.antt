@@ -1,0 +1,20 @@
+-- The laws of refusals: each source is accepted as one program or refused for one thing, and never both.
+use Rattle.std.specs.Prelude.{◌≡◌, ℕ, List, ◌⊎◌}
+use Rattle.pipe_model.specs.SourceRefusals.{IsAccepted, Refusal, IsRefused}
+use Rattle.pipe_model.specs.SyntaxTree.{SyntaxTree}
+
+-- a source is refused for one thing at most
+abbrev pub SourcesHaveOneRefusal : Type 0
+SourcesHaveOneRefusal = (source : List ℕ) (refusal other : Refusal) → IsRefused source refusal → IsRefused source other → refusal ≡ other
+
+-- a source that is refused is not accepted
+abbrev pub RefusedSourcesAreNotAccepted : Type 0
+RefusedSourcesAreNotAccepted = (source : List ℕ) (refusal : Refusal) (tree : SyntaxTree) → IsRefused source refusal → IsAccepted source tree → ⊥
+
+-- a source is accepted as one program at most
+abbrev pub SourcesAreAcceptedAsOneProgram : Type 0
+SourcesAreAcceptedAsOneProgram = (source : List ℕ) (tree other : SyntaxTree) → IsAccepted source tree → IsAccepted source other → tree ≡ other
+
+-- each source is accepted or refused
+abbrev pub SourcesAreAcceptedOrRefused : Type 0
+SourcesAreAcceptedOrRefused = (source : List ℕ) → ((tree : SyntaxTree) × IsAccepted source tree) ⊎ ((refusal : Refusal) × IsRefused source refusal)

@@ -1,0 +1,23 @@
+//! Which sources are accepted, and what the others are refused for.
+
+ghost use Rattle.language_laws.specs.RefusalLaws.{SourcesHaveOneRefusal, RefusedSourcesAreNotAccepted, SourcesAreAcceptedAsOneProgram, SourcesAreAcceptedOrRefused};
+
+/// A source is refused for one thing at most.
+pub fn sources_have_one_refusal()
+    ensures { SourcesHaveOneRefusal }
+{}
+
+/// A source that is refused is not accepted.
+pub fn refused_sources_are_not_accepted()
+    ensures { RefusedSourcesAreNotAccepted }
+{}
+
+/// A source is accepted as one program at most.
+pub fn sources_are_accepted_as_one_program()
+    ensures { SourcesAreAcceptedAsOneProgram }
+{}
+
+/// Each source is accepted or refused.
+pub fn sources_are_accepted_or_refused()
+    ensures { SourcesAreAcceptedOrRefused }
+{}
