@@ -11,3 +11,4 @@ pub mod HeadlineLaws
 pub mod AnswerStatus
 pub mod FormatLaws
 pub mod SourceFaults
+pub mod FirstFormTests

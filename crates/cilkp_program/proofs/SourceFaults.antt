@@ -1,5 +1,5 @@
 -- The faults of the lexer, the parser and the checker are refusals of the source, and their lines are its line.
-use Rattle.std.proofs.Common.{◌≡◌, ℕ, pos, List, slice_get, Some, None, IsTrue, IsFalse, Bool, refl}
+use Rattle.std.proofs.Common.{◌≡◌, ◌∙◌, ◌↔◌, ℕ, pos, List, slice_get, Some, None, IsTrue, IsFalse, Bool, true, false, refl, sym}
 use Rattle.pipe_check.specs.declared.fault.CheckFault.{CheckFault}
 use Rattle.pipe_check.specs.declared.fault.CheckFault.TheVariants as checks
 use Rattle.pipe_check.specs.Passing.{Tells}
@@ -77,13 +77,18 @@ program_refused source tree s (checks.NeedsIndex mark) line t r = rule_refused s
 program_refused source tree s (checks.ZeroSize mark) line t r = rule_refused source tree s _ mark line t r
 program_refused source tree s checks.NoMemory line t e = absurd e
 
+-- a test does not come out both ways
+not_both : {b : Bool} → IsTrue b → IsFalse b → ⊥
+not_both yes no = let e : true ≡ false = sym yes ∙ no in cc (e)
+
 -- a program that breaks no rule is accepted, and it is known whether it is of the first form
 pub program_accepted : (source : List ℕ) (tree : SyntaxTree) (s : SourceSpells source tree) (is_first_form : Bool) → fault_of tree ≡ None
-    → (IsTrue is_first_form → IsPlain (symbols_in source s.tokens) tree) → (IsFalse is_first_form → IsPlain (symbols_in source s.tokens) tree → ⊥)
-    → AreLoaded source tree is_first_form
-program_accepted source tree s is_first_form obeys yes no =
+    → ((source : List ℕ) → IsTrue is_first_form ↔ IsPlain (symbols_in source s.tokens) tree) → AreLoaded source tree is_first_form
+program_accepted source tree s is_first_form obeys plain =
     record {
       accepted = record { spelled = s; obeys = obeys };
-      plain = λ h. record { accepted = record { spelled = s; obeys = obeys }; plain = yes h };
-      other = λ h form. no h (rw (one_lexed source form.accepted.spelled.tokens s.tokens form.accepted.spelled.lexed s.lexed) at form.plain);
+      plain = λ h. record { accepted = record { spelled = s; obeys = obeys }; plain = (plain source).0 h };
+      other = λ h form.
+          let yes = (plain source).1 (rw (one_lexed source form.accepted.spelled.tokens s.tokens form.accepted.spelled.lexed s.lexed) at form.plain) in
+          not_both yes h;
     }
