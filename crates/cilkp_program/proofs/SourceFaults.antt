@@ -79,7 +79,7 @@ program_refused source tree s checks.NoMemory line t e = absurd e
 
 -- a test does not come out both ways
 not_both : {b : Bool} → IsTrue b → IsFalse b → ⊥
-not_both yes no = let e : true ≡ false = sym yes ∙ no in cc (e)
+not_both h g = let e : true ≡ false = sym h ∙ g in cc (e)
 
 -- a program that breaks no rule is accepted, and it is known whether it is of the first form
 pub program_accepted : (source : List ℕ) (tree : SyntaxTree) (s : SourceSpells source tree) (is_first_form : Bool) → fault_of tree ≡ None
