@@ -1,80 +1,120 @@
--- Programs of the first form can be run.
-use Rattle.std.proofs.Common.{◌≡◌, ◌≤◌, ◌==◌, sym, subst, refl, inl, inr, ℕ, suc, List, Bool, true, false, cond, length, All, nat_le, arith}
+-- Programs of the first form that break no rule can be run.
+use Rattle.std.proofs.Common.{◌≡◌, ◌≤◌, ◌+◌, refl, ap, ℕ, ℤ, Bool, true, false, List, [], ◌∷◌, ◌++◌, Option, Some, None, if◌then◌else◌, length, All, nat_lt, arith}
+use Rattle.std.specs.List.{list_all}
 use Rattle.std.proofs.lemmas.Bool.{and_parts}
 use Rattle.std.proofs.lemmas.Bool.Decides.{nat_tests}
 use Rattle.std.proofs.lemmas.List.Elements.{All-nil, All-cons}
+use Rattle.pipe_model.specs.declared.region.Region.TheVariants as regions
 use Rattle.pipe_model.specs.declared.symbol.Symbol.{Symbol}
 use Rattle.pipe_model.specs.declared.tree.Declaration.{Declaration}
-use Rattle.pipe_model.specs.Grammar.{Derives, Numeral, Named, Tighter, Joined, DerivesWhole, DerivesStatement, LetIs, AssignIs, EmitIs, WaitIs, WaitNextIs, ContinueIs, ContinueNextIs, DerivesStatements, NoStatement, OneMore, DerivesCells, NoCell, CellIs, NegativeCellIs, DerivesProgram, ProgramIs}
-use Rattle.pipe_model.specs.Rules.{cells_are_declared_once, limits_are_in_range}
-use Rattle.pipe_model.specs.Spelling.{IsFirstForm}
-use Rattle.pipe_model.specs.SyntaxTree.{Expression, Statement, Statements, SyntaxTree, joined_by}
+use Rattle.pipe_model.specs.CheckingRules.{Fault, Rule, Twice, TooManyCells, broken_at, cell_total, fault_of, fault_or, first_fault, is_cell, limit_fault_or, limit_out}
+use Rattle.pipe_model.specs.FirstForm.{IsPlain, are_plain_statements, is_no_size, is_plain_cell, is_plain_code, is_plain_expression, is_plain_statement}
+use Rattle.pipe_model.specs.Marks.{DeclaredCell, Mark, at, marks_of, marks_of_cells, opening}
+use Rattle.pipe_model.specs.Programs.{declared_size}
+use Rattle.pipe_model.specs.SpellablePrograms.{IsSpellable}
+use Rattle.pipe_model.specs.SyntaxTree.{Expression, Number, Name, Element, And, Or, Binary, Unary, More, Take, Iter, Statement, Let, Assign, AssignElement, Emit, If, While, Stage, NextStage, Statements, Empty, Then, SyntaxTree}
 use Rattle.serial_elision.specs.Runnable.{AreRunnable, IsPlainCell, IsRunnable, IsRunnableExpression, IsRunnableOperator, IsRunnableStatement}
 
--- an operator that binds is `<` or `+`, told by the tests of its code
-operator_if : (less plus : Bool) (code : ℕ) → (code == 5) ≡ less → (code == 9) ≡ plus → cond less 3 (cond plus 2 7) ≤ 6 → IsRunnableOperator code
-operator_if true plus code e f h = inl (grind (arith, nat_tests))
-operator_if false true code e f h = inr (grind (arith, nat_tests))
-operator_if false false code e f h = absurd (omega (arith, h))
+-- the operators of the first form
+operator_runs : (code : ℕ) → is_plain_code code ≡ true → IsRunnableOperator code
+operator_runs code h = grind (arith, nat_tests)
 
--- two expressions with such an operator between them
-joined_runs : (code : ℕ) (a b : Expression) → IsRunnableOperator code → IsRunnableExpression a → IsRunnableExpression b
-    → IsRunnableExpression (joined_by code a b)
-joined_runs code a b (inl e) h i = subst (λ (c : ℕ). IsRunnableExpression (joined_by c a b)) (sym e) ((inl refl, (h, i)))
-joined_runs code a b (inr e) h i = subst (λ (c : ℕ). IsRunnableExpression (joined_by c a b)) (sym e) ((inr refl, (h, i)))
+-- a plain expression
+expression_runs : (e : Expression) → is_plain_expression e ≡ true → IsRunnableExpression e
+expression_runs (Number n) h = tt
+expression_runs (Name x) h = tt
+expression_runs (Binary code a b) h =
+    let whole = and_parts (is_plain_code code) _ h in
+    let sides = and_parts (is_plain_expression a) _ whole.1 in
+    (operator_runs code whole.0, (expression_runs a sides.0, expression_runs b sides.1))
+expression_runs (Element x i) h = absurd (cc (h))
+expression_runs (And a b) h = absurd (cc (h))
+expression_runs (Or a b) h = absurd (cc (h))
+expression_runs (Unary code a) h = absurd (cc (h))
+expression_runs More h = absurd (cc (h))
+expression_runs Take h = absurd (cc (h))
+expression_runs Iter h = absurd (cc (h))
 
--- an expression that is derived
-expression_runs : (rank : ℕ) (ts : List Symbol) (e : Expression) → rank ≤ 6 → Derives rank ts e → IsRunnableExpression e
-expression_runs _ _ _ w (Numeral n) = tt
-expression_runs _ _ _ w (Named name) = tt
-expression_runs _ ts e w (Tighter {rank = rank} d) = expression_runs rank ts e (omega arith) d
-expression_runs _ _ _ w (Joined {rank = rank} {left = left} {right = right} {a = a} {b = b} code is d f) =
-    joined_runs code a b (operator_if (code == 5) (code == 9) code refl refl (omega (arith, is)))
-    (expression_runs (suc rank) left a w d) (expression_runs rank right b (omega arith) f)
+-- a plain statement
+statement_runs : (s : Statement) → is_plain_statement s ≡ true → IsRunnableStatement s
+statement_runs (Let x e) h = expression_runs e h
+statement_runs (Assign x e) h = expression_runs e h
+statement_runs (Emit e) h = expression_runs e h
+statement_runs (Stage kind e) h = expression_runs e h
+statement_runs (NextStage kind) h = tt
+statement_runs (AssignElement x i e) h = absurd (cc (h))
+statement_runs (If e a b) h = absurd (cc (h))
+statement_runs (While e a) h = absurd (cc (h))
 
--- an expression that is no part of another
-whole_runs : (longest : ℕ) (ts : List Symbol) (e : Expression) → DerivesWhole longest ts e → IsRunnableExpression e
-whole_runs longest ts e h = expression_runs 6 ts e (omega arith) h.derived
+-- plain statements, one after the other
+statements_run : (ss : Statements) → are_plain_statements ss ≡ true → AreRunnable ss
+statements_run Empty h = tt
+statements_run (Then s ss) h =
+    let both = and_parts (is_plain_statement s) _ h in (statement_runs s both.0, statements_run ss both.1)
 
--- a statement
-statement_runs : (longest : ℕ) (ts : List Symbol) (s : Statement) → DerivesStatement longest ts s → IsRunnableStatement s
-statement_runs longest _ _ (LetIs name h) = whole_runs longest _ _ h
-statement_runs longest _ _ (AssignIs name h) = whole_runs longest _ _ h
-statement_runs longest _ _ (EmitIs h) = whole_runs longest _ _ h
-statement_runs longest _ _ (WaitIs h) = whole_runs longest _ _ h
-statement_runs longest _ _ WaitNextIs = tt
-statement_runs longest _ _ (ContinueIs h) = whole_runs longest _ _ h
-statement_runs longest _ _ ContinueNextIs = tt
+-- no size is none
+no_size : (size : Option ℤ) → is_no_size size ≡ true → size ≡ None
+no_size None h = refl
+no_size (Some n) h = absurd (cc (h))
 
--- statements one after the other
-statements_run : (longest : ℕ) (ts : List Symbol) (ss : Statements) → DerivesStatements longest ts ss → AreRunnable ss
-statements_run longest _ _ NoStatement = tt
-statements_run longest _ _ (OneMore h more) = (statement_runs longest _ _ h, statements_run longest _ _ more)
+-- plain cells
+cells_are_plain : (ds : List Declaration) → list_all is_plain_cell ds ≡ true → All IsPlainCell ds
+cells_are_plain [] h = All-nil IsPlainCell
+cells_are_plain (d ∷ ds) h =
+    let both = and_parts (is_plain_cell d) _ h in All-cons IsPlainCell d ds (no_size d.size both.0) (cells_are_plain ds both.1)
 
--- declarations
-cells_are_plain : (ts : List Symbol) (ds : List Declaration) → DerivesCells ts ds → All IsPlainCell ds
-cells_are_plain _ _ NoCell = All-nil IsPlainCell
-cells_are_plain _ _ (CellIs name value more) = All-cons IsPlainCell _ _ refl (cells_are_plain _ _ more)
-cells_are_plain _ _ (NegativeCellIs name value more) = All-cons IsPlainCell _ _ refl (cells_are_plain _ _ more)
+-- where no limit is out and no mark breaks a rule
+no_fault : (out : Option ℕ) (fault : Option Fault) → limit_fault_or out fault ≡ None → (out ≡ None) × (fault ≡ None)
+no_fault (Some which) fault h = absurd (let e : Some _ ≡ None = h in cc (e))
+no_fault None fault h = (refl, h)
 
--- a program that is derived, of cells that are declared once and limits in their ranges
-program_runs : (longest : ℕ) (ts : List Symbol) (tree : SyntaxTree) → limits_are_in_range tree.limits ≡ true → length tree.cells ≤ 65536
-    → DerivesProgram longest ts tree → IsRunnable tree
-program_runs longest _ _ limits few (ProgramIs iterations stages steps emits cells test body) = record {
-  limits = limits;
-  few = few;
-  plain = cells_are_plain _ _ cells;
-  test = whole_runs longest _ _ test;
-  body = statements_run longest _ _ body;
-}
+-- a mark that breaks no rule, and the marks after it
+no_mark_fault : (broken : Option Rule) (n : ℕ) (fault : Option Fault) → fault_or broken n fault ≡ None → (broken ≡ None) × (fault ≡ None)
+no_mark_fault (Some rule) n fault h = absurd (let e : Some _ ≡ None = h in cc (e))
+no_mark_fault None n fault h = (refl, h)
 
--- at most so many cells
-few_cells : (cells : List Declaration) → cells_are_declared_once cells ≡ true → length cells ≤ 65536
-few_cells cells h = let few : nat_le (length cells) 65536 ≡ true = (and_parts _ _ h).0 in grind (arith, nat_tests)
+-- a rule that is not broken, and the rules after it
+not_broken : (breaks : Bool) (rule : Rule) (rest : Option Rule) → (if breaks then Some rule else rest) ≡ None → (breaks ≡ false) × (rest ≡ None)
+not_broken true rule rest h = absurd (let e : Some rule ≡ None = h in cc (e))
+not_broken false rule rest h = (refl, h)
 
--- a program of the first form
-pub first_form_is_runnable : (source : List ℕ) (tree : SyntaxTree) → IsFirstForm source tree → IsRunnable tree
-first_form_is_runnable source tree h =
-    let limits = and_parts (limits_are_in_range tree.limits) _ h.obeys in
-    let cells = and_parts (cells_are_declared_once tree.cells) _ limits.1 in
-    program_runs 256 h.spelled.symbols tree limits.0 (few_cells tree.cells cells.0) h.spelled.derived
+-- with a cell that breaks no rule there are at most 65,536 cells
+cell_fits : (before : List Declaration) (d : Declaration) → broken_at (at (opening regions.Cells before) (DeclaredCell d.name d.size)) ≡ None
+    → cell_total before + declared_size d.size ≤ 65536
+cell_fits before d h =
+    let twice = not_broken (is_cell before d.name) Twice _ h in
+    let many = not_broken (nat_lt 65536 (cell_total before + declared_size d.size)) TooManyCells _ twice.1 in
+    let fits : nat_lt 65536 (cell_total before + declared_size d.size) ≡ false = many.0 in
+    grind (arith, nat_tests)
+
+-- one cell more
+total_more : (ds : List Declaration) (d : Declaration) → cell_total (ds ++ d ∷ []) ≡ cell_total ds + declared_size d.size
+total_more [] d = omega arith
+total_more (e ∷ ds) d = let more = total_more ds d in omega (arith, more)
+
+-- plain cells that break no rule, behind the cells before them
+cells_fit : (n : ℕ) (before ds : List Declaration) (rest : List Mark) → cell_total before ≤ 65536 → list_all is_plain_cell ds ≡ true
+    → first_fault n (marks_of_cells before ds ++ rest) ≡ None → cell_total before + length ds ≤ 65536
+cells_fit n before [] rest few plain h = omega (arith, few)
+cells_fit n before (d ∷ ds) rest few plain h =
+    let both = and_parts (is_plain_cell d) _ plain in
+    let marks = no_mark_fault (broken_at (at (opening regions.Cells before) (DeclaredCell d.name d.size))) n _ h in
+    let one : declared_size d.size ≡ 1 = ap declared_size (no_size d.size both.0) in
+    let fits = cell_fits before d marks.0 in
+    let total = total_more before d in
+    let more = cells_fit (n + 1) (before ++ d ∷ []) ds rest (omega (arith, fits, total)) both.1 marks.1 in
+    omega (arith, one, total, more)
+
+-- a plain program that breaks no rule
+pub plain_is_runnable : (ts : List Symbol) (tree : SyntaxTree) → IsSpellable tree → fault_of tree ≡ None → IsPlain ts tree → IsRunnable tree
+plain_is_runnable ts tree spellable h plain =
+    let faults = no_fault (limit_out tree.limits) (first_fault 0 (marks_of tree)) h in
+    let fit = cells_fit 0 [] tree.cells _ (omega arith) plain.cells faults.1 in
+    record {
+      limits = faults.0;
+      emits = spellable.emits;
+      few = omega (arith, fit);
+      plain = cells_are_plain tree.cells plain.cells;
+      test = expression_runs tree.test plain.test;
+      body = statements_run tree.body plain.body;
+    }

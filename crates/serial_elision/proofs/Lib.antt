@@ -1,3 +1,4 @@
+pub mod LimitRanges
 pub mod Cells
 pub mod Scopes
 pub mod Ranges

@@ -7,7 +7,6 @@ use Rattle.pipe_model.specs.declared.column.ColumnEnd.{ColumnEnd}
 use Rattle.pipe_model.specs.declared.column.ColumnEnd.TheVariants as ends
 use Rattle.pipe_model.specs.declared.node.Kind.TheVariants.{Zero}
 use Rattle.pipe_model.specs.declared.node.Node.{Node}
-use Rattle.pipe_model.specs.declared.trap.Trap.{Trap}
 use Rattle.pipe_model.specs.declared.trap.Trap.TheVariants.{Budget}
 use Rattle.pipe_model.specs.Behaviour.{Ending, node_of, read_access, write_access}
 use Rattle.pipe_model.specs.Columns.{node_at, at}

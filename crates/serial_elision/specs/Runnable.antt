@@ -1,8 +1,8 @@
 -- The programs whose loop the elision runs, told by their trees. Each program of the first form is one of them; that such a
 -- program has nothing before and after its loop, and names that are known, is not needed to run it.
-use Rattle.std.specs.Prelude.{◌≡◌, ◌≤◌, ◌⊎◌, ℕ, length, All, IsTrue, None}
+use Rattle.std.specs.Prelude.{◌≡◌, ◌≤◌, ◌≤ℤ◌, ◌⊎◌, ℕ, pos, length, All, None}
 use Rattle.pipe_model.specs.declared.tree.Declaration.{Declaration}
-use Rattle.pipe_model.specs.Rules.{limits_are_in_range}
+use Rattle.pipe_model.specs.CheckingRules.{limit_out}
 use Rattle.pipe_model.specs.SyntaxTree.{Expression, Number, Name, Element, And, Or, Binary, Unary, More, Take, Iter, Statement, Let, Assign, AssignElement, Emit, If, While, Stage, NextStage, Statements, Empty, Then, SyntaxTree}
 
 -- the code of `<` or of `+`
@@ -44,7 +44,8 @@ IsPlainCell d = d.size ≡ None
 
 -- the program has limits in their ranges, at most 65,536 plain cells, and a test and a body of the first form
 pub record IsRunnable (tree : SyntaxTree) : Type 0 where
-  pub limits : IsTrue (limits_are_in_range tree.limits)
+  pub limits : limit_out tree.limits ≡ None
+  pub emits : pos 0 ≤ℤ tree.limits.emits
   pub few : length tree.cells ≤ 65536
   pub plain : All IsPlainCell tree.cells
   pub test : IsRunnableExpression tree.test

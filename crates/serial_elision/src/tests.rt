@@ -1,8 +1,8 @@
 //! Worked programs, with their values by hand from the costs: each expression that is evaluated takes one step,
 //! each statement one, and the loop's test one.
 
-ghost use Rattle.std.specs.Prelude.{◌≡◌, ◌≤◌, ◌∷◌, [], All, IfOk, IsTrue, length};
-ghost use Rattle.pipe_model.specs.Rules.{limits_are_in_range};
+ghost use Rattle.std.specs.Prelude.{◌≡◌, ◌≤◌, ◌≤ℤ◌, ◌∷◌, [], pos, All, IfOk, None, length};
+ghost use Rattle.pipe_model.specs.CheckingRules.{limit_out};
 ghost use Rattle.pipe_model.specs.SyntaxTree.{expression_of, statements_of, tree_of};
 ghost use Rattle.serial_elision.specs.Runnable.{AreRunnable, IsPlainCell, IsRunnable, IsRunnableExpression};
 
@@ -85,7 +85,8 @@ fn block(alloc: Global) -> Block {
 }
 
 fn program(alloc: Global, limits: Limits, test: Expr, body: Vec<Stmt>) -> Result<Program, NoMemory>
-    requires range { IsTrue (limits_are_in_range limits) }
+    requires range { limit_out limits ≡ None }
+    requires emits { pos 0 ≤ℤ limits.emits }
     requires test { IsRunnableExpression (expression_of test) }
     requires body { AreRunnable (statements_of body.items) }
     ensures { IfOk result (λ p. IsRunnable (tree_of p)) }

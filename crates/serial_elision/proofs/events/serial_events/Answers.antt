@@ -1,7 +1,5 @@
-use Rattle.std.proofs.Common.{◌≡◌, ◌∙◌, List, [], ◌++◌, append-nil, ap, sym, drop, length, arith}
+use Rattle.std.proofs.Common.{◌≡◌, ◌∙◌, [], ◌++◌, append-nil, sym, drop}
 use Rattle.std.proofs.lemmas.List.{drop_all}
-use Rattle.pipe_model.specs.declared.column.Column.{Column}
-use Rattle.pipe_model.specs.declared.event.Event.{Event}
 use Rattle.serial_elision.specs.ColumnEvents.{events_of}
 use Rattle.serial_elision.proofs.EventLaws.{events_are_serial}
 use Rattle.serial_elision.proofs.events.serial_events.Goals as goal

@@ -1,4 +1,4 @@
-use Rattle.std.proofs.Common.{◌∙◌, refl, sym, w64, arith, length-set}
+use Rattle.std.proofs.Common.{◌∙◌, refl, w64, arith, length-set}
 use Rattle.std.proofs.lemmas.Int.{to_z-of_z}
 use mir.Val.{SFits}
 use Rattle.serial_elision.proofs.Cells.{read_consistent, read_keeps, read_counts, write_sets, emit_counts}
