@@ -1,7 +1,7 @@
 use Rattle.std.proofs.Common.{◌≡◌, ◌∙◌, ap, arith, rules, List, ℕ, ◌∷◌, []}
 use Rattle.std.specs.Prelude.{string_bytes, codes}
 use Rattle.cilkp_program.proofs.RowOfCall.{three_words}
-use Rattle.cilkp_program.proofs.call.file_names.Goals as goal
+use Rattle.cilkp_program.proofs.call.run_names.Goals as goal
 
 pub returns-then-eq-clause-some : goal.returns-then-eq-clause-some
 returns-then-eq-clause-some c =
