@@ -1,5 +1,5 @@
--- The programs whose loop the elision runs, told by their trees. Each program of the first form is one of them; that such a
--- program has nothing before and after its loop, and names that are known, is not needed to run it.
+-- The programs whose loop the elision runs, told by their trees. Each program of the first form that breaks no rule is one of them;
+-- that such a program has nothing before and after its loop, and names that are known, is not needed to run it.
 use Rattle.std.specs.Prelude.{◌≡◌, ◌≤◌, ◌≤ℤ◌, ◌⊎◌, ℕ, pos, length, All, None}
 use Rattle.pipe_model.specs.declared.tree.Declaration.{Declaration}
 use Rattle.pipe_model.specs.CheckingRules.{limit_out}
