@@ -1,21 +1,18 @@
 -- The row of an accepted program meets the headline.
-use Rattle.std.proofs.Common.{◌≡◌, ◌≢◌, ◌≤◌, ◌∙◌, ◌⊎◌, ◌↔◌, ◌++◌, ◌+◌, ℕ, List, [], Option, Some, None, IfSome, length, map, refl, ap, sym, subst, inl, inr, arith, append-nil}
-use Rattle.pipe_model.specs.declared.event.Event.{Event}
+use Rattle.std.proofs.Common.{◌≡◌, ◌≢◌, ◌≤◌, ◌∙◌, ◌++◌, ℕ, List, [], Option, Some, None, IfSome, map, refl, ap, sym, subst, arith, append-nil}
 use Rattle.pipe_model.specs.declared.event.RunLog.{RunLog}
 use Rattle.pipe_model.specs.declared.report.Report.{Report}
 use Rattle.pipe_model.specs.declared.trap.TrapAt.{TrapAt}
-use Rattle.pipe_model.specs.FirstRaces.{AreFirstRaces}
-use Rattle.pipe_model.specs.Outcome.{serial_ended_columns}
 use Rattle.pipe_model.specs.Pipeline.{Pipeline}
 use Rattle.pipe_model.specs.Programs.{pipeline_of}
 use Rattle.pipe_model.specs.Reports.{AreRight}
 use Rattle.pipe_model.specs.Run.{Run, IsFinished}
 use Rattle.pipe_model.specs.RunLogs.{IsFinishedRun, accesses_after, column_of_frame, columns_after, state_after}
-use Rattle.pipe_model.specs.SerialElision.{serial_accesses, serial_columns, serial_events}
+use Rattle.pipe_model.specs.SerialElision.{serial_events}
 use Rattle.pipe_model.specs.SourceRefusals.{IsAccepted}
 use Rattle.pipe_model.specs.State.{State, own_columns}
 use Rattle.pipe_model.specs.SyntaxTree.{SyntaxTree}
-use Rattle.pipe_model.specs.Texts.{trap_line, trap_lines}
+use Rattle.pipe_model.specs.Texts.{trap_lines}
 use Rattle.pipe_model.specs.Throttling.{IsThrottled}
 use Rattle.pipe_model.proofs.Members.{none_among}
 use Rattle.dag_build.proofs.FirstRaceLaws.{first_races_are_right, no_report_is_race_free}
@@ -25,12 +22,11 @@ use Rattle.run_laws.proofs.RunStates.FrontAndBack.{run_state_is}
 use Rattle.run_laws.proofs.RunStates.IterationCounts.{runs_keep_rules}
 use Rattle.run_laws.specs.RunLaws.{KeepsRules}
 use Rattle.run_laws.specs.SerialLaws.{HasSerialRun}
-use Rattle.cilkp_program.specs.Answers.{HasTaken, IsAnswer, OfRow, SourceFault, InputFault, IsPrinted}
-use Rattle.cilkp_program.specs.CellNames.{race_lines}
+use Rattle.cilkp_program.specs.Answers.{IsAnswer, OfRow, SourceFault, InputFault, IsPrinted}
 use Rattle.cilkp_program.specs.Faults.{Rose}
 use Rattle.cilkp_program.specs.Headline.{AnswersRun, IsToRun, MeetsHeadline}
 use Rattle.cilkp_program.specs.Reads.{Content}
-use Rattle.cilkp_program.specs.Rows.{HasNoRace, Held, Outcome, Races, Finishes, Traps, Row, NoCommand, SourceRefused, Formats, NotBuilt, InputRefused, Runs, NamesSource, ByRun, ByFormat, accesses_of, columns_of, log_of, output_text, run_words, trap_of}
+use Rattle.cilkp_program.specs.Rows.{HasNoRace, Held, Outcome, Races, Finishes, Traps, Row, NoCommand, SourceRefused, Formats, NotBuilt, InputRefused, Runs, ByRun, accesses_of, columns_of, log_of, output_text, trap_of}
 use Rattle.cilkp_program.proofs.AnswerStatus.{outcome_status}
 use Rattle.cilkp_program.proofs.OneRow.{one_source, plain_is_source, refused_not_accepted_file, refused_not_empty, run_is_no_format}
 

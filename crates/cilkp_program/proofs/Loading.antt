@@ -1,7 +1,8 @@
 -- What the reading of a whole file tells of a source and of an input.
-use Rattle.std.proofs.Common.{◌≡◌, ◌<◌, ◌≤◌, ◌+◌, ℕ, List, [], length, replicate, Option, Some, None, IfSome, refl, ap, sym, arith}
+use Rattle.std.proofs.Common.{◌≡◌, ◌<◌, ◌+◌, ℕ, List, [], length, replicate, Option, Some, None, Result, Ok, Err, IfOk, IfSome, refl, ap, sym, arith}
 use Rattle.std.proofs.lemmas.List.{length-replicate, nil_from_length}
 use Rattle.pipe_lexer.specs.declared.fault.LexFault.TheVariants as lexer
+use Rattle.pipe_model.specs.declared.memory.NoMemory.{NoMemory}
 use Rattle.pipe_model.specs.SourceRefusals.{ForItsText, Lexical}
 use Rattle.pipe_model.specs.Tokens.{IsTooLong, SourceTooLong}
 use Rattle.pipe_model.specs.Texts.{refused_missing, refused_input}
@@ -9,7 +10,7 @@ use Rattle.cilkp_program.specs.declared.whole.Whole.{Whole}
 use Rattle.cilkp_program.specs.declared.whole.Whole.TheVariants as whole
 use Rattle.cilkp_program.specs.Reads.{Content}
 use Rattle.cilkp_program.specs.Rows.{InputRefusal, InputMissing, InputNotEmpty, SourceRefusal, SourceMissing, NotAccepted}
-use Rattle.cilkp_program.specs.Loads.{Gave, GaveSource}
+use Rattle.cilkp_program.specs.Loads.{Gave, GaveSource, IsSourceAnswer}
 use Rattle.cilkp_program.specs.RefusalLines.{IsLexicalLine}
 use Rattle.cilkp_program.specs.declared.load.Source.{Source}
 use Rattle.cilkp_program.specs.declared.load.Source.TheVariants as sources
@@ -73,6 +74,12 @@ file_gave file name bytes limit (sources.Accepted loaded) h g =
 file_gave file name bytes limit (sources.Refused line) h g =
     rw g.line_is (NotAccepted bytes g.refusal (bytes_are_held file limit bytes h) g.refused)
 file_gave file name bytes limit sources.Failed h g = absurd g
+
+-- the answer of the bytes of a file
+pub source_answer : (holds : Option Content) (name : List ℕ) (limit : ℕ) (bytes : List ℕ) (r : Result Source NoMemory) → IsOfFile holds name limit (whole.Bytes bytes)
+    → IfOk r (λ source. Gave bytes source) → IfOk r (λ source. IsSourceAnswer holds name source)
+source_answer holds name limit bytes (Ok source) f g = record { file = f.file; told = f.told; gave = file_gave f.file name bytes limit source f.is g }
+source_answer holds name limit bytes (Err m) f g = g
 
 -- an input that is missing is refused
 pub input_is_missing : (file : Option (List ℕ)) (name line : List ℕ) (limit : ℕ) → line ≡ refused_missing name → IsWholeOf file limit whole.Missing → InputRefusal name file line

@@ -4,7 +4,6 @@ use Rattle.pipe_model.specs.declared.event.RunLog.{RunLog}
 use Rattle.pipe_model.specs.declared.report.Report.{Report}
 use Rattle.pipe_model.specs.SyntaxTree.{SyntaxTree}
 use Rattle.pipe_model.specs.CanonicalText.{program_text}
-use Rattle.pipe_model.specs.SourceRefusals.{IsAccepted, IsRefused}
 use Rattle.pipe_model.specs.Texts.{refusal_line, trap_line}
 use Rattle.pipe_model.proofs.SourceRefusals.{one_accepted, one_refusal, refused_not_accepted}
 use Rattle.cilkp_program.proofs.OneReports.{one_first_races}

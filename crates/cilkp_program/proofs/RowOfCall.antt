@@ -1,5 +1,5 @@
 -- Which row a call has.
-use Rattle.std.proofs.Common.{◌≡◌, ◌≢◌, ◌≤◌, ◌∙◌, ℕ, true, false, List, [], ◌∷◌, length, get_or, Option, Some, None, Result, Ok, Err, IfOk, IfSome, IsTrue, IsFalse, refl, ap, sym, arith}
+use Rattle.std.proofs.Common.{◌≡◌, ◌≢◌, ◌∙◌, ℕ, true, false, List, [], ◌∷◌, length, get_or, Option, Some, None, Result, Ok, Err, IfOk, IfSome, IsTrue, IsFalse, refl, ap, arith}
 use Rattle.std.specs.Prelude.{String, string_bytes}
 use Rattle.std.specs.declared.alloc.Global.{Global}
 use Rattle.pipe_model.specs.declared.memory.NoMemory.{NoMemory}
@@ -133,7 +133,7 @@ pub input_failed : (holds : Option Content) (before mid now : ℕ) (source input
     → IsAnswer (run_words source input) holds before now 4 text None []
 input_failed holds before mid now source input text loaded same rose plain s t =
     let at_mid : IsAnswer (run_words source input) holds mid now 4 (fault_read input) None [] =
-        InputFault source input s.file (tree_of loaded.program) rose.0 rose.1 refl s.told (s.gave.plain plain) in
+    InputFault source input s.file (tree_of loaded.program) rose.0 rose.1 refl s.told (s.gave.plain plain) in
     rw (t, ← same) at_mid
 
 -- a run

@@ -1,14 +1,13 @@
 -- The dag of a program's serial elision, as it is built from what the elision tells.
-use Rattle.std.proofs.Common.{◌≡◌, ◌∙◌, ◌<◌, ◌≤◌, ◌^◌, ℕ, ℤ, zero, suc, All, List, [], ◌∷◌, Option, Some, None, length, map, refl, sym, ap, subst, arith}
+use Rattle.std.proofs.Common.{◌≡◌, ◌∙◌, ◌<◌, ◌≤◌, ◌^◌, ℕ, ℤ, zero, suc, All, List, [], ◌∷◌, Option, length, map, refl, sym, ap, subst, arith}
 use Rattle.pipe_model.specs.declared.access.NodeAccess.{NodeAccess}
 use Rattle.pipe_model.specs.declared.column.Column.{Column}
 use Rattle.pipe_model.specs.declared.event.Event.{Event}
-use Rattle.pipe_model.specs.declared.event.RunLog.{RunLog}
 use Rattle.pipe_model.specs.declared.node.Node.{Node}
 use Rattle.pipe_model.specs.declared.report.Report.{Report}
 use Rattle.pipe_model.specs.declared.trap.TrapAt.{TrapAt}
 use Rattle.pipe_model.specs.Behaviour.{Action, column_of}
-use Rattle.pipe_model.specs.CheckingRules.{Fault, limit_fault_or, limit_out}
+use Rattle.pipe_model.specs.CheckingRules.{limit_out}
 use Rattle.pipe_model.specs.Columns.{nodes_at}
 use Rattle.pipe_model.specs.FirstRaces.{AreFirstRaces}
 use Rattle.pipe_model.specs.Outcome.{ended_column, serial_ended_columns, serial_output}
@@ -22,10 +21,10 @@ use Rattle.dag_build.specs.NodeColumns.{AreRising, IsAccessOf, node_columns}
 use Rattle.dag_build.proofs.FirstRaceLaws.{no_report_is_race_free}
 use Rattle.language_laws.proofs.WellFormed.{accepted_is_well_formed}
 use Rattle.serial_elision.proofs.EventLaws.{serial_columns_are_few}
+use Rattle.serial_elision.proofs.FirstForm.{no_fault}
 use Rattle.serial_elision.proofs.LimitRanges.{few_iterations}
 use Rattle.run_laws.proofs.Elision.SerialRun.{serial_elision_is_a_run}
 use Rattle.run_laws.proofs.RunStates.IterationCounts.{runs_keep_rules}
-use Rattle.run_laws.specs.RunLaws.{KeepsRules}
 use Rattle.run_laws.specs.SerialLaws.{HasSerialRun}
 use Rattle.cilkp_program.specs.Rows.{Outcome, Races, Finishes, Traps, accesses_of, columns_of, log_of, trap_of}
 use Rattle.cilkp_program.specs.RunTexts.{IsPrintedAs, WithRaces, ToItsEnd, WithTrap}
@@ -95,17 +94,12 @@ outcome_of_run tree dag columns accesses output trap reports d e a o t r (WithTr
     let free = (no_report_is_race_free _ _ reports (told_races tree dag columns accesses reports d e a r)).0 none in
     rw (none, o) (Traps at free (sym t ∙ ends))
 
--- where there is no fault, no limit is out of its range
-no_limit_out : (which : Option ℕ) (rest : Option Fault) → limit_fault_or which rest ≡ None → which ≡ None
-no_limit_out None rest h = refl
-no_limit_out (Some k) rest h = cc (h)
-
 -- the elision has few enough columns for its events to be told
 pub told_columns_are_few : (source : List ℕ) (tree : SyntaxTree) (columns : List Column) → IsAccepted source tree
     → columns ≡ serial_ended_columns (pipeline_of tree []) → length columns ≤ 2 ^ 32
 told_columns_are_few source tree columns form e =
     let few = serial_columns_are_few (pipeline_of tree []) in
-    let most = few_iterations tree.limits (no_limit_out (limit_out tree.limits) _ form.obeys) in
+    let most = few_iterations tree.limits (no_fault (limit_out tree.limits) _ form.obeys).0 in
     omega (arith, ap length e, few, most)
 
 -- the log of the elision's columns and events is that of the program

@@ -1,5 +1,5 @@
 -- The faults of the lexer, the parser and the checker are refusals of the source, and their lines are its line.
-use Rattle.std.proofs.Common.{◌≡◌, ◌∙◌, ◌↔◌, ℕ, pos, List, slice_get, Some, None, IsTrue, IsFalse, Bool, true, false, refl, sym}
+use Rattle.std.proofs.Common.{◌≡◌, ◌∙◌, ◌↔◌, ℕ, List, Some, None, IsTrue, IsFalse, Bool, true, false, sym}
 use Rattle.pipe_check.specs.declared.fault.CheckFault.{CheckFault}
 use Rattle.pipe_check.specs.declared.fault.CheckFault.TheVariants as checks
 use Rattle.pipe_check.specs.Passing.{Tells}
@@ -9,11 +9,12 @@ use Rattle.pipe_lexer.specs.Faults.{IsFaultOf}
 use Rattle.pipe_model.specs.declared.token.Token.{Token}
 use Rattle.pipe_model.specs.CheckingRules as checking
 use Rattle.pipe_model.specs.CheckingRules.{Broken, fault_of}
-use Rattle.pipe_model.specs.FirstForm.{IsFirstForm, IsPlain}
+use Rattle.pipe_model.specs.FirstForm.{IsPlain}
 use Rattle.pipe_model.specs.MarkPlaces.{mark_places}
-use Rattle.pipe_model.specs.SourceRefusals.{IsAccepted, Lexical, Syntactic, LimitOut, RuleBroken, ForItsText, ForAToken, ForALimit, ForARule}
+use Rattle.pipe_model.specs.SourceRefusals.{Lexical, Syntactic, LimitOut, RuleBroken, ForItsText, ForAToken, ForALimit, ForARule}
 use Rattle.pipe_model.specs.SourceSpelling.{SourceSpells}
 use Rattle.pipe_model.specs.Spelling as grammar
+use Rattle.pipe_model.specs.Spelling.{Spells}
 use Rattle.pipe_model.specs.SyntaxTree.{SyntaxTree}
 use Rattle.pipe_model.specs.Tokens.{BadByte, TooWide, SourceTooLong, NameTooLong, IsLexed, symbols_in}
 use Rattle.pipe_parser.specs.declared.parse.ParseFault.{ParseFault}
@@ -23,6 +24,10 @@ use Rattle.language_laws.proofs.MarkPlaces.{place_of_broken}
 use Rattle.pipe_model.proofs.SourceRefusals.{one_lexed}
 use Rattle.cilkp_program.specs.Loads.{AreLoaded, AreRefused}
 use Rattle.cilkp_program.specs.RefusalLines.{HasPlace, IsCheckLine, IsLexicalLine, IsRuleLine, IsSyntaxLine}
+
+-- tokens whose symbols spell the program
+abbrev pub spelled_by : (source : List ℕ) (tokens : List Token) (tree : SyntaxTree) → IsLexed source tokens → Spells (symbols_in source tokens) tree → SourceSpells source tree
+spelled_by source tokens tree lexed spelled = record { tokens = tokens; lexed = lexed; spelled = spelled }
 
 -- a fault of the text
 pub text_refused : (source : List ℕ) (fault : LexFault) (line : List ℕ) → IsFaultOf source fault → IsLexicalLine fault line → AreRefused source line

@@ -2,7 +2,6 @@
 use Rattle.std.specs.Prelude.{◌≡◌, ◌≢◌, ◌≤◌, ◌⊎◌, ◌↔◌, ◌++◌, ℕ, List, [], length, Option, Some, None}
 use Rattle.pipe_model.specs.declared.event.RunLog.{RunLog}
 use Rattle.pipe_model.specs.declared.report.Report.{Report}
-use Rattle.pipe_model.specs.declared.trap.TrapAt.{TrapAt}
 use Rattle.pipe_model.specs.Programs.{pipeline_of}
 use Rattle.pipe_model.specs.Reports.{AreRight}
 use Rattle.pipe_model.specs.RunLogs.{IsFinishedRun, accesses_after, columns_after}

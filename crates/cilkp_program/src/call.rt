@@ -89,7 +89,13 @@ fn format_name(words: &[String]) -> Option<&str>
     ensures none { IfNone result ((source : List ℕ) → words_of words.now ≢ format_words source) }
 {
     match words {
-        [format, source] => { if format.as_str() == "format" { Some(source.as_str()) } else { None } }
+        [format, source] => {
+            if format.as_str() == "format" {
+                Some(source.as_str())
+            } else {
+                None
+            }
+        }
         _ => None,
     }
 }

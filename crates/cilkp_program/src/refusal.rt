@@ -40,7 +40,11 @@ pub fn syntax_line(alloc: Global, fault: ParseFault) -> Result<Bytes, NoMemory>
     ensures { IfOk result (λ bytes. IsSyntaxLine fault bytes) }
 {
     match fault {
-        ParseFault::Unexpected(place) => numbered_line(alloc, "refused source Unexpected at ", place),
+        ParseFault::Unexpected(place) => numbered_line(
+            alloc,
+            "refused source Unexpected at ",
+            place,
+        ),
         ParseFault::TooDeep(place) => numbered_line(alloc, "refused source TooDeep at ", place),
         ParseFault::TooLong(place) => numbered_line(alloc, "refused source TooLong at ", place),
         ParseFault::NoMemory => Err(NoMemory),
@@ -48,12 +52,7 @@ pub fn syntax_line(alloc: Global, fault: ParseFault) -> Result<Bytes, NoMemory>
 }
 
 // A line that ends in the place of the mark with this number.
-fn placed_line(
-    alloc: Global,
-    before: &str,
-    places: &[i64],
-    mark: u32,
-) -> Result<Bytes, NoMemory>
+fn placed_line(alloc: Global, before: &str, places: &[i64], mark: u32) -> Result<Bytes, NoMemory>
     requires { HasPlaceAt places.now mark }
     ensures { IfOk result (λ bytes. (place : ℕ) × (slice_get places.now mark ≡ Some (pos place)) × (bytes ≡ numbered_line before.now place)) }
 {
@@ -87,7 +86,12 @@ pub fn check_line(alloc: Global, fault: CheckFault, places: &[i64]) -> Result<By
         CheckFault::NeedsIndex(mark) => {
             placed_line(alloc, "refused check NeedsIndex at ", places, mark)
         }
-        CheckFault::ZeroSize(mark) => placed_line(alloc, "refused check ZeroSize at ", places, mark),
+        CheckFault::ZeroSize(mark) => placed_line(
+            alloc,
+            "refused check ZeroSize at ",
+            places,
+            mark,
+        ),
         CheckFault::NoMemory => Err(NoMemory),
     }
 }

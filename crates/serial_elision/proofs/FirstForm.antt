@@ -64,7 +64,7 @@ cells_are_plain (d ∷ ds) h =
     let both = and_parts (is_plain_cell d) _ h in All-cons IsPlainCell d ds (no_size d.size both.0) (cells_are_plain ds both.1)
 
 -- where no limit is out and no mark breaks a rule
-no_fault : (out : Option ℕ) (fault : Option Fault) → limit_fault_or out fault ≡ None → (out ≡ None) × (fault ≡ None)
+pub no_fault : (out : Option ℕ) (fault : Option Fault) → limit_fault_or out fault ≡ None → (out ≡ None) × (fault ≡ None)
 no_fault (Some which) fault h = absurd (let e : Some _ ≡ None = h in cc (e))
 no_fault None fault h = (refl, h)
 

@@ -1,22 +1,25 @@
 use Rattle.std.proofs.Common.{ap, Some}
-use Rattle.serial_elision.proofs.FirstForm.{first_form_is_runnable}
+use Rattle.language_laws.proofs.SpellablePrograms.{spelled_is_spellable}
+use Rattle.serial_elision.proofs.FirstForm.{plain_is_runnable}
 use Rattle.pipe_model.specs.SyntaxTree.{tree_of}
 use Rattle.cilkp_program.proofs.SerialDags.{outcome_of_run, told_accesses_inside, told_columns_are_few, told_columns_rise, told_log}
 use Rattle.cilkp_program.proofs.call.run_program.Goals as goal
 
 pub run_tree-requires : goal.run_tree-requires
-run_tree-requires c = first_form_is_runnable _ _ c.requires.1
+run_tree-requires c =
+    let form = c.requires.1 in
+    plain_is_runnable _ _ (spelled_is_spellable _ _ form.accepted.spelled) form.accepted.obeys form.plain
 
 pub of-requires : goal.of-requires
-of-requires c = told_columns_rise _ _ _ c.requires.1 (rw c.new.ensures at c.in_ok-output.ensures.columns)
+of-requires c = told_columns_rise _ _ _ c.requires.1.accepted (rw c.new.ensures at c.in_ok-output.ensures.columns)
 
 pub races-requires : goal.races-requires
 races-requires c =
-    told_accesses_inside _ _ _ _ _ c.requires.1 c.in_ok-of.ensures (rw c.new.ensures at c.in_ok-output.ensures.columns)
+    told_accesses_inside _ _ _ _ _ c.requires.1.accepted c.in_ok-of.ensures (rw c.new.ensures at c.in_ok-output.ensures.columns)
     (rw c.new.ensures at c.in_ok-output.ensures.accesses)
 
 pub serial_events-requires : goal.serial_events-requires
-serial_events-requires c = told_columns_are_few _ _ _ c.requires.1 (rw c.new.ensures at c.in_ok-output.ensures.columns)
+serial_events-requires c = told_columns_are_few _ _ _ c.requires.1.accepted (rw c.new.ensures at c.in_ok-output.ensures.columns)
 
 pub returns-clause-outcome : goal.returns-clause-outcome
 returns-clause-outcome c =
