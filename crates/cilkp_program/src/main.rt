@@ -3,10 +3,14 @@
 #![tactic(auto)]
 
 pub mod call;
+#[cfg(test)]
+mod cases;
 pub mod fault_count;
 pub mod fault_plan;
 pub mod files;
 pub mod first_form;
+#[cfg(test)]
+mod format_tests;
 pub mod gate;
 pub mod law;
 pub mod load;
@@ -17,6 +21,8 @@ pub mod race_text;
 mod race_text_tests;
 pub mod real;
 pub mod refusal;
+#[cfg(test)]
+mod refusal_tests;
 #[cfg(test)]
 mod row_tests;
 pub mod sink;

@@ -1,13 +1,9 @@
 // The worked rows of the top call, over files and sinks in memory: each with its status and the bytes that were taken.
 
-use crate::call::{Ended, cilkp};
-use crate::gate::OpenGate;
-use crate::mem_files::MemFiles;
-use crate::mem_sink::MemSink;
+use crate::cases::{Case, source};
 use pipe_model::access::{Access, AccessKind, CellId};
 use pipe_model::column::ColumnEnd;
 use pipe_model::event::Event;
-use pipe_model::list::Bytes;
 use pipe_model::memory::NoMemory;
 use pipe_model::node::Kind;
 use std::alloc::Global;
@@ -33,117 +29,6 @@ const RACING_LINES: &str = "race output write 0/1 read 1/1\nrace s write 0/1 rea
 // Limits, the rest of a source, the status and the text of its call.
 type Row = ([u32; 4], &'static str, u8, &'static str);
 
-const NOT_BUILT: &str = "refused source NotYetBuilt\n";
-
-// A source file, an input file, and one that may not be what it should.
-fn files(alloc: Global, source: &[u8], input: &[u8]) -> Result<Vec<(String, Bytes)>, NoMemory> {
-    let mut files = Vec::new(alloc);
-    for (name, text) in [("a.pipe", source), ("a.in", input)] {
-        let bytes = Bytes::from_vec(text.to_vec(alloc)?);
-        files.push((String::from_str(alloc, name)?, bytes))?;
-    }
-    Ok(files)
-}
-
-fn words(alloc: Global, texts: &[&str]) -> Result<Vec<String>, NoMemory> {
-    let mut words = Vec::new(alloc);
-    for text in texts {
-        words.push(String::from_str(alloc, text)?)?;
-    }
-    Ok(words)
-}
-
-fn numbers(alloc: Global, number: Option<u32>) -> Result<Vec<u32>, NoMemory> {
-    let mut numbers = Vec::new(alloc);
-    for n in number {
-        numbers.push(n)?;
-    }
-    Ok(numbers)
-}
-
-// A call with a source and an input in files that serve seven bytes a call, and a sink that takes two.
-#[derive(Clone, Copy)]
-struct Case<'a> {
-    words: &'a [&'static str],
-    source: &'a [u8],
-    input: &'a [u8],
-    read_fails: Option<u32>,
-    write_fails: Option<u32>,
-}
-
-impl<'a> Case<'a> {
-    fn of(source: &'a [u8]) -> Self {
-        Case {
-            words: &["run", "a.pipe", "a.in"],
-            source,
-            input: b"",
-            read_fails: None,
-            write_fails: None,
-        }
-    }
-
-    // The call, before it is made.
-    fn set_up(self, alloc: Global) -> Result<Call, NoMemory> {
-        let fails = numbers(alloc, self.read_fails)?;
-        Ok(Call {
-            words: words(alloc, self.words)?,
-            files: MemFiles::new(files(alloc, self.source, self.input)?, 7, fails),
-            sink: MemSink::new(alloc, 2, numbers(alloc, self.write_fails)?),
-        })
-    }
-
-    // How the call ends, and what the sink has taken.
-    fn run(self, alloc: Global) -> Result<(Ended, Vec<u8>), NoMemory> {
-        let mut call = self.set_up(alloc)?;
-        let ended = call.make(alloc)?;
-        Ok((ended, call.sink.taken().as_slice().to_vec(alloc)?))
-    }
-
-    // Fails the test where the call ends otherwise, or another text was taken.
-    fn check(self, alloc: Global, name: &str, status: u8, text: &str) -> Result<(), Fail> {
-        let (ended, taken) = self.run(alloc)?;
-        if ended.status != status
-            || ended.written != text.len() as u64
-            || taken.as_slice() != text.as_bytes()
-        {
-            return Err(Fail::new(format_args!(
-                "{name}: status {}, {} bytes",
-                ended.status, ended.written
-            )));
-        }
-        Ok(())
-    }
-}
-
-// A call with what it is made of.
-#[derive(Drop)]
-struct Call {
-    words: Vec<String>,
-    files: MemFiles,
-    sink: MemSink,
-}
-
-impl Call {
-    fn make(&mut self, alloc: Global) -> Result<Ended, NoMemory> {
-        cilkp(
-            (),
-            alloc,
-            self.words.as_slice(),
-            &mut self.files,
-            &mut self.sink,
-            &OpenGate,
-        )
-    }
-}
-
-// A source of these limits, with the rest of the program.
-fn source(alloc: Global, limits: [u32; 4], rest: &str) -> Result<String, NoMemory> {
-    let [iterations, stages, steps, emits] = limits;
-    Ok(format!(in alloc;
-        "limits iterations {iterations}, stages {stages}, steps {steps}, emits {emits}; {rest}"
-    )?)
-}
-
 // Sixty-four locals are the most.
 fn many_locals(alloc: Global, count: usize) -> Result<String, NoMemory> {
     let mut body = String::from_str(alloc, "pipe_while (0) {")?;
@@ -155,7 +40,7 @@ fn many_locals(alloc: Global, count: usize) -> Result<String, NoMemory> {
 }
 
 // Programs of one stage.
-const PROGRAMS: [Row; 17] = [
+const PROGRAMS: [Row; 18] = [
     ([1, 1, 2, 0], "pipe_while (0) { }", 0, ""),
     (
         [1, 1, 1, 0],
@@ -168,6 +53,13 @@ const PROGRAMS: [Row; 17] = [
         "cell n = 0; pipe_while (n < 3) { n = n + 1; emit n; }",
         3,
         "1\n2\ntrap IterLimit at 2/0\n",
+    ),
+    // The greatest limits on iterations and on stage instances.
+    (
+        [65_536, 4, 1, 1],
+        "pipe_while (0) { }",
+        3,
+        "trap Budget at 0/0\n",
     ),
     ([2, 1, 50, 2], COUNT_UP, 0, "1\n2\n"),
     // The test is 4 steps, the assignment 4, and the emit 2.
@@ -211,7 +103,7 @@ fn runs(alloc: Global) -> Result<(), Fail> {
         let source = source.as_bytes();
         Case::of(source).check(alloc, rest, status, text)?;
         for end in 0..source.len() {
-            Case::of(&source[..end]).check(alloc, rest, 1, NOT_BUILT)?;
+            Case::of(&source[..end]).check_refused(alloc, rest)?;
         }
     }
     let most = source(alloc, [1, 1, 2, 0], &many_locals(alloc, 64)?)?;
@@ -219,47 +111,48 @@ fn runs(alloc: Global) -> Result<(), Fail> {
     Ok(())
 }
 
-// Sources just outside the form.
-fn sources_refused(alloc: Global) -> Result<(), Fail> {
-    let more = many_locals(alloc, 65)?;
+// Programs that are accepted and are not of the first form, or only by a comment.
+fn forms(alloc: Global) -> Result<(), Fail> {
     let rows = [
-        ([1, 1, 2, 0], "pipe_while (0) { } // a comment"),
-        ([1, 1, 2, 0], "pipe_while ((0)) { }"),
-        ([1, 1, 2, 0], "cell n = 1; pipe_while (n - 1) { }"),
-        ([1, 1, 2, 0], "cell n[2] = 0; pipe_while (0) { }"),
-        ([1, 1, 2, 0], "init { } pipe_while (0) { }"),
-        ([1, 1, 2, 0], "pipe_while (0) { } final { }"),
-        ([1, 1, 2, 0], "pipe_while (n) { }"),
-        ([1, 1, 2, 0], "cell n = 0; cell n = 1; pipe_while (0) { }"),
-        ([1, 1, 2, 0], "pipe_while (0) { pipe_continue; }"),
-        ([1, 1, 2, 0], "pipe_wait(1); pipe_while (0) { }"),
-        ([0, 1, 2, 0], "pipe_while (0) { }"),
-        ([1, 0, 2, 0], "pipe_while (0) { }"),
-        ([1, 1, 0, 0], "pipe_while (0) { }"),
-        ([1, 1, 2, 1_048_577], "pipe_while (0) { }"),
-        ([65_537, 1, 2, 0], "pipe_while (0) { }"),
-        ([1, 1, 2, 0], more.as_str()),
+        "pipe_while ((0)) { }",
+        "cell n = 1; pipe_while (n - 1) { }",
+        "cell n[2] = 0; pipe_while (0) { }",
+        "init { } pipe_while (0) { }",
+        "pipe_while (0) { } final { }",
+        "pipe_while (iter()) { }",
+        "pipe_while (0) { emit take(); }",
+        "pipe_while (0) { emit -1; }",
+        "pipe_while (0) { emit 1 && 0; }",
+        "pipe_while (0) { if (1) { } }",
+        "pipe_while (0) { while (0) { } }",
+        "pipe_while (0) { pipe_wait((1)); }",
+        "cell n[2] = 0; pipe_while (0) { n[0] = 1; }",
     ];
-    for (limits, rest) in rows {
-        let source = source(alloc, limits, rest)?;
-        Case::of(source.as_bytes()).check(alloc, rest, 1, NOT_BUILT)?;
+    for rest in rows {
+        let source = source(alloc, [1, 1, 2, 0], rest)?;
+        Case::of(source.as_bytes()).check(alloc, rest, 1, "refused source NotYetBuilt\n")?;
     }
-    Ok(())
+    let comment = source(alloc, [1, 1, 2, 0], "pipe_while (0) { } // a comment")?;
+    Case::of(comment.as_bytes()).check(alloc, "a comment", 0, "")
 }
 
 // Other words, files that are missing, and an input that is not empty, in the order of the refusals.
 fn calls_refused(alloc: Global) -> Result<(), Fail> {
     let good = Case::of(COUNT_TO_TWO.as_bytes());
-    let rows: [(&[&str], &str); 10] = [
+    let rows: [(&[&str], &str); 14] = [
         (&[], "refused usage\n"),
         (&["run"], "refused usage\n"),
         (&["run", "a.pipe"], "refused usage\n"),
         (&["run", "a.pipe", "a.in", "4"], "refused usage\n"),
         (&["runs", "a.pipe", "a.in"], "refused usage\n"),
-        (&["check", "a.pipe", "a.in"], "refused usage\n"),
+        (&["format", "a.pipe", "a.in"], "refused usage\n"),
+        (&["format"], "refused usage\n"),
+        (&["formats", "a.pipe"], "refused usage\n"),
+        (&["format", "b.pipe"], "refused missing b.pipe\n"),
+        (&["format", "a.in"], "refused source Unexpected at 0\n"),
         (&["run", "b.pipe", "b.in"], "refused missing b.pipe\n"),
         (&["run", "a.pipe", "b.in"], "refused missing b.in\n"),
-        (&["run", "a.in", "b.in"], NOT_BUILT),
+        (&["run", "a.in", "b.in"], "refused source Unexpected at 0\n"),
         (&["run", "a.pipe", "a.pipe"], "refused input NotYetBuilt\n"),
     ];
     for (words, text) in rows {
@@ -300,6 +193,11 @@ fn faults(alloc: Global) -> Result<(), Fail> {
         }
         .check(alloc, "a write fails", status, taken)?;
     }
+    Case {
+        read_fails: Some(1),
+        ..Case::format(COUNT_TO_TWO.as_bytes())
+    }
+    .check(alloc, "a read fails", 4, "fault read a.pipe\n")?;
     let both = Case {
         read_fails: Some(0),
         write_fails: Some(1),
@@ -492,7 +390,7 @@ fn rows_of_the_call(rt: HostRuntime) -> Result<(), Fail> {
     runs(rt.alloc())?;
     pipelines(rt.alloc())?;
     events(rt.alloc())?;
-    sources_refused(rt.alloc())?;
+    forms(rt.alloc())?;
     calls_refused(rt.alloc())?;
     faults(rt.alloc())
 }

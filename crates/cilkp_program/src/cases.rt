@@ -1,0 +1,136 @@
+// Calls over files and sinks in memory, for the tests of the top call.
+
+use crate::call::{Ended, cilkp};
+use crate::gate::OpenGate;
+use crate::mem_files::MemFiles;
+use crate::mem_sink::MemSink;
+use pipe_model::list::Bytes;
+use pipe_model::memory::NoMemory;
+use std::alloc::Global;
+use std::test::Fail;
+
+// A source file, an input file, and one that may not be what it should.
+fn files(alloc: Global, source: &[u8], input: &[u8]) -> Result<Vec<(String, Bytes)>, NoMemory> {
+    let mut files = Vec::new(alloc);
+    for (name, text) in [("a.pipe", source), ("a.in", input)] {
+        let bytes = Bytes::from_vec(text.to_vec(alloc)?);
+        files.push((String::from_str(alloc, name)?, bytes))?;
+    }
+    Ok(files)
+}
+
+fn words(alloc: Global, texts: &[&str]) -> Result<Vec<String>, NoMemory> {
+    let mut words = Vec::new(alloc);
+    for text in texts {
+        words.push(String::from_str(alloc, text)?)?;
+    }
+    Ok(words)
+}
+
+fn numbers(alloc: Global, number: Option<u32>) -> Result<Vec<u32>, NoMemory> {
+    let mut numbers = Vec::new(alloc);
+    for n in number {
+        numbers.push(n)?;
+    }
+    Ok(numbers)
+}
+
+// A call with a source and an input in files that serve seven bytes a call, and a sink that takes two.
+#[derive(Clone, Copy)]
+pub struct Case<'a> {
+    pub words: &'a [&'static str],
+    pub source: &'a [u8],
+    pub input: &'a [u8],
+    pub read_fails: Option<u32>,
+    pub write_fails: Option<u32>,
+}
+
+impl<'a> Case<'a> {
+    pub fn of(source: &'a [u8]) -> Self {
+        Case {
+            words: &["run", "a.pipe", "a.in"],
+            source,
+            input: b"",
+            read_fails: None,
+            write_fails: None,
+        }
+    }
+
+    // The call that prints the text of the source's program.
+    pub fn format(source: &'a [u8]) -> Self {
+        Case {
+            words: &["format", "a.pipe"],
+            ..Case::of(source)
+        }
+    }
+
+    // The call, before it is made.
+    pub fn set_up(self, alloc: Global) -> Result<Call, NoMemory> {
+        let fails = numbers(alloc, self.read_fails)?;
+        Ok(Call {
+            words: words(alloc, self.words)?,
+            files: MemFiles::new(files(alloc, self.source, self.input)?, 7, fails),
+            sink: MemSink::new(alloc, 2, numbers(alloc, self.write_fails)?),
+        })
+    }
+
+    // How the call ends, and what the sink has taken.
+    pub fn run(self, alloc: Global) -> Result<(Ended, Vec<u8>), NoMemory> {
+        let mut call = self.set_up(alloc)?;
+        let ended = call.make(alloc)?;
+        Ok((ended, call.sink.taken().as_slice().to_vec(alloc)?))
+    }
+
+    // Fails the test where the call ends otherwise, or another text was taken.
+    pub fn check(self, alloc: Global, name: &str, status: u8, text: &str) -> Result<(), Fail> {
+        let (ended, taken) = self.run(alloc)?;
+        if ended.status != status
+            || ended.written != text.len() as u64
+            || taken.as_slice() != text.as_bytes()
+        {
+            return Err(Fail::new(format_args!(
+                "{name}: status {}, {} bytes",
+                ended.status, ended.written
+            )));
+        }
+        Ok(())
+    }
+
+    // Fails the test where the source is not refused for its text or its tokens.
+    pub fn check_refused(self, alloc: Global, name: &str) -> Result<(), Fail> {
+        let (ended, taken) = self.run(alloc)?;
+        if ended.status != 1 || !taken.as_slice().starts_with(b"refused source ") {
+            return Err(Fail::new(format_args!("{name}: status {}", ended.status)));
+        }
+        Ok(())
+    }
+}
+
+// A call with what it is made of.
+#[derive(Drop)]
+pub struct Call {
+    words: Vec<String>,
+    files: MemFiles,
+    pub sink: MemSink,
+}
+
+impl Call {
+    pub fn make(&mut self, alloc: Global) -> Result<Ended, NoMemory> {
+        cilkp(
+            (),
+            alloc,
+            self.words.as_slice(),
+            &mut self.files,
+            &mut self.sink,
+            &OpenGate,
+        )
+    }
+}
+
+// A source of these limits, with the rest of the program.
+pub fn source(alloc: Global, limits: [u32; 4], rest: &str) -> Result<String, NoMemory> {
+    let [iterations, stages, steps, emits] = limits;
+    Ok(format!(in alloc;
+        "limits iterations {iterations}, stages {stages}, steps {steps}, emits {emits}; {rest}"
+    )?)
+}
