@@ -5,10 +5,6 @@ use Rattle.std.specs.Str.{bytes_eq}
 use Rattle.op_table.specs.declared.table.OpRow.{OpRow}
 use Rattle.op_table.specs.Tables.{text_of}
 
--- the levels of the operators of the language, in the order of their codes
-abbrev pub levels : List ℕ
-levels = 1 ∷ 2 ∷ 3 ∷ 3 ∷ 4 ∷ 4 ∷ 4 ∷ 4 ∷ 5 ∷ 5 ∷ 6 ∷ 6 ∷ 6 ∷ []
-
 -- the table obeys its rules at each row
 pub record ObeysRules (rows : List OpRow) : Type 0 where
   pub lengths : All (λ row. (1 ≤ row.length) × (row.length ≤ 2)) rows

@@ -1,5 +1,5 @@
 -- What a fault and its absence mean, told of all marks at once.
-use Rattle.std.specs.Prelude.{◌≡◌, ◌↔◌, ℕ, Bool, true, false, List, ◌∷◌, ◌++◌, length, All, Some, None}
+use Rattle.std.specs.Prelude.{◌≡◌, ◌↔◌, ℕ, true, false, List, ◌∷◌, ◌++◌, length, All, Some, None}
 use Rattle.pipe_model.specs.CheckingRules.{Rule, Broken, breaks, fault_of, limit_out, rules_in_order}
 use Rattle.pipe_model.specs.Marks.{Mark, marks_of}
 use Rattle.pipe_model.specs.SyntaxTree.{SyntaxTree}

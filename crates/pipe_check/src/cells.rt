@@ -9,6 +9,7 @@ ghost use Rattle.pipe_model.specs.SpellablePrograms.{HasNoNegativeSize};
 ghost use Rattle.pipe_model.specs.declared.tree.Declaration.{Declaration as Declared};
 
 use crate::fault::CheckFault;
+use pipe_model::memory::NoMemory;
 use pipe_model::name::Name;
 use pipe_model::tree::Declaration;
 use std::alloc::Global;
@@ -75,7 +76,9 @@ impl<'a> Cells<'a> {
             if count == 0 {
                 return Err(CheckFault::ZeroSize(next));
             }
-            sizes.insert(cell.name.as_bytes(), cell.size)?;
+            sizes
+                .insert(cell.name.as_bytes(), cell.size)
+                .map_err(NoMemory::from)?;
             total += count;
             next += 1;
         }

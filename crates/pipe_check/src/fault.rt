@@ -1,9 +1,9 @@
 //! Why a program is refused.
 
 ghost use Rattle.std.specs.Prelude.{◌≡◌};
+ghost use Rattle.pipe_check.specs.declared.fault.CheckFault.TheVariants as faults;
 
 use pipe_model::memory::NoMemory;
-use std::alloc::AllocFailed;
 use thiserror::Error;
 
 /// The first rule that a program breaks. Each carries the number of the mark that breaks it, counted from 0 in the order of the
@@ -44,23 +44,9 @@ pub enum CheckFault {
 }
 
 impl From<NoMemory> for CheckFault {
-    ghost use Rattle.std.specs.Prelude.{◌≡◌};
-    ghost use Rattle.pipe_check.specs.declared.fault.CheckFault.TheVariants as faults;
-
     ghost from_gives = { λ _ fault. fault ≡ faults.NoMemory };
 
     fn from(_refused: NoMemory) -> Self {
-        CheckFault::NoMemory
-    }
-}
-
-impl<T: Drop> From<AllocFailed<T>> for CheckFault {
-    ghost use Rattle.std.specs.Prelude.{◌≡◌};
-    ghost use Rattle.pipe_check.specs.declared.fault.CheckFault.TheVariants as faults;
-
-    ghost from_gives = { λ _ fault. fault ≡ faults.NoMemory };
-
-    fn from(_refused: AllocFailed<T>) -> Self {
         CheckFault::NoMemory
     }
 }

@@ -1,8 +1,7 @@
 //! The limits of a program.
 
 ghost use Rattle.std.specs.Prelude.{◌≡◌};
-ghost use Rattle.pipe_model.specs.CheckingRules.{limit_out};
-ghost use Rattle.pipe_model.specs.CheckingRules.{is_between};
+ghost use Rattle.pipe_model.specs.CheckingRules.{is_between, limit_out};
 
 use pipe_model::tree::Limits;
 

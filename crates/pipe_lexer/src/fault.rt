@@ -1,6 +1,9 @@
 //! Why a source has no tokens within the language's bounds.
 
-use std::alloc::{AllocError, AllocFailed};
+ghost use Rattle.std.specs.Prelude.{◌≡◌};
+ghost use Rattle.pipe_lexer.specs.declared.fault.LexFault.TheVariants as faults;
+
+use std::alloc::AllocError;
 use thiserror::Error;
 
 /// What is wrong with a source. Where it stands in the text, its place in bytes from 0; the first counts.
@@ -24,23 +27,9 @@ pub enum LexFault {
 }
 
 impl From<AllocError> for LexFault {
-    ghost use Rattle.std.specs.Prelude.{◌≡◌};
-    ghost use Rattle.pipe_lexer.specs.declared.fault.LexFault.{LexFault};
-
-    ghost from_gives = { λ _ e. e ≡ LexFault.NoMemory };
+    ghost from_gives = { λ _ fault. fault ≡ faults.NoMemory };
 
     fn from(_refused: AllocError) -> Self {
-        LexFault::NoMemory
-    }
-}
-
-impl<T: Drop> From<AllocFailed<T>> for LexFault {
-    ghost use Rattle.std.specs.Prelude.{◌≡◌};
-    ghost use Rattle.pipe_lexer.specs.declared.fault.LexFault.{LexFault};
-
-    ghost from_gives = { λ _ e. e ≡ LexFault.NoMemory };
-
-    fn from(_refused: AllocFailed<T>) -> Self {
         LexFault::NoMemory
     }
 }

@@ -8,7 +8,7 @@ ghost use Rattle.pipe_lexer.specs.Faults.{fault_at, IsFaultOf};
 use crate::fault::LexFault;
 use crate::piece::{Flaw, Piece, piece_at};
 use pipe_model::token::{Token, Tokens};
-use std::alloc::Global;
+use std::alloc::{AllocError, Global};
 
 const LONGEST_SOURCE: usize = 1_048_576;
 
@@ -26,10 +26,9 @@ impl Flaw {
 }
 
 // Puts a piece at a place behind the tokens that were found, if it is a token.
-fn keep(found: &mut Tokens, piece: Piece, place: u32) -> Result<(), LexFault>
+fn keep(found: &mut Tokens, piece: Piece, place: u32) -> Result<(), AllocError>
     requires { length_of piece ≤ 1048576 }
     ensures kept { OnOk result (found.new ≡ found.old ++ tokens_of piece place) }
-    ensures refused { IfErr result (λ fault. fault ≡ LexFault.NoMemory) }
 {
     if let Piece::Taken(kind, length) = piece {
         found.push(Token {

@@ -5,6 +5,7 @@ use Rattle.pipe_model.specs.declared.tree.Declaration.{Declaration}
 use Rattle.pipe_model.specs.CheckingRules.{size_in, is_cell, cell_total}
 use Rattle.pipe_model.specs.Programs.{declared_size}
 use Rattle.pipe_check.proofs.CellTables.{table_more, take_next, cell_passed}
+use Rattle.pipe_check.proofs.Results.{is_passed}
 use Rattle.pipe_check.proofs.cells.Cells.of.Goals as goal
 
 pub loop-cell-preserved : goal.loop-cell-preserved
@@ -25,7 +26,7 @@ loop-cell-preserved c =
     record {
       table = subst (λ (ds : List Declaration). IsTable c.insert.new.self (c.loop-cell.total + c.in-Some.count) ds) (sym (take_next cells i d within c.cell-item.is))
           (table_more c.loop-cell.sizes c.insert.new.self c.loop-cell.total c.in-Some.count before d c.as_bytes-in-loop-cell.result table
-          c.as_bytes-in-loop-cell.ensures new counted few c.in_ok-insert.ensures.updates.0);
+          c.as_bytes-in-loop-cell.ensures new counted few (is_passed _ c.insert.result c.in_ok-map_err.ensures.variant c.insert.ensures.updates).0);
       numbered = ap (λ n. n + 1) c.loop-cell.invariant.numbered;
       faults = cell_passed cells i c.loop-cell.next d within c.cell-item.is new fits some ∙ c.loop-cell.invariant.faults;
     }
