@@ -12,7 +12,7 @@ ghost use Rattle.pipe_parser.specs.declared.parse.ParseFault.TheVariants as faul
 
 use crate::depth::first_too_deep;
 use crate::fault::SyntaxFault;
-use crate::parse_program::read_program;
+use crate::program::read_program;
 use crate::symbols::Symbols;
 use pipe_model::list::Numbers;
 use pipe_model::token::{Token, TokenKind, Tokens};
