@@ -205,7 +205,7 @@ pub refuses_loop : (l : Limits) (ds : List Declaration) (init : Statements) (ts 
     → Refuses ts f
 refuses_loop l ds init ts a b c h r p = refuses_behind loop (Part 11 ∷ []) ts c (behind_init l ds init ts a b c h r p)
 
--- behind the loop
+-- the loop of a program is passed
 behind_loop : (l : Limits) (ds : List Declaration) (init body : Statements) (e : Expression) (ts a b c d : List Symbol) → HasLimits ts l a
     → ReadsCells a ds b → ReadsPart 256 7 b init c → ReadsLoop c e body d → judge 256 ts (Outside program) ≡ judge 256 d (Outside (Part 11 ∷ []))
 behind_loop l ds init body e ts a b c d h r p q = behind_init l ds init ts a b c h r p ∙ passes_loop e body c d q (Part 11 ∷ [])

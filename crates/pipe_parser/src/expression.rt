@@ -13,7 +13,7 @@ use crate::symbols::Symbols;
 use pipe_model::name::Name;
 use pipe_model::token::TokenKind;
 use pipe_model::tree::Expr;
-use std::alloc::Global;
+use std::alloc::{AllocError, Global};
 
 /// What a reader takes from the front of symbols, and what it leaves.
 pub type Read<'a, T> = Result<(T, Symbols<'a>), ExpressionFault>;
@@ -54,6 +54,13 @@ fn operator_of_rank<'a>(symbols: &Symbols<'a>, rank: u8) -> Option<(u8, Symbols<
         }
         _ => None,
     }
+}
+
+/// An expression in a box.
+fn boxed(alloc: Global, e: Expr) -> Result<Box<Expr>, AllocError>
+    ensures { IfOk result (λ inner. inner.value ≡ e) }
+{
+    Ok(Box::new(alloc, e)?)
 }
 
 /// What stands behind a sign that has to come.
@@ -123,7 +130,7 @@ fn read_named<'a>(alloc: Global, name: &[u8], symbols: Symbols<'a>) -> Read<'a, 
     match symbols.after_sign(b'[') {
         Some(inside) => {
             let (e, rest) = read_closed(alloc, b']', &inside)?;
-            Ok((Expr::Element(name, Box::new(alloc, e)?), rest))
+            Ok((Expr::Element(name, boxed(alloc, e)?), rest))
         }
         None => Ok((Expr::Name(name), symbols)),
     }
@@ -137,7 +144,7 @@ fn read_unary<'a>(alloc: Global, code: u8, symbols: &Symbols<'a>) -> Read<'a, Ex
     ensures shorter { IfOk result (λ r. length r.1 < length symbols.now) }
 {
     let (e, rest) = read_operand(alloc, symbols)?;
-    Ok((Expr::Unary(code, Box::new(alloc, e)?), rest))
+    Ok((Expr::Unary(code, boxed(alloc, e)?), rest))
 }
 
 /// Reads an expression of the rank.
@@ -178,7 +185,7 @@ fn extend<'a>(alloc: Global, rank: u8, first: Expr, symbols: Symbols<'a>) -> Rea
     let mut rest = symbols;
     while let Some((code, behind)) = operator_of_rank(&rest, rank + 1) {
         let (second, after) = read_expression(alloc, rank, &behind)?;
-        joined = Expr::Binary(code, Box::new(alloc, joined)?, Box::new(alloc, second)?);
+        joined = Expr::Binary(code, boxed(alloc, joined)?, boxed(alloc, second)?);
         rest = after;
     }
     Ok((joined, rest))

@@ -6,8 +6,8 @@ ghost use Rattle.pipe_model.specs.SyntaxTree.{expression_of};
 ghost use Rattle.pipe_model.specs.Reading.{ReadsFull};
 ghost use Rattle.pipe_parser.specs.SyntaxFaults.{Stops};
 
-use crate::fault::{ExpressionFault, SyntaxFault};
 use crate::expression::{LOOSEST, read_expression};
+use crate::fault::{ExpressionFault, SyntaxFault};
 use crate::symbols::Symbols;
 use pipe_model::tree::Expr;
 use std::alloc::Global;

@@ -14,7 +14,7 @@ use crate::statement::{expect_sign, read_block, read_part, read_test};
 use crate::symbols::Symbols;
 use pipe_model::name::Name;
 use pipe_model::tree::{Block, Declaration, Declarations, Expr, Limits, Program};
-use std::alloc::Global;
+use std::alloc::{AllocError, Global};
 
 // The reserved words of a program's parts, by their places in the list of reserved words.
 const LIMITS: u8 = 1;
@@ -148,7 +148,7 @@ fn read_cells<'a>(alloc: Global, symbols: Symbols<'a>) -> Parsed<'a, Declaration
     let mut rest = symbols;
     while let Some(declared) = rest.after_word(CELL) {
         let (cell, behind) = read_cell(alloc, &declared)?;
-        cells.push(cell)?;
+        cells.push(cell).map_err(AllocError::from)?;
         rest = behind;
     }
     Ok((cells, rest))

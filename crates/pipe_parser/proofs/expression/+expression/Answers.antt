@@ -14,7 +14,7 @@ pub extend-loop-code-preserved : goal.extend-loop-code-preserved
 extend-loop-code-preserved t c =
     let front = c.in-Some.ensures.some in
     let rank : rank_of c.in-Some.code ≡ suc c.args.rank = omega (arith, front.1) in
-    rw (c.in_ok-new.ensures.ok, c.in_ok-new-2.ensures.ok) (record {
+    rw (c.in_ok-boxed.ensures, c.in_ok-boxed-2.ensures) (record {
       extends = λ e end g. c.loop-code.invariant.extends e end
           (joins c.args.rank c.in-Some.code _ _ e c.loop-code.rest c.in-Some.behind c.in_ok-second.after end front.0 rank c.in_ok-second.ensures.ok g);
       passes = λ below. c.loop-code.invariant.passes below
@@ -40,10 +40,10 @@ pub read_expression-returns-clause-err : goal.read_expression-returns-clause-err
 read_expression-returns-clause-err t c =
     if_err _ _ c.extend.result (λ x g. fault_chained (c.args.rank - 1) _ _ _ (omega arith) c.in_ok-first.ensures.ok x g) c.extend.ensures.err
 
-pub read_named-returns-in_ok-new-in-Some-clause-ok : goal.read_named-returns-in_ok-new-in-Some-clause-ok
-read_named-returns-in_ok-new-in-Some-clause-ok t c =
+pub read_named-returns-in_ok-boxed-in-Some-clause-ok : goal.read_named-returns-in_ok-boxed-in-Some-clause-ok
+read_named-returns-in_ok-boxed-in-Some-clause-ok t c =
     let same : c.name.inside.bytes.items ≡ c.args.name.now = search rules in
-    rw (same, c.in_ok-new-in-Some.ensures.ok) (element_read _ _ _ _ _ c.in-Some.ensures.some c.in_ok-e-in-Some.ensures.ok)
+    rw (same, c.in_ok-boxed-in-Some.ensures) (element_read _ _ _ _ _ c.in-Some.ensures.some c.in_ok-e-in-Some.ensures.ok)
 
 pub read_named-returns-in-None-clause-ok : goal.read_named-returns-in-None-clause-ok
 read_named-returns-in-None-clause-ok t c =
