@@ -3,9 +3,6 @@ use Rattle.std.proofs.Common.{◌≡◌, ℕ, ◌+◌, ◌-◌, ◌<◌, ◌≤�
 use Rattle.std.specs.List.{count_by}
 use Rattle.std.proofs.lemmas.List.Sums.{count_by-le-length}
 use Rattle.pipe_model.specs.declared.symbol.Symbol.{Symbol}
-use Rattle.pipe_model.specs.declared.token.TokenKind.{TokenKind}
-use Rattle.pipe_model.specs.declared.token.TokenKind.TheVariants as kinds
-use Rattle.pipe_model.specs.Tokens.{symbol_as}
 use Rattle.pipe_model.specs.Spelling.{is_opening, is_closing, IsShallow}
 use Rattle.pipe_model.proofs.OpenBrackets.{count_one_more, shallow_more, no_symbols_shallow}
 use Rattle.pipe_parser.specs.Depths.{OpensTooMany}
@@ -71,21 +68,7 @@ counted_within all rest opened closed k =
     let many : length all ≡ length k.before + length rest = ap length k.split ∙ length-append k.before rest in
     (omega (arith, many, k.opens, count_by-le-length is_opening k.before), omega (arith, many, k.closes, count_by-le-length is_closing k.before))
 
--- what is no sign neither opens nor closes
-pub opens_nothing : (kind : TokenKind) → ((b : ℕ) → kind ≡ kinds.Sign b → ⊥) → (text : List ℕ) → false ≡ is_opening (symbol_as kind text)
-opens_nothing kinds.Name h text = refl
-opens_nothing (kinds.Word k) h text = refl
-opens_nothing (kinds.Number n) h text = refl
-opens_nothing (kinds.Operator code) h text = refl
-opens_nothing (kinds.Sign b) h text = absurd (h b refl)
-
-pub closes_nothing : (kind : TokenKind) → ((b : ℕ) → kind ≡ kinds.Sign b → ⊥) → (text : List ℕ) → false ≡ is_closing (symbol_as kind text)
-closes_nothing kinds.Name h text = refl
-closes_nothing (kinds.Word k) h text = refl
-closes_nothing (kinds.Number n) h text = refl
-closes_nothing (kinds.Operator code) h text = refl
-closes_nothing (kinds.Sign b) h text = absurd (h b refl)
-
+-- what is counted of one symbol is one at most
 pub one_at_most : (b : Bool) → cond b 1 0 ≤ 1
 one_at_most true = omega arith
 one_at_most false = omega arith

@@ -21,11 +21,13 @@ shallow_or_deep before (t ∷ rest) h =
           subst (λ x. IsShallow x ⊎ ((k : ℕ) × OpensTooMany x k)) same (shallow_or_deep (before ++ t ∷ []) rest (shallow_more before t h l)))
     ]
 
+-- symbols that never open too many, by the machine's verdict on all of them
 by_verdict : (ts : List Symbol) (v : Verdict) → judge 256 ts (Outside program) ≡ v → IsShallow ts → IsProgramOrFault ts
 by_verdict ts Accepted e h = inl (accepted_spelled ts e h)
 by_verdict ts (Unexpected n) e h = inr (Expected, length ts - n, shallow_unexpected ts n e h)
 by_verdict ts (TooLong n) e h = inr (Short, length ts - n, shallow_too_long ts n e h)
 
+-- symbols that open too many, by the machine's verdict on those up to the bracket too many
 by_cut : (ts : List Symbol) (k : ℕ) (v : Verdict) → OpensTooMany ts k → judge 256 (take k ts) (Outside program) ≡ v → IsProgramOrFault ts
 by_cut ts k Accepted o e = inr (Shallow, k - 1, cut_too_deep ts k Accepted o e tt)
 by_cut ts k (Unexpected zero) o e = inr (Shallow, k - 1, cut_too_deep ts k (Unexpected zero) o e refl)

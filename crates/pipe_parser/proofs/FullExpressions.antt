@@ -1,7 +1,7 @@
 -- Full expressions in a window of 257 symbols.
-use Rattle.std.proofs.Common.{◌≡◌, ◌≢◌, ℕ, suc, ◌+◌, ◌-◌, ◌<◌, ◌≤◌, List, [], ◌∷◌, ◌++◌, refl, sym, ap, ◌∙◌, append-nil, append_assoc, subst, arith, length, take, drop, length-append, length-drop, Some}
+use Rattle.std.proofs.Common.{◌≡◌, ℕ, suc, ◌+◌, ◌-◌, ◌<◌, ◌≤◌, List, [], ◌∷◌, ◌++◌, sym, ap, ◌∙◌, append-nil, append_assoc, subst, arith, length, take, drop, length-append, length-drop, Some}
 use Rattle.std.proofs.Math.Seq.{drop-append_seam}
-use Rattle.std.proofs.lemmas.List.{length-take-le, take-append-drop}
+use Rattle.std.proofs.lemmas.List.{length-take-le, nil_from_length, take-append-drop}
 use Rattle.pipe_model.specs.declared.symbol.Symbol.{Symbol}
 use Rattle.pipe_model.specs.ExpressionMachine as expression
 use Rattle.pipe_model.specs.ProgramMachine as machine
@@ -19,13 +19,6 @@ use Rattle.pipe_parser.specs.ExpressionFaults.{whole}
 abbrev full : List machine.Want
 full = machine.FullExpression ∷ []
 
-none : (rest : List Symbol) → length rest ≡ 0 → rest ≡ []
-none [] h = refl
-none (t ∷ rest) h = absurd (omega (arith, h))
-
-some : (rest : List Symbol) → 0 < length rest → rest ≢ []
-some rest l = λ e. absurd (omega (arith, ap length e, l))
-
 -- the machine runs over the whole window, so its last symbol is too many
 over : (ts : List Symbol) (left : List expression.Want) → 256 < length ts → expression.run (take 257 ts) whole ≡ Some left
     → IsRefused 256 full ts (machine.TooLong (length ts - 257 + 1))
@@ -42,7 +35,7 @@ pub window_read : (ts rest : List Symbol) (e : Expression) → 256 < length ts �
     → IsRefused 256 full ts (machine.TooLong (length ts - 257 + 1))
 window_read ts rest e l r h =
     let t = sound r in
-    let same : take 257 ts ≡ t.taken = t.split ∙ ap (λ x. t.taken ++ x) (none rest h) ∙ append-nil t.taken in
+    let same : take 257 ts ≡ t.taken = t.split ∙ ap (λ x. t.taken ++ x) (nil_from_length rest h) ∙ append-nil t.taken in
     let d = derived_runs t.derived in
     over ts d.left l (ap (λ x. expression.run x whole) same ∙ d.ran)
 
@@ -53,7 +46,7 @@ window_stuck ts l s =
     let w = take 257 ts in
     let m = stopped w whole in
     let ends = stuck_may_not_end (expression.may_end m.left) m.rest 0 (sym m.ends ∙ s.stuck []) in
-    let same : w ≡ m.before = m.split ∙ ap (λ x. m.before ++ x) (none m.rest ends.1) ∙ append-nil m.before in
+    let same : w ≡ m.before = m.split ∙ ap (λ x. m.before ++ x) (nil_from_length m.rest ends.1) ∙ append-nil m.before in
     over ts m.left l (ap (λ x. expression.run x whole) same ∙ m.runs)
 
 -- no reader is stuck with more symbols left than there are
@@ -90,6 +83,6 @@ read_in_window ts rest e l r p =
     ap (λ n. drop n ts) (sym many) ∙ ap (drop (length t.taken)) all ∙ drop-append_seam t.taken (rest ++ drop 257 ts) in
     record {
       read = subst (λ x. Reads 6 ts e x) (sym behind)
-          (subst (λ x. Reads 6 x e (rest ++ drop 257 ts)) (take-append-drop 257 ts) (reads_more r (some rest p) (drop 257 ts)));
+          (subst (λ x. Reads 6 x e (rest ++ drop 257 ts)) (take-append-drop 257 ts) (reads_more r (λ h. absurd (omega (arith, p, ap length h))) (drop 257 ts)));
       short = omega (arith, length-drop (257 - length rest) ts, p);
     }

@@ -21,19 +21,23 @@ spelled ts p r h = let t = sound_program r in record { pieces = t.taken; split =
 pub unexpected_within : (ts : List Symbol) (n : ℕ) → judge 256 ts (Outside program) ≡ Unexpected n → n ≤ length ts
 unexpected_within ts n v = let u = is_unexpected ts n v in omega (arith, u.many, ap length u.split, length-append u.before u.rest)
 
+-- where the machine finds an expression too long, some symbols are left, and no more than there are
 pub too_long_within : (ts : List Symbol) (n : ℕ) → judge 256 ts (Outside program) ≡ TooLong n → (0 < n) × (n ≤ length ts)
 too_long_within ts n v =
     let x = is_too_long ts n v in
     let many : length ts ≡ length x.before + length (x.t ∷ x.after) = ap length x.split ∙ length-append x.before (x.t ∷ x.after) in
     (omega (arith, x.many), omega (arith, x.many, many))
 
+-- a fault of symbols with none behind them
 without_more : {ts : List Symbol} {rule : Rule} {k : ℕ} → FirstFault (ts ++ []) rule k → FirstFault ts rule k
 without_more {ts} {rule} {k} f = subst (λ x. FirstFault x rule k) (append-nil ts) f
 
+-- a fault at the same place
 at_place : {ts : List Symbol} {rule : Rule} {k m : ℕ} → k ≡ m → FirstFault ts rule k → FirstFault ts rule m
 at_place {ts} {rule} h f = subst (FirstFault ts rule) h f
 
 -- ---- symbols that never open too many brackets
+-- what the machine does not expect is the first fault
 pub shallow_unexpected : (ts : List Symbol) (n : ℕ) → judge 256 ts (Outside program) ≡ Unexpected n → IsShallow ts → FirstFault ts Expected (length ts - n)
 shallow_unexpected ts n v h = by_left n refl
   where
@@ -42,6 +46,7 @@ shallow_unexpected ts n v h = by_left n refl
     by_left (suc m) e =
         without_more (first_unexpected ts [] n (length ts - n) v (omega (arith, e)) (omega (arith, unexpected_within ts n v)) (shallow_is_before ts h))
 
+-- what makes an expression too long is the first fault
 pub shallow_too_long : (ts : List Symbol) (n : ℕ) → judge 256 ts (Outside program) ≡ TooLong n → IsShallow ts → FirstFault ts Short (length ts - n)
 shallow_too_long ts n v h =
     without_more (first_too_long ts [] n (length ts - n) v (inr (h.shallow ts [] (sym (append-nil ts)))) (omega (arith, (too_long_within ts n v).1))
@@ -56,30 +61,38 @@ cut_is ts k o =
     let many : k ≡ length (o.before ++ o.t ∷ []) = omega (arith, o.many, length-append o.before (o.t ∷ [])) in
     ap (λ n. take n ts) many ∙ ap (take (length (o.before ++ o.t ∷ []))) all ∙ take-append_seam (o.before ++ o.t ∷ []) o.after
 
+-- they are so many
 cut_many : (ts : List Symbol) (k : ℕ) → OpensTooMany ts k → length (take k ts) ≡ k
 cut_many ts k o = omega (arith, ap length (cut_is ts k o), length-append o.before (o.t ∷ []), o.many)
 
+-- and all symbols with those behind
 cut_more : (ts : List Symbol) (k : ℕ) → (o : OpensTooMany ts k) → take k ts ++ o.after ≡ ts
 cut_more ts k o = ap (λ x. x ++ o.after) (cut_is ts k o) ∙ append_assoc o.before (o.t ∷ []) o.after ∙ sym o.split
 
+-- only the last of them opens too many
 cut_shallow : (ts : List Symbol) (k : ℕ) → (o : OpensTooMany ts k) → IsShallowBefore (take k ts)
 cut_shallow ts k o = subst IsShallowBefore (sym (cut_is ts k o)) (shallow_before_one o.before o.t o.shallow)
 
+-- a fault of the same symbols
 of_all : {ts us : List Symbol} {rule : Rule} {k : ℕ} → us ≡ ts → FirstFault us rule k → FirstFault ts rule k
 of_all {rule = rule} {k = k} h f = subst (λ x. FirstFault x rule k) h f
 
+-- no more of them are left than there are, where the machine does not expect one
 pub cut_within : (ts : List Symbol) (k n : ℕ) → OpensTooMany ts k → judge 256 (take k ts) (Outside program) ≡ Unexpected n → n ≤ k
 cut_within ts k n o v = omega (arith, cut_many ts k o, unexpected_within (take k ts) n v)
 
+-- nor where it finds an expression too long
 pub cut_long_within : (ts : List Symbol) (k n : ℕ) → OpensTooMany ts k → judge 256 (take k ts) (Outside program) ≡ TooLong n → n ≤ k
 cut_long_within ts k n o v = omega (arith, cut_many ts k o, (too_long_within (take k ts) n v).1)
 
+-- what the machine does not expect is the first fault, where any symbol is left
 pub cut_unexpected : (ts : List Symbol) (k n : ℕ) → OpensTooMany ts k → judge 256 (take k ts) (Outside program) ≡ Unexpected n → 0 < n
     → FirstFault ts Expected (k - n)
 cut_unexpected ts k n o v l =
     of_all (cut_more ts k o) (first_unexpected (take k ts) o.after n (k - n) v l (omega (arith, cut_many ts k o, cut_within ts k n o v))
     (cut_shallow ts k o))
 
+-- what makes an expression too long is the first fault, where it is not the bracket too many
 pub cut_too_long : (ts : List Symbol) (k n : ℕ) → OpensTooMany ts k → judge 256 (take k ts) (Outside program) ≡ TooLong n → n ≢ 1
     → FirstFault ts Short (k - n)
 cut_too_long ts k n o v l =
@@ -87,11 +100,13 @@ cut_too_long ts k n o v l =
     of_all (cut_more ts k o) (first_too_long (take k ts) o.after n (k - n) v (inl (grind (arith, l, some)))
     (omega (arith, cut_many ts k o, cut_long_within ts k n o v)) (cut_shallow ts k o))
 
+-- the bracket too many is the first fault, where the machine comes to it
 pub cut_too_deep : (ts : List Symbol) (k : ℕ) (v : Verdict) → OpensTooMany ts k → judge 256 (take k ts) (Outside program) ≡ v → ComesToLast v
     → FirstFault ts Shallow (k - 1)
 cut_too_deep ts k v o e c =
     let same : judge 256 (o.before ++ o.t ∷ []) (Outside program) ≡ v = ap (λ x. judge 256 x (Outside program)) (sym (cut_is ts k o)) ∙ e in
     of_all (sym o.split) (at_place (omega (arith, o.many)) (first_too_deep o.before o.t o.after v same c (shallow_before_one o.before o.t o.shallow) o.deep))
 
+-- and where a program was read
 pub cut_read : (ts : List Symbol) (k : ℕ) (p : SyntaxTree) → OpensTooMany ts k → ReadsProgram 256 (take k ts) p → FirstFault ts Shallow (k - 1)
 cut_read ts k p o r = cut_too_deep ts k Accepted o (accepts_program r) tt

@@ -23,10 +23,12 @@ abbrev pub before : List Stmt → Statements → Statements
 before [] ss = ss
 before (s ∷ found) ss = Then (statement_of s) (before found ss)
 
+-- one more that was found stands behind the others
 pub before_one : (found : List Stmt) (s : Stmt) (ss : Statements) → before (found ++ s ∷ []) ss ≡ before found (Then (statement_of s) ss)
 before_one [] s ss = refl
 before_one (t ∷ found) s ss = ap (Then (statement_of t)) (before_one found s ss)
 
+-- in front of none they are all
 before_none : (found : List Stmt) → before found Empty ≡ statements_of found
 before_none [] = refl
 before_none (s ∷ found) = ap (Then (statement_of s)) (before_none found)
@@ -67,13 +69,14 @@ pub fault_full : (others : List Want) (e : Expression) (ts mid : List Symbol) �
     → Stops (FullExpression ∷ others) ts f
 fault_full others e ts mid r = fault_behind (FullExpression ∷ others) others ts mid (λ below. passes_full r (others ++ below))
 
--- behind an index and the sign behind it
+-- a fault of the sign behind an index
 pub fault_index : (index : Expression) (ts mid : List Symbol) → ReadsFull 256 ts index (symbols.Sign 93 ∷ mid) → (f : SyntaxFault) → Stops (Sign 61 ∷ []) mid f
     → Stops element ts f
 fault_index index ts mid r f x =
     fault_behind element (Sign 61 ∷ FullExpression ∷ Sign 59 ∷ []) ts mid (λ below. passes_full r (Sign 93 ∷ Sign 61 ∷ FullExpression ∷ Sign 59 ∷ below)) f
     (fault_before (Sign 61 ∷ []) (FullExpression ∷ Sign 59 ∷ []) mid f x)
 
+-- a fault of the value that an element is assigned
 pub fault_assigned : (index : Expression) (ts mid inside : List Symbol) → ReadsFull 256 ts index (symbols.Sign 93 ∷ mid) → mid ≡ symbols.Sign 61 ∷ inside
     → (f : SyntaxFault) → Stops (FullExpression ∷ Sign 59 ∷ []) inside f
     → Stops element ts f
@@ -82,7 +85,7 @@ fault_assigned index ts mid inside r h =
     (λ below. passes_full r (Sign 93 ∷ Sign 61 ∷ FullExpression ∷ Sign 59 ∷ below)
     ∙ ap (λ x. judge 256 x (Outside (Sign 61 ∷ FullExpression ∷ Sign 59 ∷ below))) h)
 
--- a stage number and what is behind it
+-- a fault of a stage number
 pub fault_number : (ts inside : List Symbol) → ts ≡ symbols.Sign 40 ∷ inside → NoSign 41 inside → (f : SyntaxFault)
     → Stops (FullExpression ∷ Sign 41 ∷ []) inside f
     → Stops stage ts f
@@ -91,6 +94,7 @@ fault_number ts inside h n f x =
     (λ below. ap (λ y. judge 256 y (Outside (stage ++ below))) h ∙ stage_number 256 inside (Sign 59 ∷ below) n) f
     (fault_before (FullExpression ∷ Sign 41 ∷ []) (Sign 59 ∷ []) inside f x)
 
+-- a fault of what stands behind it
 pub fault_behind_number : (e : Expression) (ts inside mid : List Symbol) → ts ≡ symbols.Sign 40 ∷ inside → ReadsFull 256 inside e (symbols.Sign 41 ∷ mid)
     → (f : SyntaxFault) → Stops (Sign 59 ∷ []) mid f
     → Stops stage ts f
@@ -104,12 +108,15 @@ pub passes_test : (e : Expression) (ts mid : List Symbol) → ReadsTest ts e mid
 passes_test e ts mid t below =
     ap (λ x. judge 256 x (Outside (Sign 40 ∷ FullExpression ∷ Sign 41 ∷ below))) t.opens ∙ passes_full t.reads (Sign 41 ∷ below)
 
+-- a fault of the body of a `while`
 pub fault_body : (e : Expression) (ts mid : List Symbol) → ReadsTest ts e mid → (f : SyntaxFault) → Stops block mid f → Stops repetition ts f
 fault_body e ts mid t = fault_behind repetition block ts mid (λ below. passes_test e ts mid t (block ++ below))
 
+-- a fault of the first block of an `if`
 pub fault_then : (e : Expression) (ts mid : List Symbol) → ReadsTest ts e mid → (f : SyntaxFault) → Stops block mid f → Stops choice ts f
 fault_then e ts mid t f x = fault_before repetition (Part 14 ∷ []) ts f (fault_body e ts mid t f x)
 
+-- a fault of its `else`
 pub fault_else : (e : Expression) (a : Statements) (ts mid behind : List Symbol) → ReadsTest ts e mid → ReadsBlock 256 mid a behind → (f : SyntaxFault)
     → Stops (Part 14 ∷ []) behind f
     → Stops choice ts f
@@ -118,48 +125,58 @@ fault_else e a ts mid behind t b =
     (λ below. passes_test e ts mid t (Sign 123 ∷ machine.Statements ∷ Sign 125 ∷ Part 14 ∷ below) ∙ passes_block b (Part 14 ∷ below))
 
 -- ---- readings
+-- a `let`
 pub let_read : (name : List ℕ) (e : Expression) (ts behind inside rest : List Symbol) → ts ≡ symbols.Name name ∷ behind → behind ≡ symbols.Sign 61 ∷ inside
     → ReadsFull 256 inside e (symbols.Sign 59 ∷ rest)
     → ReadsStatement 256 (symbols.Word 12 ∷ ts) (Let name e) rest
 let_read name e ts behind inside rest h i r = rw (h, i) (ReadsLet name r)
 
+-- an assignment
 pub assign_read : (name : List ℕ) (e : Expression) (ts inside rest : List Symbol) → ts ≡ symbols.Sign 61 ∷ inside
     → ReadsFull 256 inside e (symbols.Sign 59 ∷ rest)
     → ReadsStatement 256 (symbols.Name name ∷ ts) (Assign name e) rest
 assign_read name e ts inside rest h r = rw h (ReadsAssign name r)
 
+-- an assignment to an element
 pub element_read : (name : List ℕ) (index e : Expression) (ts mid inside rest : List Symbol) → ReadsFull 256 ts index (symbols.Sign 93 ∷ mid)
     → mid ≡ symbols.Sign 61 ∷ inside → ReadsFull 256 inside e (symbols.Sign 59 ∷ rest)
     → ReadsStatement 256 (symbols.Name name ∷ symbols.Sign 91 ∷ ts) (AssignElement name index e) rest
 element_read name index e ts mid inside rest r h r' =
     ReadsAssignElement name (subst (λ x. ReadsFull 256 ts index (symbols.Sign 93 ∷ x)) h r) r'
 
+-- an `emit`
 pub emit_read : (e : Expression) (ts rest : List Symbol) → ReadsFull 256 ts e (symbols.Sign 59 ∷ rest)
     → ReadsStatement 256 (symbols.Word 16 ∷ ts) (Emit e) rest
 emit_read e ts rest r = ReadsEmit r
 
+-- a wait, with a stage number or without
 pub wait_read : (number : Option Expr) (ts us rest : List Symbol) → us ≡ symbols.Word 9 ∷ ts → ReadsStage ts number rest
     → ReadsStatement 256 us (stage_statement kinds.Wait number) rest
 wait_read None ts us rest h s = rw (h, s) (ReadsWaitNext rest)
 wait_read (Some e) ts us rest h s = rw (h, s.opens) (ReadsWait s.reads)
 
+-- a continue, with a stage number or without
 pub continue_read : (number : Option Expr) (ts us rest : List Symbol) → us ≡ symbols.Word 10 ∷ ts → ReadsStage ts number rest
     → ReadsStatement 256 us (stage_statement kinds.Continue number) rest
 continue_read None ts us rest h s = rw (h, s) (ReadsContinueNext rest)
 continue_read (Some e) ts us rest h s = rw (h, s.opens) (ReadsContinue s.reads)
 
+-- a `while`, by its parts
 pub while_read : (e : Expression) (a : Statements) (ts mid rest : List Symbol) → ReadsTest ts e mid → ReadsBlock 256 mid a rest
     → ReadsStatement 256 (symbols.Word 15 ∷ ts) (While e a) rest
 while_read e a ts mid rest t b = rw t.opens (ReadsWhile t.reads b)
 
+-- an `if`, by its parts
 pub if_read : (e : Expression) (a b : Statements) (ts mid behind rest : List Symbol) → ReadsTest ts e mid → ReadsBlock 256 mid a behind
     → ReadsPart 256 14 behind b rest
     → ReadsStatement 256 (symbols.Word 13 ∷ ts) (If e a b) rest
 if_read e a b ts mid behind rest t c p = rw t.opens (ReadsIf t.reads c p)
 
+-- a part that is there
 pub part_read : (word : ℕ) (ss : Statements) (ts behind rest : List Symbol) → ts ≡ symbols.Word word ∷ behind → ReadsBlock 256 behind ss rest
     → ReadsPart 256 word ts ss rest
 part_read word ss ts behind rest h b = rw h (ReadsPartIs b)
 
+-- a part that is missing is empty
 pub part_missing : (word : ℕ) (ts : List Symbol) → NoWord word ts → ReadsPart 256 word ts Empty ts
 part_missing word ts h = ReadsNoPart ts h

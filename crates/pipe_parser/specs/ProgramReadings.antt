@@ -9,17 +9,20 @@ use Rattle.pipe_model.specs.Reading.{ReadsBlock}
 use Rattle.pipe_model.specs.Words.{word_pipe_while}
 use Rattle.pipe_parser.specs.StatementReadings.{ReadsTest}
 
--- what a limit, the line of limits, a cell and the loop are
+-- what a limit is
 abbrev pub limit : ℕ → ℕ → List Want
 limit word sign = Word word ∷ AnyNumber ∷ Sign sign ∷ []
 
+-- the line of limits
 abbrev pub limits : List Want
 limits =
     Word 1 ∷ Word 2 ∷ AnyNumber ∷ Sign 44 ∷ Word 3 ∷ AnyNumber ∷ Sign 44 ∷ Word 4 ∷ AnyNumber ∷ Sign 44 ∷ Word 5 ∷ AnyNumber ∷ Sign 59 ∷ []
 
+-- the declaration of a cell, behind its word
 abbrev pub cell : List Want
 cell = AnyName ∷ Size ∷ Sign 61 ∷ Value ∷ Sign 59 ∷ []
 
+-- the loop
 abbrev pub loop : List Want
 loop = Word 8 ∷ Sign 40 ∷ FullExpression ∷ Sign 41 ∷ Sign 123 ∷ Statements ∷ Sign 125 ∷ []
 

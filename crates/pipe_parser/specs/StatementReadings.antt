@@ -7,25 +7,31 @@ use Rattle.pipe_model.specs.SyntaxTree.{Expression, expression_of}
 use Rattle.pipe_model.specs.Reading.{ReadsFull}
 use Rattle.pipe_model.specs.Words.{open_round, close_round, semicolon}
 
--- what a test, an assignment and parts of other statements are
+-- what a test is
 abbrev pub test : List Want
 test = Sign 40 ∷ FullExpression ∷ Sign 41 ∷ []
 
+-- a `let`, behind its word
 abbrev pub binding : List Want
 binding = AnyName ∷ Sign 61 ∷ FullExpression ∷ Sign 59 ∷ []
 
+-- an assignment to an element, behind its opening bracket
 abbrev pub element : List Want
 element = FullExpression ∷ Sign 93 ∷ Sign 61 ∷ FullExpression ∷ Sign 59 ∷ []
 
+-- a stage statement, behind its word
 abbrev pub stage : List Want
 stage = Sign 40 ∷ StageNumber ∷ Sign 41 ∷ Sign 59 ∷ []
 
+-- a block
 abbrev pub block : List Want
 block = Sign 123 ∷ Statements ∷ Sign 125 ∷ []
 
+-- a `while`, behind its word
 abbrev pub repetition : List Want
 repetition = Sign 40 ∷ FullExpression ∷ Sign 41 ∷ Sign 123 ∷ Statements ∷ Sign 125 ∷ []
 
+-- an `if`, behind its word
 abbrev pub choice : List Want
 choice = Sign 40 ∷ FullExpression ∷ Sign 41 ∷ Sign 123 ∷ Statements ∷ Sign 125 ∷ Part 14 ∷ []
 

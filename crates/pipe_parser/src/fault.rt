@@ -4,7 +4,7 @@ ghost use Rattle.std.specs.Prelude.{◌≡◌};
 ghost use Rattle.pipe_parser.specs.declared.fault.ExpressionFault.TheVariants as expressions;
 ghost use Rattle.pipe_parser.specs.declared.fault.SyntaxFault.TheVariants as faults;
 
-use std::alloc::{AllocError, AllocFailed};
+use std::alloc::AllocError;
 
 /// Why a reader of expressions stops.
 #[derive(Clone, Copy, PartialEq, Eq, Debug)]
@@ -19,14 +19,6 @@ impl From<AllocError> for ExpressionFault {
     ghost from_gives = { λ _ fault. fault ≡ expressions.NoMemory };
 
     fn from(_refused: AllocError) -> Self {
-        ExpressionFault::NoMemory
-    }
-}
-
-impl<T: Drop> From<AllocFailed<T>> for ExpressionFault {
-    ghost from_gives = { λ _ fault. fault ≡ expressions.NoMemory };
-
-    fn from(_refused: AllocFailed<T>) -> Self {
         ExpressionFault::NoMemory
     }
 }
@@ -46,14 +38,6 @@ impl From<AllocError> for SyntaxFault {
     ghost from_gives = { λ _ fault. fault ≡ faults.NoMemory };
 
     fn from(_refused: AllocError) -> Self {
-        SyntaxFault::NoMemory
-    }
-}
-
-impl<T: Drop> From<AllocFailed<T>> for SyntaxFault {
-    ghost from_gives = { λ _ fault. fault ≡ faults.NoMemory };
-
-    fn from(_refused: AllocFailed<T>) -> Self {
         SyntaxFault::NoMemory
     }
 }

@@ -2,13 +2,13 @@
 #![tactic(auto)]
 
 mod depth;
+mod expression;
 mod fault;
+mod full_expression;
 pub mod law;
 pub mod parse;
-mod parse_expression;
-mod parse_full;
-mod parse_program;
-mod parse_statement;
-#[cfg(test)]
-mod parse_tests;
+mod program;
+mod statement;
 mod symbols;
+#[cfg(test)]
+mod tests;

@@ -12,12 +12,12 @@ ghost use Rattle.pipe_parser.specs.declared.parse.ParseFault.TheVariants as faul
 
 use crate::depth::first_too_deep;
 use crate::fault::SyntaxFault;
-use crate::parse_program::read_program;
+use crate::program::read_program;
 use crate::symbols::Symbols;
 use pipe_model::list::Numbers;
 use pipe_model::token::{Token, TokenKind, Tokens};
 use pipe_model::tree::Program;
-use std::alloc::{AllocError, AllocFailed, Global};
+use std::alloc::{AllocError, Global};
 use thiserror::Error;
 
 /// A program and the places of its marks, in bytes from 0, in the order of the text. A mark is a token that is a name
@@ -49,14 +49,6 @@ impl From<AllocError> for ParseFault {
     ghost from_gives = { λ _ fault. fault ≡ faults.NoMemory };
 
     fn from(_refused: AllocError) -> Self {
-        ParseFault::NoMemory
-    }
-}
-
-impl<T: Drop> From<AllocFailed<T>> for ParseFault {
-    ghost from_gives = { λ _ fault. fault ≡ faults.NoMemory };
-
-    fn from(_refused: AllocFailed<T>) -> Self {
         ParseFault::NoMemory
     }
 }
@@ -153,7 +145,9 @@ fn places_of_marks(alloc: Global, tokens: &[Token]) -> Result<Numbers, ParseFaul
     let mut places = Numbers::new(alloc);
     for token in tokens {
         if is_mark(token.kind) {
-            places.push(i64::from(token.place))?;
+            places
+                .push(i64::from(token.place))
+                .map_err(AllocError::from)?;
         }
     }
     Ok(places)

@@ -1,0 +1,192 @@
+//! Expressions from symbols, by recursive descent.
+
+ghost use Rattle.std.specs.Prelude.{◌≡◌, ◌∷◌, [], ◌<◌, ◌≤◌, ◌≢◌, IfOk, IfErr, IfSome, IfNone, length};
+ghost use Rattle.pipe_model.specs.declared.symbol.Symbol.TheVariants as terminals;
+ghost use Rattle.pipe_model.specs.ExpressionMachine.{Sign, Operand, Index, Tail};
+ghost use Rattle.pipe_model.specs.SyntaxTree.{expression_of};
+ghost use Rattle.pipe_model.specs.Grammar.{rank_of};
+ghost use Rattle.pipe_model.specs.Reading.{Reads, Extends, next_rank};
+ghost use Rattle.pipe_parser.specs.ExpressionFaults.{Stops, whole, closed, ReadsUnary};
+
+use crate::fault::ExpressionFault;
+use crate::symbols::Symbols;
+use pipe_model::name::Name;
+use pipe_model::token::TokenKind;
+use pipe_model::tree::Expr;
+use std::alloc::{AllocError, Global};
+
+/// What a reader takes from the front of symbols, and what it leaves.
+pub type Read<'a, T> = Result<(T, Symbols<'a>), ExpressionFault>;
+
+/// The rank of an expression whose operators may be of any rank.
+pub const LOOSEST: u8 = 6;
+
+macro_rules! rank_by_code {
+    (($code:expr) $($row:literal $symbol:literal $length:literal $level:literal;)*) => {
+        match $code {
+            $($row => 7 - $level,)*
+            _ => 7,
+        }
+    };
+}
+
+/// How loosely the two-place operator of a code binds, from 1 for the tightest to 6; 7 where no operator has the code.
+fn rank_of(code: u8) -> u8
+    ensures { result ≡ rank_of code }
+{
+    op_table::operators!(rank_by_code, code)
+}
+
+/// An operator of the rank at the front, and what stands behind it.
+fn operator_of_rank<'a>(symbols: &Symbols<'a>, rank: u8) -> Option<(u8, Symbols<'a>)>
+    requires { 0 < rank }
+    ensures some { IfSome result (λ r. (symbols.now ≡ terminals.Operator r.0 ∷ r.1) × (rank_of r.0 ≡ rank)) }
+    ensures none { IfNone result (next_rank symbols.now ≢ rank) }
+{
+    let first = symbols.first()?;
+    match first.kind {
+        TokenKind::Operator(code) => {
+            if rank_of(code) == rank {
+                Some((code, first.behind))
+            } else {
+                None
+            }
+        }
+        _ => None,
+    }
+}
+
+/// An expression in a box.
+fn boxed(alloc: Global, e: Expr) -> Result<Box<Expr>, AllocError>
+    ensures { IfOk result (λ inner. inner.value ≡ e) }
+{
+    Ok(Box::new(alloc, e)?)
+}
+
+/// What stands behind a sign that has to come.
+fn expect_sign<'a>(symbols: &Symbols<'a>, sign: u8) -> Result<Symbols<'a>, ExpressionFault>
+    ensures ok { IfOk result (λ behind. symbols.now ≡ terminals.Sign sign ∷ behind) }
+    ensures err { IfErr result (λ fault. Stops (Sign sign ∷ []) symbols.now fault) }
+{
+    match symbols.after_sign(sign) {
+        Some(behind) => Ok(behind),
+        None => Err(ExpressionFault::Unexpected(symbols.len())),
+    }
+}
+
+/// Reads the brackets of a call behind its word.
+fn read_call<'a>(e: Expr, symbols: &Symbols<'a>) -> Read<'a, Expr>
+    ensures ok { IfOk result (λ r. (symbols.now ≡ terminals.Sign 40 ∷ terminals.Sign 41 ∷ r.1) × (r.0 ≡ e)) }
+    ensures err { IfErr result (λ fault. Stops (Sign 40 ∷ Sign 41 ∷ []) symbols.now fault) }
+{
+    let rest = expect_sign(symbols, b'(')?;
+    let rest = expect_sign(&rest, b')')?;
+    Ok((e, rest))
+}
+
+/// Reads an operand.
+#[cycle(expression)]
+fn read_operand<'a>(alloc: Global, symbols: &Symbols<'a>) -> Read<'a, Expr>
+    ensures ok { IfOk result (λ r. Reads 0 symbols.now (expression_of r.0) r.1) }
+    ensures err { IfErr result (λ fault. Stops (Operand ∷ []) symbols.now fault) }
+    ensures shorter { IfOk result (λ r. length r.1 < length symbols.now) }
+{
+    let Some(first) = symbols.first() else {
+        return Err(ExpressionFault::Unexpected(0));
+    };
+    match first.kind {
+        TokenKind::Number(n) => Ok((Expr::Number(n), first.behind)),
+        TokenKind::Name => read_named(alloc, first.text, first.behind),
+        TokenKind::Word(17) => read_call(Expr::More, &first.behind),
+        TokenKind::Word(18) => read_call(Expr::Take, &first.behind),
+        TokenKind::Word(19) => read_call(Expr::Iter, &first.behind),
+        TokenKind::Operator(10) => read_unary(alloc, 1, &first.behind),
+        TokenKind::Sign(b'!') => read_unary(alloc, 2, &first.behind),
+        TokenKind::Sign(b'(') => read_closed(alloc, b')', &first.behind),
+        _ => Err(ExpressionFault::Unexpected(symbols.len())),
+    }
+}
+
+/// Reads an expression and the sign that closes it.
+#[cycle(expression)]
+fn read_closed<'a>(alloc: Global, sign: u8, symbols: &Symbols<'a>) -> Read<'a, Expr>
+    ensures ok { IfOk result (λ r. Reads 6 symbols.now (expression_of r.0) (terminals.Sign sign ∷ r.1)) }
+    ensures err { IfErr result (λ fault. Stops (closed sign) symbols.now fault) }
+    ensures shorter { IfOk result (λ r. length r.1 < length symbols.now) }
+{
+    let (e, rest) = read_expression(alloc, LOOSEST, symbols)?;
+    let rest = expect_sign(&rest, sign)?;
+    Ok((e, rest))
+}
+
+/// Goes on behind a name: an index may follow.
+#[cycle(expression)]
+fn read_named<'a>(alloc: Global, name: &[u8], symbols: Symbols<'a>) -> Read<'a, Expr>
+    ensures ok { IfOk result (λ r. Reads 0 (terminals.Name name.now ∷ symbols.entry) (expression_of r.0) r.1) }
+    ensures err { IfErr result (λ fault. Stops (Index ∷ []) symbols.entry fault) }
+    ensures shorter { IfOk result (λ r. length r.1 ≤ length symbols.entry) }
+{
+    let name = Name::new(alloc, name)?;
+    match symbols.after_sign(b'[') {
+        Some(inside) => {
+            let (e, rest) = read_closed(alloc, b']', &inside)?;
+            Ok((Expr::Element(name, boxed(alloc, e)?), rest))
+        }
+        None => Ok((Expr::Name(name), symbols)),
+    }
+}
+
+/// Reads an operand behind a one-place operator.
+#[cycle(expression)]
+fn read_unary<'a>(alloc: Global, code: u8, symbols: &Symbols<'a>) -> Read<'a, Expr>
+    ensures ok { IfOk result (λ r. ReadsUnary code symbols.now (expression_of r.0) r.1) }
+    ensures err { IfErr result (λ fault. Stops (Operand ∷ []) symbols.now fault) }
+    ensures shorter { IfOk result (λ r. length r.1 < length symbols.now) }
+{
+    let (e, rest) = read_operand(alloc, symbols)?;
+    Ok((Expr::Unary(code, boxed(alloc, e)?), rest))
+}
+
+/// Reads an expression of the rank.
+#[cycle(expression)]
+pub fn read_expression<'a>(alloc: Global, rank: u8, symbols: &Symbols<'a>) -> Read<'a, Expr>
+    requires { rank ≤ 6 }
+    ensures ok { IfOk result (λ r. Reads rank symbols.now (expression_of r.0) r.1) }
+    ensures err { IfErr result (λ fault. Stops whole symbols.now fault) }
+    ensures shorter { IfOk result (λ r. length r.1 < length symbols.now) }
+{
+    if rank == 0 {
+        return first_operand(alloc, symbols);
+    }
+    let (first, rest) = read_expression(alloc, rank - 1, symbols)?;
+    extend(alloc, rank - 1, first, rest)
+}
+
+/// Reads the first operand of an expression.
+#[cycle(expression)]
+fn first_operand<'a>(alloc: Global, symbols: &Symbols<'a>) -> Read<'a, Expr>
+    ensures ok { IfOk result (λ r. Reads 0 symbols.now (expression_of r.0) r.1) }
+    ensures err { IfErr result (λ fault. Stops whole symbols.now fault) }
+    ensures shorter { IfOk result (λ r. length r.1 < length symbols.now) }
+{
+    let (e, rest) = read_operand(alloc, symbols)?;
+    Ok((e, rest))
+}
+
+/// Extends an expression by the operators one rank looser that follow, each with its operand.
+#[cycle(expression)]
+fn extend<'a>(alloc: Global, rank: u8, first: Expr, symbols: Symbols<'a>) -> Read<'a, Expr>
+    requires { rank < 6 }
+    ensures ok { IfOk result (λ r. Extends rank (expression_of first) symbols.entry (expression_of r.0) r.1) }
+    ensures err { IfErr result (λ fault. Stops (Tail ∷ []) symbols.entry fault) }
+    ensures shorter { IfOk result (λ r. length r.1 ≤ length symbols.entry) }
+{
+    let mut joined = first;
+    let mut rest = symbols;
+    while let Some((code, behind)) = operator_of_rank(&rest, rank + 1) {
+        let (second, after) = read_expression(alloc, rank, &behind)?;
+        joined = Expr::Binary(code, boxed(alloc, joined)?, boxed(alloc, second)?);
+        rest = after;
+    }
+    Ok((joined, rest))
+}

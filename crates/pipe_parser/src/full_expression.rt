@@ -1,0 +1,62 @@
+//! Full expressions: those that are no part of another.
+
+ghost use Rattle.std.specs.Prelude.{◌<◌, [], ◌∷◌, IfOk, IfErr, length};
+ghost use Rattle.pipe_model.specs.ProgramMachine as machine;
+ghost use Rattle.pipe_model.specs.SyntaxTree.{expression_of};
+ghost use Rattle.pipe_model.specs.Reading.{ReadsFull};
+ghost use Rattle.pipe_parser.specs.SyntaxFaults.{Stops};
+
+use crate::expression::{LOOSEST, read_expression};
+use crate::fault::{ExpressionFault, SyntaxFault};
+use crate::symbols::Symbols;
+use pipe_model::tree::Expr;
+use std::alloc::Global;
+
+/// What a reader takes from the front of symbols, and what it leaves.
+pub type Parsed<'a, T> = Result<(T, Symbols<'a>), SyntaxFault>;
+
+/// The most symbols of a full expression.
+const LONGEST: usize = 256;
+
+/// Reads a full expression. It looks at one symbol more than such an expression may have, so it goes no deeper than
+/// that, however long the source is.
+pub fn read_full<'a>(alloc: Global, symbols: &Symbols<'a>) -> Parsed<'a, Expr>
+    ensures ok { IfOk result (λ r. ReadsFull 256 symbols.now (expression_of r.0) r.1) }
+    ensures err { IfErr result (λ fault. Stops (machine.FullExpression ∷ []) symbols.now fault) }
+    ensures shorter { IfOk result (λ r. length r.1 < length symbols.now) }
+{
+    if LONGEST < symbols.len() {
+        return read_in_window(alloc, symbols);
+    }
+    match read_expression(alloc, LOOSEST, symbols) {
+        Ok((e, rest)) => Ok((e, rest)),
+        Err(ExpressionFault::Unexpected(left)) => Err(SyntaxFault::Unexpected(left)),
+        Err(ExpressionFault::NoMemory) => Err(SyntaxFault::NoMemory),
+    }
+}
+
+/// Reads a full expression from symbols that are more than it may have.
+fn read_in_window<'a>(alloc: Global, symbols: &Symbols<'a>) -> Parsed<'a, Expr>
+    requires { 256 < length symbols.now }
+    ensures ok { IfOk result (λ r. ReadsFull 256 symbols.now (expression_of r.0) r.1) }
+    ensures err { IfErr result (λ fault. Stops (machine.FullExpression ∷ []) symbols.now fault) }
+    ensures shorter { IfOk result (λ r. length r.1 < length symbols.now) }
+{
+    let more = symbols.len() - (LONGEST + 1);
+    let window = symbols.front(LONGEST + 1);
+    match read_expression(alloc, LOOSEST, &window) {
+        Ok((e, rest)) => {
+            if rest.len() == 0 {
+                return Err(SyntaxFault::TooLong(more + 1));
+            }
+            Ok((e, symbols.behind(LONGEST + 1 - rest.len())))
+        }
+        Err(ExpressionFault::Unexpected(left)) => {
+            if left == 0 {
+                return Err(SyntaxFault::TooLong(more + 1));
+            }
+            Err(SyntaxFault::Unexpected(left + more))
+        }
+        Err(ExpressionFault::NoMemory) => Err(SyntaxFault::NoMemory),
+    }
+}

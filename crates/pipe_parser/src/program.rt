@@ -1,0 +1,192 @@
+//! Limits, cells and whole programs from symbols.
+
+ghost use Rattle.std.specs.Prelude.{◌≡◌, ◌<◌, [], ◌∷◌, IfOk, IfErr, length};
+ghost use Rattle.pipe_model.specs.ProgramMachine.{Sign, Word, AnyNumber, Cells, Size, Value};
+ghost use Rattle.pipe_model.specs.SyntaxTree.{expression_of, statements_of, tree_of};
+ghost use Rattle.pipe_model.specs.Reading.{ReadsSize, ReadsValue, ReadsCell, ReadsCells, ReadsProgram};
+ghost use Rattle.pipe_model.specs.declared.symbol.Symbol.TheVariants as terminals;
+ghost use Rattle.pipe_parser.specs.ProgramReadings.{limit, limits, cell, loop, HasLimits, ReadsLoop};
+ghost use Rattle.pipe_parser.specs.SyntaxFaults.{Stops, Refuses};
+
+use crate::fault::SyntaxFault;
+use crate::full_expression::Parsed;
+use crate::statement::{expect_sign, read_block, read_part, read_test};
+use crate::symbols::Symbols;
+use pipe_model::name::Name;
+use pipe_model::tree::{Block, Declaration, Declarations, Expr, Limits, Program};
+use std::alloc::{AllocError, Global};
+
+// The reserved words of a program's parts, by their places in the list of reserved words.
+const LIMITS: u8 = 1;
+
+const ITERATIONS: u8 = 2;
+
+const STAGES: u8 = 3;
+
+const STEPS: u8 = 4;
+
+const EMITS: u8 = 5;
+
+const CELL: u8 = 6;
+
+const INIT: u8 = 7;
+
+const PIPE_WHILE: u8 = 8;
+
+const FINAL: u8 = 11;
+
+/// The code of the operator `-`.
+const MINUS: u8 = 10;
+
+/// What stands behind a word that has to come.
+fn expect_word<'a>(symbols: &Symbols<'a>, word: u8) -> Result<Symbols<'a>, SyntaxFault>
+    ensures ok { IfOk result (λ behind. symbols.now ≡ terminals.Word word ∷ behind) }
+    ensures err { IfErr result (λ fault. Stops (Word word ∷ []) symbols.now fault) }
+{
+    match symbols.after_word(word) {
+        Some(behind) => Ok(behind),
+        None => Err(SyntaxFault::Unexpected(symbols.len())),
+    }
+}
+
+/// A number that has to come, and what stands behind it.
+fn expect_number<'a>(symbols: &Symbols<'a>) -> Parsed<'a, i64>
+    ensures ok { IfOk result (λ r. symbols.now ≡ terminals.Number r.0 ∷ r.1) }
+    ensures err { IfErr result (λ fault. Stops (AnyNumber ∷ []) symbols.now fault) }
+{
+    match symbols.after_number() {
+        Some((number, behind)) => Ok((number, behind)),
+        None => Err(SyntaxFault::Unexpected(symbols.len())),
+    }
+}
+
+/// Reads a limit: its word, a number, and the sign behind it.
+fn read_limit<'a>(symbols: &Symbols<'a>, word: u8, sign: u8) -> Parsed<'a, i64>
+    ensures ok { IfOk result (λ r. symbols.now ≡ terminals.Word word ∷ terminals.Number r.0 ∷ terminals.Sign sign ∷ r.1) }
+    ensures err { IfErr result (λ fault. Stops (limit word sign) symbols.now fault) }
+{
+    let behind = expect_word(symbols, word)?;
+    let (number, rest) = expect_number(&behind)?;
+    let rest = expect_sign(&rest, sign)?;
+    Ok((number, rest))
+}
+
+/// Reads the line of limits.
+fn read_limits<'a>(symbols: &Symbols<'a>) -> Parsed<'a, Limits>
+    ensures ok { IfOk result (λ r. HasLimits symbols.now r.0 r.1) }
+    ensures err { IfErr result (λ fault. Stops limits symbols.now fault) }
+{
+    let first = expect_word(symbols, LIMITS)?;
+    let (iterations, second) = read_limit(&first, ITERATIONS, b',')?;
+    let (stages, third) = read_limit(&second, STAGES, b',')?;
+    let (steps, fourth) = read_limit(&third, STEPS, b',')?;
+    let (emits, rest) = read_limit(&fourth, EMITS, b';')?;
+    Ok((
+        Limits {
+            iterations,
+            stages,
+            steps,
+            emits,
+        },
+        rest,
+    ))
+}
+
+/// Reads the size of an array, which may be missing.
+fn read_size<'a>(symbols: Symbols<'a>) -> Parsed<'a, Option<i64>>
+    ensures ok { IfOk result (λ r. ReadsSize symbols.entry r.0 r.1) }
+    ensures err { IfErr result (λ fault. Stops (Size ∷ []) symbols.entry fault) }
+{
+    let Some(inside) = symbols.after_sign(b'[') else {
+        return Ok((None, symbols));
+    };
+    let (size, behind) = expect_number(&inside)?;
+    let rest = expect_sign(&behind, b']')?;
+    Ok((Some(size), rest))
+}
+
+/// Reads a declared value: a number, which may have a `-` before it.
+fn read_value<'a>(symbols: &Symbols<'a>) -> Parsed<'a, i64>
+    ensures ok { IfOk result (λ r. ReadsValue symbols.now r.0 r.1) }
+    ensures err { IfErr result (λ fault. Stops (Value ∷ []) symbols.now fault) }
+{
+    let Some(behind) = symbols.after_operator(MINUS) else {
+        return expect_number(symbols);
+    };
+    let Some((size, rest)) = behind.after_number() else {
+        return Err(SyntaxFault::Unexpected(behind.len()));
+    };
+    if size < 0 {
+        return Err(SyntaxFault::Unexpected(behind.len()));
+    }
+    Ok((-size, rest))
+}
+
+/// Reads the declaration of a cell, behind its word.
+fn read_cell<'a>(alloc: Global, symbols: &Symbols<'a>) -> Parsed<'a, Declaration>
+    ensures ok { IfOk result (λ r. ReadsCell symbols.now r.0 r.1) }
+    ensures err { IfErr result (λ fault. Stops cell symbols.now fault) }
+    ensures shorter { IfOk result (λ r. length r.1 < length symbols.now) }
+{
+    let Some((name, first)) = symbols.after_name() else {
+        return Err(SyntaxFault::Unexpected(symbols.len()));
+    };
+    let (size, second) = read_size(first)?;
+    let third = expect_sign(&second, b'=')?;
+    let (value, fourth) = read_value(&third)?;
+    let rest = expect_sign(&fourth, b';')?;
+    let name = Name::new(alloc, name)?;
+    Ok((Declaration { name, size, value }, rest))
+}
+
+/// Reads declarations, as long as their word stands at the front.
+fn read_cells<'a>(alloc: Global, symbols: Symbols<'a>) -> Parsed<'a, Declarations>
+    ensures ok { IfOk result (λ r. ReadsCells symbols.entry r.0 r.1) }
+    ensures err { IfErr result (λ fault. Stops (Cells ∷ []) symbols.entry fault) }
+{
+    let mut cells = Declarations::new(alloc);
+    let mut rest = symbols;
+    while let Some(declared) = rest.after_word(CELL) {
+        let (cell, behind) = read_cell(alloc, &declared)?;
+        cells.push(cell).map_err(AllocError::from)?;
+        rest = behind;
+    }
+    Ok((cells, rest))
+}
+
+/// Reads the loop: its word, its test and its body.
+fn read_loop<'a>(
+    alloc: Global,
+    symbols: &Symbols<'a>,
+) -> Result<(Expr, Block, Symbols<'a>), SyntaxFault>
+    ensures ok { IfOk result (λ r. ReadsLoop symbols.now (expression_of r.0) (statements_of r.1.statements.items) r.2) }
+    ensures err { IfErr result (λ fault. Stops loop symbols.now fault) }
+{
+    let behind = expect_word(symbols, PIPE_WHILE)?;
+    let (test, inside) = read_test(alloc, &behind)?;
+    let (body, rest) = read_block(alloc, &inside)?;
+    Ok((test, body, rest))
+}
+
+/// Reads the program that all of the symbols derive.
+pub fn read_program(alloc: Global, symbols: &Symbols) -> Result<Program, SyntaxFault>
+    ensures ok { IfOk result (λ program. ReadsProgram 256 symbols.now (tree_of program)) }
+    ensures err { IfErr result (λ fault. Refuses symbols.now fault) }
+{
+    let (limits, first) = read_limits(symbols)?;
+    let (cells, second) = read_cells(alloc, first)?;
+    let (init, third) = read_part(alloc, INIT, second)?;
+    let (test, body, fourth) = read_loop(alloc, &third)?;
+    let (last, rest) = read_part(alloc, FINAL, fourth)?;
+    if 0 < rest.len() {
+        return Err(SyntaxFault::Unexpected(rest.len()));
+    }
+    Ok(Program {
+        limits,
+        cells,
+        init,
+        test,
+        body,
+        last,
+    })
+}

@@ -1,0 +1,217 @@
+//! Statements and blocks from symbols.
+
+ghost use Rattle.std.specs.Prelude.{◌≡◌, ◌<◌, ◌≤◌, [], ◌∷◌, IfOk, IfErr, length};
+ghost use Rattle.pipe_model.specs.ProgramMachine as machine;
+ghost use Rattle.pipe_model.specs.ProgramMachine.{Sign, FullExpression, Target, Part};
+ghost use Rattle.pipe_model.specs.SyntaxTree.{expression_of, statement_of, statements_of};
+ghost use Rattle.pipe_model.specs.Reading.{ReadsFull, ReadsStatement, ReadsBlock, ReadsPart, NoSign};
+ghost use Rattle.pipe_model.specs.Words.{word_let, word_emit, word_if, word_while};
+ghost use Rattle.pipe_model.specs.declared.symbol.Symbol.TheVariants as terminals;
+ghost use Rattle.pipe_parser.specs.StatementReadings.{test, binding, element, stage, block, repetition, choice, ReadsTest, ReadsStage};
+ghost use Rattle.pipe_parser.specs.SyntaxFaults.{Stops};
+
+use crate::fault::SyntaxFault;
+use crate::full_expression::{Parsed, read_full};
+use crate::symbols::Symbols;
+use pipe_model::name::Name;
+use pipe_model::token::TokenKind;
+use pipe_model::tree::{Block, Expr, Stmt};
+use std::alloc::{AllocError, Global};
+
+/// The reserved word `else`, by its place in their list.
+const ELSE: u8 = 14;
+
+/// What stands behind a sign that has to come.
+pub fn expect_sign<'a>(symbols: &Symbols<'a>, sign: u8) -> Result<Symbols<'a>, SyntaxFault>
+    ensures ok { IfOk result (λ behind. symbols.now ≡ terminals.Sign sign ∷ behind) }
+    ensures err { IfErr result (λ fault. Stops (Sign sign ∷ []) symbols.now fault) }
+{
+    match symbols.after_sign(sign) {
+        Some(behind) => Ok(behind),
+        None => Err(SyntaxFault::Unexpected(symbols.len())),
+    }
+}
+
+/// Reads a full expression and the sign that closes it.
+fn read_until<'a>(alloc: Global, sign: u8, symbols: &Symbols<'a>) -> Parsed<'a, Expr>
+    ensures ok { IfOk result (λ r. ReadsFull 256 symbols.now (expression_of r.0) (terminals.Sign sign ∷ r.1)) }
+    ensures err { IfErr result (λ fault. Stops (FullExpression ∷ Sign sign ∷ []) symbols.now fault) }
+    ensures shorter { IfOk result (λ r. length r.1 < length symbols.now) }
+{
+    let (e, rest) = read_full(alloc, symbols)?;
+    let rest = expect_sign(&rest, sign)?;
+    Ok((e, rest))
+}
+
+/// Reads a test in brackets.
+pub fn read_test<'a>(alloc: Global, symbols: &Symbols<'a>) -> Parsed<'a, Expr>
+    ensures ok { IfOk result (λ r. ReadsTest symbols.now (expression_of r.0) r.1) }
+    ensures err { IfErr result (λ fault. Stops test symbols.now fault) }
+    ensures shorter { IfOk result (λ r. length r.1 < length symbols.now) }
+{
+    let inside = expect_sign(symbols, b'(')?;
+    let (e, rest) = read_until(alloc, b')', &inside)?;
+    Ok((e, rest))
+}
+
+/// Reads a `let`, behind its word.
+fn read_let<'a>(alloc: Global, symbols: &Symbols<'a>) -> Parsed<'a, Stmt>
+    ensures ok { IfOk result (λ r. ReadsStatement 256 (word_let ∷ symbols.now) (statement_of r.0) r.1) }
+    ensures err { IfErr result (λ fault. Stops binding symbols.now fault) }
+    ensures shorter { IfOk result (λ r. length r.1 < length symbols.now) }
+{
+    let Some((name, behind)) = symbols.after_name() else {
+        return Err(SyntaxFault::Unexpected(symbols.len()));
+    };
+    let rest = expect_sign(&behind, b'=')?;
+    let (e, rest) = read_until(alloc, b';', &rest)?;
+    let name = Name::new(alloc, name)?;
+    Ok((Stmt::Let(name, e), rest))
+}
+
+/// Reads an assignment to an element, behind its opening bracket.
+fn read_element<'a>(alloc: Global, name: &[u8], symbols: &Symbols<'a>) -> Parsed<'a, Stmt>
+    ensures ok { IfOk result (λ r. ReadsStatement 256 (terminals.Name name.now ∷ terminals.Sign 91 ∷ symbols.now) (statement_of r.0) r.1) }
+    ensures err { IfErr result (λ fault. Stops element symbols.now fault) }
+    ensures shorter { IfOk result (λ r. length r.1 < length symbols.now) }
+{
+    let (index, rest) = read_until(alloc, b']', symbols)?;
+    let rest = expect_sign(&rest, b'=')?;
+    let (e, rest) = read_until(alloc, b';', &rest)?;
+    let name = Name::new(alloc, name)?;
+    Ok((Stmt::AssignElement(name, index, e), rest))
+}
+
+/// Reads an assignment, behind its name.
+fn read_assignment<'a>(alloc: Global, name: &[u8], symbols: &Symbols<'a>) -> Parsed<'a, Stmt>
+    ensures ok { IfOk result (λ r. ReadsStatement 256 (terminals.Name name.now ∷ symbols.now) (statement_of r.0) r.1) }
+    ensures err { IfErr result (λ fault. Stops (Target ∷ []) symbols.now fault) }
+    ensures shorter { IfOk result (λ r. length r.1 < length symbols.now) }
+{
+    if let Some(inside) = symbols.after_sign(b'[') {
+        return read_element(alloc, name, &inside);
+    }
+    let Some(behind) = symbols.after_sign(b'=') else {
+        return Err(SyntaxFault::Unexpected(symbols.len()));
+    };
+    let (e, rest) = read_until(alloc, b';', &behind)?;
+    let name = Name::new(alloc, name)?;
+    Ok((Stmt::Assign(name, e), rest))
+}
+
+/// Reads an `emit`, behind its word.
+fn read_emit<'a>(alloc: Global, symbols: &Symbols<'a>) -> Parsed<'a, Stmt>
+    ensures ok { IfOk result (λ r. ReadsStatement 256 (word_emit ∷ symbols.now) (statement_of r.0) r.1) }
+    ensures err { IfErr result (λ fault. Stops (FullExpression ∷ Sign 59 ∷ []) symbols.now fault) }
+    ensures shorter { IfOk result (λ r. length r.1 < length symbols.now) }
+{
+    let (e, rest) = read_until(alloc, b';', symbols)?;
+    Ok((Stmt::Emit(e), rest))
+}
+
+/// Reads the brackets of a stage statement, with a stage number or without, and the semicolon behind them.
+fn read_stage<'a>(alloc: Global, symbols: &Symbols<'a>) -> Parsed<'a, Option<Expr>>
+    ensures ok { IfOk result (λ r. ReadsStage symbols.now r.0 r.1) }
+    ensures err { IfErr result (λ fault. Stops stage symbols.now fault) }
+    ensures shorter { IfOk result (λ r. length r.1 < length symbols.now) }
+{
+    let inside = expect_sign(symbols, b'(')?;
+    if let Some(behind) = inside.after_sign(b')') {
+        let rest = expect_sign(&behind, b';')?;
+        return Ok((None, rest));
+    }
+    let (e, behind) = read_until(alloc, b')', &inside)?;
+    let rest = expect_sign(&behind, b';')?;
+    Ok((Some(e), rest))
+}
+
+/// Reads a statement, where no block ends.
+#[cycle(block)]
+fn read_statement<'a>(alloc: Global, symbols: &Symbols<'a>) -> Parsed<'a, Stmt>
+    requires { NoSign 125 symbols.now }
+    ensures ok { IfOk result (λ r. ReadsStatement 256 symbols.now (statement_of r.0) r.1) }
+    ensures err { IfErr result (λ fault. Stops (machine.Statements ∷ Sign 125 ∷ []) symbols.now fault) }
+    ensures shorter { IfOk result (λ r. length r.1 < length symbols.now) }
+{
+    let Some(first) = symbols.first() else {
+        return Err(SyntaxFault::Unexpected(0));
+    };
+    match first.kind {
+        TokenKind::Name => read_assignment(alloc, first.text, &first.behind),
+        TokenKind::Word(9) => {
+            let (number, rest) = read_stage(alloc, &first.behind)?;
+            Ok((Stmt::Wait(number), rest))
+        }
+        TokenKind::Word(10) => {
+            let (number, rest) = read_stage(alloc, &first.behind)?;
+            Ok((Stmt::Continue(number), rest))
+        }
+        TokenKind::Word(12) => read_let(alloc, &first.behind),
+        TokenKind::Word(13) => read_if(alloc, &first.behind),
+        TokenKind::Word(15) => read_while(alloc, &first.behind),
+        TokenKind::Word(16) => read_emit(alloc, &first.behind),
+        _ => Err(SyntaxFault::Unexpected(symbols.len())),
+    }
+}
+
+/// Reads an `if`, behind its word.
+#[cycle(block)]
+fn read_if<'a>(alloc: Global, symbols: &Symbols<'a>) -> Parsed<'a, Stmt>
+    ensures ok { IfOk result (λ r. ReadsStatement 256 (word_if ∷ symbols.now) (statement_of r.0) r.1) }
+    ensures err { IfErr result (λ fault. Stops choice symbols.now fault) }
+    ensures shorter { IfOk result (λ r. length r.1 < length symbols.now) }
+{
+    let (e, rest) = read_test(alloc, symbols)?;
+    let (then, rest) = read_block(alloc, &rest)?;
+    let (other, rest) = read_part(alloc, ELSE, rest)?;
+    Ok((Stmt::If(e, then, other), rest))
+}
+
+/// Reads a `while`, behind its word.
+#[cycle(block)]
+fn read_while<'a>(alloc: Global, symbols: &Symbols<'a>) -> Parsed<'a, Stmt>
+    ensures ok { IfOk result (λ r. ReadsStatement 256 (word_while ∷ symbols.now) (statement_of r.0) r.1) }
+    ensures err { IfErr result (λ fault. Stops repetition symbols.now fault) }
+    ensures shorter { IfOk result (λ r. length r.1 < length symbols.now) }
+{
+    let (e, rest) = read_test(alloc, symbols)?;
+    let (body, rest) = read_block(alloc, &rest)?;
+    Ok((Stmt::While(e, body), rest))
+}
+
+/// Reads a part that may be missing: a word and a block. Without them it is the empty block.
+#[cycle(block)]
+pub fn read_part<'a>(alloc: Global, word: u8, symbols: Symbols<'a>) -> Parsed<'a, Block>
+    ensures ok { IfOk result (λ r. ReadsPart 256 word symbols.entry (statements_of r.0.statements.items) r.1) }
+    ensures err { IfErr result (λ fault. Stops (Part word ∷ []) symbols.entry fault) }
+    ensures shorter { IfOk result (λ r. length r.1 ≤ length symbols.entry) }
+{
+    match symbols.after_word(word) {
+        Some(behind) => read_block(alloc, &behind),
+        None => Ok((
+            Block {
+                statements: Vec::new(alloc),
+            },
+            symbols,
+        )),
+    }
+}
+
+/// Reads a block.
+#[cycle(block)]
+pub fn read_block<'a>(alloc: Global, symbols: &Symbols<'a>) -> Parsed<'a, Block>
+    ensures ok { IfOk result (λ r. ReadsBlock 256 symbols.now (statements_of r.0.statements.items) r.1) }
+    ensures err { IfErr result (λ fault. Stops block symbols.now fault) }
+    ensures shorter { IfOk result (λ r. length r.1 < length symbols.now) }
+{
+    let mut rest = expect_sign(symbols, b'{')?;
+    let mut statements = Vec::new(alloc);
+    loop {
+        if let Some(behind) = rest.after_sign(b'}') {
+            return Ok((Block { statements }, behind));
+        }
+        let (statement, behind) = read_statement(alloc, &rest)?;
+        statements.push(statement).map_err(AllocError::from)?;
+        rest = behind;
+    }
+}
