@@ -77,49 +77,65 @@ fn column(alloc: Global, nodes: &[Node]) -> Result<Column, Fail> {
     })
 }
 
+// Columns of these instances.
+fn columns(rt: &HostRuntime, lists: &[&[Node]]) -> Result<ListOf<Column>, Fail> {
+    let mut columns = ListOf::new(rt.alloc());
+    for nodes in lists {
+        columns.push(column(rt.alloc(), nodes)?)?;
+    }
+    Ok(columns)
+}
+
+// Edges down each column and between the heads; 3 and 4 of the second column wait for 2 of the first, of which the latter
+// edge is redundant; 6 of the third waits for 4 of the second.
+fn drawn(rt: &HostRuntime) -> Result<ListOf<Column>, Fail> {
+    let (zero, wait, skip) = (Kind::Zero, Kind::Wait, Kind::Continue);
+    columns(
+        rt,
+        &[
+            &[node(0, zero), node(2, skip), node(5, wait)],
+            &[node(0, zero), node(3, wait), node(4, wait), node(7, skip)],
+            &[node(0, zero), node(1, skip), node(6, wait)],
+        ],
+    )
+}
+
+const PLACES: [(u32, u32); 10] = [
+    (0, 0),
+    (0, 1),
+    (0, 2),
+    (1, 0),
+    (1, 1),
+    (1, 2),
+    (1, 3),
+    (2, 0),
+    (2, 1),
+    (2, 2),
+];
+
+// Which of the places a place precedes.
+const PRECEDES: [&[u8; 10]; 10] = [
+    b"0111111111",
+    b"0010111001",
+    b"0000000000",
+    b"0000111111",
+    b"0000011001",
+    b"0000001001",
+    b"0000000000",
+    b"0000000011",
+    b"0000000001",
+    b"0000000000",
+];
+
 #[test]
 fn every_pair(rt: HostRuntime) -> Result<(), Fail> {
-    // Edges down each column and between the heads; 3 and 4 of the second column wait for 2 of the
-    // first, of which the latter edge is redundant; 6 of the third waits for 4 of the second.
-    let alloc = rt.alloc();
-    let (zero, wait, skip) = (Kind::Zero, Kind::Wait, Kind::Continue);
-    let mut columns = ListOf::new(alloc);
-    columns.push(column(alloc, &[node(0, zero), node(2, skip), node(5, wait)])?)?;
-    columns.push(column(
-        alloc,
-        &[node(0, zero), node(3, wait), node(4, wait), node(7, skip)],
-    )?)?;
-    columns.push(column(alloc, &[node(0, zero), node(1, skip), node(6, wait)])?)?;
+    let columns = drawn(&rt)?;
     assert!(rt; are_rising(columns.as_slice()));
-    let dag = Dag::of(alloc, &columns)?;
-    let places = [
-        (0, 0),
-        (0, 1),
-        (0, 2),
-        (1, 0),
-        (1, 1),
-        (1, 2),
-        (1, 3),
-        (2, 0),
-        (2, 1),
-        (2, 2),
-    ];
-    let rows = [
-        b"0111111111",
-        b"0010111001",
-        b"0000000000",
-        b"0000111111",
-        b"0000011001",
-        b"0000001001",
-        b"0000000000",
-        b"0000000011",
-        b"0000000001",
-        b"0000000000",
-    ];
-    for ((iteration, index), row) in places.into_iter().zip(rows) {
+    let dag = Dag::of(rt.alloc(), &columns)?;
+    for ((iteration, index), row) in PLACES.into_iter().zip(PRECEDES) {
         let a = NodeId { iteration, index };
         assert!(rt; is_node(&dag, a));
-        for ((iteration, index), wanted) in places.into_iter().zip(row) {
+        for ((iteration, index), wanted) in PLACES.into_iter().zip(row) {
             let b = NodeId { iteration, index };
             assert!(rt; is_node(&dag, b));
             assert_eq!(rt; dag.precedes(a, b), *wanted == b'1', "{a:?} {b:?}");
@@ -128,75 +144,80 @@ fn every_pair(rt: HostRuntime) -> Result<(), Fail> {
     Ok(())
 }
 
-#[test]
-fn first_races(rt: HostRuntime) -> Result<(), Fail> {
-    let alloc = rt.alloc();
-    let (read, write) = (AccessKind::Read, AccessKind::Write);
-    let mut columns = ListOf::new(alloc);
-    columns.push(column(alloc, &[node(0, Kind::Zero), node(2, Kind::Continue)])?)?;
-    columns.push(column(alloc, &[node(0, Kind::Zero), node(3, Kind::Continue)])?)?;
-    assert!(rt; are_rising(columns.as_slice()));
-    let dag = Dag::of(alloc, &columns)?;
-    let rows = [
-        // Ordered by the heads, and two reads.
-        (0, 0, 6, write),
-        (1, 0, 6, read),
-        (0, 1, 7, read),
-        (1, 1, 7, read),
-        // A race: with the read, since the write before it is ordered; the later race is left out.
-        (0, 0, 5, write),
-        (0, 1, 5, read),
-        (1, 1, 5, write),
-        (0, 1, 5, write),
-        // The output, as each emit accesses it.
-        (0, 1, 1, read),
-        (0, 1, 1, write),
-        (1, 1, 1, read),
-        (1, 1, 1, write),
-        // Out of order: an access of an earlier instance first does not race, that of a parallel one does.
-        (1, 1, 8, write),
-        (0, 0, 8, write),
-        (0, 1, 8, read),
-    ];
+// Accesses by iteration, index, cell and kind.
+const ACCESSES: [(u32, u32, u32, AccessKind); 15] = [
+    // Ordered by the heads, and two reads.
+    (0, 0, 6, AccessKind::Write),
+    (1, 0, 6, AccessKind::Read),
+    (0, 1, 7, AccessKind::Read),
+    (1, 1, 7, AccessKind::Read),
+    // A race: with the read, since the write before it is ordered; the later race is left out.
+    (0, 0, 5, AccessKind::Write),
+    (0, 1, 5, AccessKind::Read),
+    (1, 1, 5, AccessKind::Write),
+    (0, 1, 5, AccessKind::Write),
+    // The output, as each emit accesses it.
+    (0, 1, 1, AccessKind::Read),
+    (0, 1, 1, AccessKind::Write),
+    (1, 1, 1, AccessKind::Read),
+    (1, 1, 1, AccessKind::Write),
+    // Out of order: an access of an earlier instance first does not race, that of a parallel one does.
+    (1, 1, 8, AccessKind::Write),
+    (0, 0, 8, AccessKind::Write),
+    (0, 1, 8, AccessKind::Read),
+];
+
+fn accesses(alloc: Global) -> Result<ListOf<NodeAccess>, Fail> {
     let mut accesses = ListOf::new(alloc);
-    for (iteration, index, cell, kind) in rows {
-        let node = NodeId { iteration, index };
+    for (iteration, index, cell, kind) in ACCESSES {
         let access = Access {
             cell: CellId(cell),
             kind,
             value: 0,
         };
+        let node = NodeId { iteration, index };
         accesses.push(NodeAccess { node, access })?;
     }
-    assert!(rt; are_accesses(&dag, accesses.as_slice()));
-    let reports = dag.races(alloc, &accesses)?;
-    let left = NodeId {
-        iteration: 0,
-        index: 1,
-    };
-    let right = NodeId {
-        iteration: 1,
-        index: 1,
-    };
-    let report = |cell, earlier_kind, later_kind| Report {
+    Ok(accesses)
+}
+
+// A race on the cell between the last instances of the two columns, by iteration, stage number and kind, the earlier access
+// first.
+fn report(cell: u32, earlier: (u32, i64, AccessKind), later: (u32, i64, AccessKind)) -> Report {
+    Report {
         cell: CellId(cell),
-        earlier: left,
-        earlier_number: 2,
-        earlier_kind,
-        later: right,
-        later_number: 3,
-        later_kind,
-    };
-    let reversed = Report {
-        cell: CellId(8),
-        earlier: right,
-        earlier_number: 3,
-        earlier_kind: write,
-        later: left,
-        later_number: 2,
-        later_kind: read,
-    };
-    let wanted = [report(1, write, read), report(5, read, write), reversed];
+        earlier: last_of(earlier.0),
+        earlier_number: earlier.1,
+        earlier_kind: earlier.2,
+        later: last_of(later.0),
+        later_number: later.1,
+        later_kind: later.2,
+    }
+}
+
+fn last_of(iteration: u32) -> NodeId {
+    NodeId {
+        iteration,
+        index: 1,
+    }
+}
+
+#[test]
+fn first_races(rt: HostRuntime) -> Result<(), Fail> {
+    let first = [node(0, Kind::Zero), node(2, Kind::Continue)];
+    let second = [node(0, Kind::Zero), node(3, Kind::Continue)];
+    let columns = columns(&rt, &[&first, &second])?;
+    assert!(rt; are_rising(columns.as_slice()));
+    let dag = Dag::of(rt.alloc(), &columns)?;
+    let accesses = accesses(rt.alloc())?;
+    assert!(rt; are_accesses(&dag, accesses.as_slice()));
+    let reports = dag.races(rt.alloc(), &accesses)?;
+    let (read, write) = (AccessKind::Read, AccessKind::Write);
+    let wanted = [
+        report(1, (0, 2, write), (1, 3, read)),
+        report(5, (0, 2, read), (1, 3, write)),
+        report(8, (1, 3, write), (0, 2, read)),
+    ];
     assert_eq!(rt; reports.as_slice(), wanted.as_slice());
     Ok(())
 }
