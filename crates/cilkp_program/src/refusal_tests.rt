@@ -43,6 +43,25 @@ const TOKENS: [Row; 12] = [
     ("source Unexpected", "cell a[@-1] = 0; pipe_while (0) { }"),
 ];
 
+// Whole sources, each with its line.
+const WHOLE: [Row; 6] = [
+    ("", "refused source Unexpected at 0\n"),
+    ("@", "refused source BadByte at 0\n"),
+    (
+        "limits iterations 8, stages 4, steps 10",
+        "refused source Unexpected at 39\n",
+    ),
+    (
+        "limits iterations 9223372036854775808",
+        "refused source TooWide at 18\n",
+    ),
+    (
+        "aaaaaaaaaaaaaaaaaaaaaaaaaaaaaaaaaaaaaaaaaaaaaaaaaaaaaaaaaaaaaaaaa",
+        "refused source NameTooLong at 0\n",
+    ),
+    ("// a comment", "refused source Unexpected at 12\n"),
+];
+
 // Each rule alone, where a name is in scope, and two rules at one mark: the one that comes first in the list of rules counts.
 const RULES: [Row; 34] = [
     ("check Unknown", "pipe_while (@x < 3) { }"),
@@ -229,6 +248,10 @@ fn bounds(alloc: Global) -> Result<(), Fail> {
 
 #[test]
 fn sources_are_refused(rt: HostRuntime) -> Result<(), Fail> {
+    for (source, line) in WHOLE {
+        Case::of(source.as_bytes()).check(rt.alloc(), source, 1, line)?;
+        Case::format(source.as_bytes()).check(rt.alloc(), source, 1, line)?;
+    }
     for row in TEXTS {
         refused(rt.alloc(), row)?;
     }
