@@ -1,5 +1,4 @@
 pub mod LimitOrder
-pub mod Results
 pub mod Faults
 pub mod Expressions
 pub mod Elements
@@ -7,5 +6,5 @@ pub mod Scopes
 pub mod Statements
 pub mod CellTables
 pub mod Regions
-pub mod Weights
 pub mod FirstFaults
+pub mod Samples

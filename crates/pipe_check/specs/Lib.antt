@@ -1,5 +1,6 @@
 pub mod Passing
 pub mod CellTables
 pub mod Accepted
-pub mod Weights
 pub mod RuleLaws
+pub mod Examples
+pub mod Samples

@@ -13,5 +13,3 @@ mod scope;
 mod statement;
 #[cfg(test)]
 mod tests;
-#[cfg(test)]
-mod weighing;

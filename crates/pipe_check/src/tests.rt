@@ -1,380 +1,141 @@
-// Programs that break no rule, each rule alone, and two rules at one mark. The numbers of the marks are counted by hand.
-//
-// Statements are written as words of three bytes: what is done, a name, and an expression. `lx1` is `let x = 1;`, `=x1` is `x = 1;`,
-// `[x1` is `x[0] = 1;`, `e.1` is `emit 1;`, `w.1` is `pipe_wait(1);` and `W..` is `pipe_wait();`. In an expression `1` is a number,
-// `x` a name, `X` the element `x[0]`, and `@` is `iter()`.
+// What the check answers to one program with each kind of statement, and to it with other numbers and names. That its answers are the
+// faults of programs is proved, and what faults programs have is told by worked examples (`law`). A run shows that they come, and not
+// want of memory.
 
-use crate::checked::Checked;
+ghost use Rattle.std.specs.Prelude.{◌≡◌, All, IfOk, length};
+ghost use Rattle.pipe_check.specs.Samples.{AreSmall};
+ghost use Rattle.pipe_model.specs.SpellablePrograms.{HasNoNegativeSize, IsSpellable};
+ghost use Rattle.pipe_model.specs.SyntaxTree.{statements_of, tree_of};
+ghost use Rattle.pipe_model.specs.declared.tree.Declaration.{Declaration as Declared};
+
 use crate::fault::CheckFault;
 use crate::program::check;
-use crate::weighing::is_spellable;
-use pipe_model::list::ListOf;
 use pipe_model::memory::NoMemory;
 use pipe_model::name::Name;
-use pipe_model::tree::{Block, Declaration, Expr, Limits, Program, Stmt};
+use pipe_model::tree::{Block, Declaration, Declarations, Expr, Limits, Program, Stmt};
 use std::alloc::Global;
-use std::process::Abort;
 use std::test::Fail;
 
-// a letter, and the size of an array
-type Cell = (u8, Option<i64>);
+// How many iterations a program may run, the size of its array, the letters of the names ARRAY, INDEXED, LOCAL and VALUE, and whether
+// it waits behind the loop.
+type Sample = (i64, u32, [u8; 4], bool);
 
-const N: Cell = (b'n', None);
-
-const PAIR: Cell = (b'a', Some(2));
-
-const LEAST: Limits = Limits {
-    iterations: 1,
-    stages: 1,
-    steps: 1,
-    emits: 0,
-};
+const FAULTS: [(Sample, CheckFault); 10] = [
+    ((0, 3, *b"aaxx", false), CheckFault::LimitOut(1)),
+    ((1, 3, *b"naxx", false), CheckFault::Twice(1)),
+    ((1, 0, *b"aaxx", false), CheckFault::ZeroSize(1)),
+    ((1, 65_536, *b"aaxx", false), CheckFault::TooManyCells(1)),
+    ((1, 3, *b"azxx", false), CheckFault::Unknown(5)),
+    ((1, 3, *b"anxx", false), CheckFault::NotAnArray(5)),
+    ((1, 3, *b"aanx", false), CheckFault::Twice(6)),
+    ((1, 3, *b"aaxy", false), CheckFault::Unknown(8)),
+    ((1, 3, *b"aaxa", false), CheckFault::NeedsIndex(8)),
+    ((1, 3, *b"aaxx", true), CheckFault::PipeOutside(13)),
+];
 
 fn name(alloc: Global, letter: u8) -> Result<Name, NoMemory> {
     Ok(Name::new(alloc, &[letter])?)
 }
 
-fn expression(alloc: Global, letter: u8) -> Result<Expr, NoMemory> {
-    match letter {
-        b'0'..=b'9' => Ok(Expr::Number(1)),
-        b'@' => Ok(Expr::Iter),
-        b'A'..=b'Z' => {
-            let index = Box::new(alloc, Expr::Number(0))?;
-            Ok(Expr::Element(name(alloc, letter + 32)?, index))
-        }
-        _ => Ok(Expr::Name(name(alloc, letter)?)),
-    }
-}
-
-fn statement(alloc: Global, word: &[u8]) -> Result<Stmt, NoMemory> {
-    let (Some(kind), Some(letter), Some(value)) = (word.get(0), word.get(1), word.get(2)) else {
-        return Ok(Stmt::Emit(Expr::Number(1)));
+// `cell n = 0; cell ARRAY[size] = 0;`
+fn cells(alloc: Global, array: u8, size: u32) -> Result<Declarations, NoMemory>
+    ensures { IfOk result (λ cells. All (λ (d : Declared). HasNoNegativeSize d.size) cells × (length cells ≡ 2)) }
+{
+    let plain = Declaration {
+        name: name(alloc, b'n')?,
+        size: None,
+        value: 0,
     };
-    let x = name(alloc, *letter)?;
-    let e = expression(alloc, *value)?;
-    Ok(match *kind {
-        b'l' => Stmt::Let(x, e),
-        b'=' => Stmt::Assign(x, e),
-        b'[' => Stmt::AssignElement(x, Expr::Number(0), e),
-        b'w' => Stmt::Wait(Some(e)),
-        b'W' => Stmt::Wait(None),
-        b'c' => Stmt::Continue(Some(e)),
-        b'C' => Stmt::Continue(None),
-        _ => Stmt::Emit(e),
-    })
+    let array = Declaration {
+        name: name(alloc, array)?,
+        size: Some(i64::from(size)),
+        value: 0,
+    };
+    Ok(Declarations::from_vec(vec![in alloc; plain, array]?))
 }
 
-fn add(alloc: Global, statements: &mut Vec<Stmt>, words: &[&str]) -> Result<(), NoMemory> {
-    for word in words {
-        statements.push(statement(alloc, word.as_bytes())?)?;
-    }
-    Ok(())
-}
-
-fn block(alloc: Global, words: &[&str]) -> Result<Block, NoMemory> {
-    let mut statements = Vec::new(alloc);
-    add(alloc, &mut statements, words)?;
+// `if (n) { let y = n; } else { emit INDEXED[0]; }`
+fn init(alloc: Global, indexed: u8) -> Result<Block, NoMemory>
+    ensures { IfOk result (λ block. AreSmall (statements_of block.statements.items)) }
+{
+    let test = Expr::Name(name(alloc, b'n')?);
+    let local = Stmt::Let(name(alloc, b'y')?, Expr::Name(name(alloc, b'n')?));
+    let index = Box::new(alloc, Expr::Number(0))?;
+    let emit = Stmt::Emit(Expr::Element(name(alloc, indexed)?, index));
+    let then = Block {
+        statements: vec![in alloc; local]?,
+    };
+    let other = Block {
+        statements: vec![in alloc; emit]?,
+    };
+    let statements = vec![in alloc; Stmt::If(test, then, other)]?;
     Ok(Block { statements })
 }
 
-fn cells(alloc: Global, cells: &[Cell]) -> Result<ListOf<Declaration>, NoMemory> {
-    let mut declared = Vec::new(alloc);
-    for (letter, size) in cells {
-        declared.push(Declaration {
-            name: name(alloc, *letter)?,
-            size: *size,
-            value: 0,
-        })?;
-    }
-    Ok(ListOf::from_vec(declared))
+// `let LOCAL = 1; n = VALUE; a[0] = iter(); pipe_wait(1); pipe_continue();`
+fn body(alloc: Global, local: u8, value: u8) -> Result<Block, NoMemory>
+    ensures { IfOk result (λ block. AreSmall (statements_of block.statements.items)) }
+{
+    let value = Expr::Name(name(alloc, value)?);
+    let statements = vec![in alloc;
+        Stmt::Let(name(alloc, local)?, Expr::Number(1)),
+        Stmt::Assign(name(alloc, b'n')?, value),
+        Stmt::AssignElement(name(alloc, b'a')?, Expr::Number(0), Expr::Iter),
+        Stmt::Wait(Some(Expr::Number(1))),
+        Stmt::Continue(None),
+    ]?;
+    Ok(Block { statements })
 }
 
-fn program(alloc: Global, declared: &[Cell], body: Block) -> Result<Program, NoMemory> {
+// `pipe_wait();`, or else `while (1) { emit 1; }`
+fn last(alloc: Global, waits: bool) -> Result<Block, NoMemory>
+    ensures { IfOk result (λ block. AreSmall (statements_of block.statements.items)) }
+{
+    if waits {
+        return Ok(Block {
+            statements: vec![in alloc; Stmt::Wait(None)]?,
+        });
+    }
+    let repeated = Block {
+        statements: vec![in alloc; Stmt::Emit(Expr::Number(1))]?,
+    };
+    let statements = vec![in alloc; Stmt::While(Expr::Number(1), repeated)]?;
+    Ok(Block { statements })
+}
+
+fn program(alloc: Global, sample: Sample) -> Result<Program, NoMemory>
+    ensures { IfOk result (λ program. IsSpellable (tree_of program)) }
+{
+    let (iterations, size, [array, indexed, local, value], waits) = sample;
     Ok(Program {
-        limits: LEAST,
-        cells: cells(alloc, declared)?,
-        init: block(alloc, &[])?,
+        limits: Limits {
+            iterations,
+            stages: 1,
+            steps: 1,
+            emits: 0,
+        },
+        cells: cells(alloc, array, size)?,
+        init: init(alloc, indexed)?,
         test: Expr::Number(1),
-        body,
-        last: block(alloc, &[])?,
+        body: body(alloc, local, value)?,
+        last: last(alloc, waits)?,
     })
 }
 
-// what the check of a program must answer
-fn expect(
-    rt: &impl Abort,
-    alloc: Global,
-    program: Program,
-    wanted: Option<CheckFault>,
-) -> Option<Checked> {
-    assert!(rt; is_spellable(&program));
-    match check(alloc, program) {
-        Ok(checked) => {
-            assert_eq!(rt; wanted, None);
-            Some(checked)
-        }
-        Err(fault) => {
-            assert_eq!(rt; wanted, Some(fault));
-            None
-        }
-    }
-}
-
-// a program with these cells and this body
-fn body(
-    rt: &impl Abort,
-    alloc: Global,
-    declared: &[Cell],
-    words: &[&str],
-    wanted: Option<CheckFault>,
-) -> Result<(), NoMemory> {
-    let program = program(alloc, declared, block(alloc, words)?)?;
-    let _ = expect(rt, alloc, program, wanted);
-    Ok(())
-}
-
-// a program with the cell `n` and these parts
-fn parts(
-    rt: &impl Abort,
-    alloc: Global,
-    init: &[&str],
-    test: u8,
-    last: &[&str],
-    wanted: Option<CheckFault>,
-) -> Result<(), NoMemory> {
-    let mut program = program(alloc, &[N], block(alloc, &["lx1", "e.x"])?)?;
-    program.init = block(alloc, init)?;
-    program.test = expression(alloc, test)?;
-    program.last = block(alloc, last)?;
-    let _ = expect(rt, alloc, program, wanted);
-    Ok(())
-}
-
-// `let` statements of so many names, and one more
-fn locals(
-    rt: &impl Abort,
-    alloc: Global,
-    count: u8,
-    more: &str,
-    wanted: Option<CheckFault>,
-) -> Result<(), NoMemory> {
-    let mut statements = Vec::new(alloc);
-    for i in 0..count {
-        statements.push(Stmt::Let(Name::new(alloc, &[b'x', i])?, Expr::Number(1)))?;
-    }
-    add(alloc, &mut statements, &[more])?;
-    let program = program(alloc, &[N], Block { statements })?;
-    let _ = expect(rt, alloc, program, wanted);
-    Ok(())
-}
-
-// statements before a branch or a loop, its blocks, and a statement behind it
-fn nested(
-    rt: &impl Abort,
-    alloc: Global,
-    before: &[&str],
-    inside: Stmt,
-    behind: &[&str],
-    wanted: Option<CheckFault>,
-) -> Result<(), NoMemory> {
-    let mut statements = Vec::new(alloc);
-    add(alloc, &mut statements, before)?;
-    statements.push(inside)?;
-    add(alloc, &mut statements, behind)?;
-    let program = program(alloc, &[N], Block { statements })?;
-    let _ = expect(rt, alloc, program, wanted);
-    Ok(())
-}
-
-fn branch(alloc: Global, a: &[&str], b: &[&str]) -> Result<Stmt, NoMemory> {
-    Ok(Stmt::If(Expr::Number(1), block(alloc, a)?, block(alloc, b)?))
-}
-
-fn repeat(alloc: Global, a: &[&str]) -> Result<Stmt, NoMemory> {
-    Ok(Stmt::While(Expr::Number(1), block(alloc, a)?))
-}
-
-fn uses(rt: &impl Abort, alloc: Global) -> Result<(), NoMemory> {
-    body(
-        rt,
-        alloc,
-        &[N, PAIR],
-        &["lx@", "=nx", "[an", "c.1", "e.A", "W.."],
-        None,
-    )?;
-    body(rt, alloc, &[N], &["e.x"], Some(CheckFault::Unknown(1)))?;
-    body(rt, alloc, &[N], &["e.X"], Some(CheckFault::Unknown(1)))?;
-    body(rt, alloc, &[N], &["=xy"], Some(CheckFault::Unknown(1)))?;
-    body(rt, alloc, &[N], &["[xy"], Some(CheckFault::Unknown(1)))?;
-    body(rt, alloc, &[N], &["lxx"], Some(CheckFault::Unknown(2)))?;
-    body(rt, alloc, &[N], &["e.N"], Some(CheckFault::NotAnArray(1)))?;
-    body(rt, alloc, &[N], &["[n1"], Some(CheckFault::NotAnArray(1)))?;
-    body(
-        rt,
-        alloc,
-        &[N],
-        &["lx1", "e.X"],
-        Some(CheckFault::NotAnArray(2)),
-    )?;
-    body(
-        rt,
-        alloc,
-        &[PAIR],
-        &["e.a"],
-        Some(CheckFault::NeedsIndex(1)),
-    )?;
-    body(
-        rt,
-        alloc,
-        &[PAIR],
-        &["=a1"],
-        Some(CheckFault::NeedsIndex(1)),
-    )?;
-    Ok(())
-}
-
-fn declarations(rt: &impl Abort, alloc: Global) -> Result<(), NoMemory> {
-    let most = (b'a', Some(65_536));
-    let more = (b'a', Some(65_537));
-    let none = (b'a', Some(0));
-    body(rt, alloc, &[N, N], &[], Some(CheckFault::Twice(1)))?;
-    body(rt, alloc, &[N], &["ln1"], Some(CheckFault::Twice(1)))?;
-    body(rt, alloc, &[N], &["lx1", "lx1"], Some(CheckFault::Twice(2)))?;
-    body(rt, alloc, &[most], &[], None)?;
-    body(rt, alloc, &[N, (b'a', Some(65_535))], &[], None)?;
-    body(rt, alloc, &[more], &[], Some(CheckFault::TooManyCells(0)))?;
-    body(
-        rt,
-        alloc,
-        &[most, N],
-        &[],
-        Some(CheckFault::TooManyCells(1)),
-    )?;
-    body(
-        rt,
-        alloc,
-        &[N, (b'a', Some(i64::MAX))],
-        &[],
-        Some(CheckFault::TooManyCells(1)),
-    )?;
-    body(rt, alloc, &[N, none], &[], Some(CheckFault::ZeroSize(1)))?;
-    body(rt, alloc, &[most, PAIR], &[], Some(CheckFault::Twice(1)))?;
-    body(rt, alloc, &[PAIR, none], &[], Some(CheckFault::Twice(1)))?;
-    locals(rt, alloc, 63, "ly1", None)?;
-    locals(rt, alloc, 64, "e.1", None)?;
-    locals(rt, alloc, 64, "ly1", Some(CheckFault::TooManyLocals(65)))?;
-    locals(rt, alloc, 64, "ln1", Some(CheckFault::Twice(65)))?;
-    Ok(())
-}
-
-fn regions(rt: &impl Abort, alloc: Global) -> Result<(), NoMemory> {
-    parts(rt, alloc, &["lx1"], b'@', &["lx1"], None)?;
-    parts(rt, alloc, &["lx1"], b'x', &[], Some(CheckFault::Unknown(2)))?;
-    parts(
-        rt,
-        alloc,
-        &["e.@"],
-        b'1',
-        &[],
-        Some(CheckFault::PipeOutside(1)),
-    )?;
-    parts(
-        rt,
-        alloc,
-        &["w.x"],
-        b'1',
-        &[],
-        Some(CheckFault::PipeOutside(1)),
-    )?;
-    parts(
-        rt,
-        alloc,
-        &[],
-        b'1',
-        &["e.@"],
-        Some(CheckFault::PipeOutside(3)),
-    )?;
-    parts(
-        rt,
-        alloc,
-        &[],
-        b'1',
-        &["C.."],
-        Some(CheckFault::PipeOutside(3)),
-    )?;
-    parts(rt, alloc, &[], b'1', &["e.x"], Some(CheckFault::Unknown(3)))?;
-    Ok(())
-}
-
-fn scopes(rt: &impl Abort, alloc: Global) -> Result<(), NoMemory> {
-    let seen = branch(alloc, &["e.x", "ly1", "e.y"], &["e.x", "lz1"])?;
-    nested(rt, alloc, &["lx1"], seen, &["e.x"], None)?;
-    let then = branch(alloc, &["lx1", "e.x"], &[])?;
-    nested(rt, alloc, &[], then, &["e.x"], Some(CheckFault::Unknown(3)))?;
-    let other = branch(alloc, &["lx1"], &["e.x"])?;
-    nested(rt, alloc, &[], other, &[], Some(CheckFault::Unknown(2)))?;
-    let both = branch(alloc, &["lx1"], &["lx1"])?;
-    nested(rt, alloc, &[], both, &[], Some(CheckFault::Twice(2)))?;
-    let again = repeat(alloc, &["lx1", "w.x"])?;
-    nested(
-        rt,
-        alloc,
-        &[],
-        again,
-        &["e.x"],
-        Some(CheckFault::Unknown(4)),
-    )?;
-    let hidden = repeat(alloc, &["lx1"])?;
-    nested(rt, alloc, &[], hidden, &["lx1"], Some(CheckFault::Twice(2)))?;
-    Ok(())
-}
-
-// a program whose body breaks a rule too
-fn limits(rt: &impl Abort, alloc: Global, limits: Limits, which: u32) -> Result<(), NoMemory> {
-    let mut program = program(alloc, &[N], block(alloc, &["e.x"])?)?;
-    program.limits = limits;
-    let wanted = if which == 0 {
-        CheckFault::Unknown(1)
-    } else {
-        CheckFault::LimitOut(which)
-    };
-    let _ = expect(rt, alloc, program, Some(wanted));
-    Ok(())
-}
-
-fn ranges(rt: &impl Abort, alloc: Global) -> Result<(), NoMemory> {
-    let of = |iterations, stages, steps, emits| Limits {
-        iterations,
-        stages,
-        steps,
-        emits,
-    };
-    limits(rt, alloc, of(65_536, 4, 1_000_000, 1_048_576), 0)?;
-    limits(rt, alloc, of(64, 4096, 1, 0), 0)?;
-    limits(rt, alloc, of(0, 0, 0, 1_048_577), 1)?;
-    limits(rt, alloc, of(65_537, 1, 1, 0), 1)?;
-    limits(rt, alloc, of(1, 0, 0, 0), 2)?;
-    limits(rt, alloc, of(65_536, 4097, 1, 0), 2)?;
-    limits(rt, alloc, of(65_536, 5, 0, 0), 3)?;
-    limits(rt, alloc, of(1, 1, 0, 1_048_577), 4)?;
-    limits(rt, alloc, of(1, 1, 1_000_001, 0), 4)?;
-    limits(rt, alloc, of(1, 1, 1, 1_048_577), 5)?;
+#[test]
+fn accepts_a_program(rt: HostRuntime) -> Result<(), Fail> {
+    let program = program(rt.alloc(), (1, 3, *b"aaxx", false))?;
+    let checked = check(rt.alloc(), program)?;
+    assert_eq!(rt; checked.cell_count(), 6);
+    assert_eq!(rt; checked.program().cells.len(), 2);
     Ok(())
 }
 
 #[test]
-fn rules(rt: HostRuntime) -> Result<(), Fail> {
-    let alloc = rt.alloc();
-    uses(&rt, alloc)?;
-    declarations(&rt, alloc)?;
-    regions(&rt, alloc)?;
-    scopes(&rt, alloc)?;
-    ranges(&rt, alloc)?;
-    let accepted = program(alloc, &[N, (b'a', Some(3))], block(alloc, &["e.A"])?)?;
-    let Some(checked) = expect(&rt, alloc, accepted, None) else {
-        return Ok(());
-    };
-    assert_eq!(&rt; checked.cell_count(), 6);
-    assert_eq!(&rt; checked.program().cells.len(), 2);
+fn tells_each_kind_of_fault(rt: HostRuntime) -> Result<(), Fail> {
+    for (sample, want) in FAULTS {
+        let answer = check(rt.alloc(), program(rt.alloc(), sample)?);
+        assert!(rt; answer.err() == Some(want), "{want}");
+    }
     Ok(())
 }

@@ -1,8 +1,10 @@
 //! A law of the canonical text, and worked examples: each function has an empty body, and its contract is the law or
-//! the example.
+//! the examples.
 
-ghost use Rattle.pipe_format.specs.Examples.{BlocksAreIndented, BracketsAreNeeded};
+ghost use Rattle.std.specs.Prelude.{◌≡◌};
+ghost use Rattle.pipe_format.specs.Examples.{BlocksAreIndented, HaveTexts, bare_loop, bare_loop_text, brackets, operands, sums, sums_text};
 ghost use Rattle.pipe_format.specs.TextLaws.{ReadingsHaveTheSameText};
+ghost use Rattle.pipe_model.specs.CanonicalText.{program_text};
 
 /// The text of a program that some source spells is the text of the program that is read from it.
 pub fn readings_have_the_same_text()
@@ -11,10 +13,17 @@ pub fn readings_have_the_same_text()
 
 /// Brackets stand where the tree needs them.
 pub fn brackets_are_needed()
-    ensures { BracketsAreNeeded }
+    ensures brackets { HaveTexts brackets }
+    ensures operands { HaveTexts operands }
 {}
 
 /// A block's lines stand two spaces deeper, and an empty else part is left out.
 pub fn blocks_are_indented()
     ensures { BlocksAreIndented }
+{}
+
+/// The texts of a loop alone, and of sums in a second stage.
+pub fn programs_have_their_texts()
+    ensures bare { program_text bare_loop ≡ bare_loop_text }
+    ensures sums { program_text sums ≡ sums_text }
 {}

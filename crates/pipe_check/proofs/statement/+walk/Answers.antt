@@ -1,11 +1,10 @@
 use Rattle.std.proofs.Common.{◌≡◌, ◌<◌, ◌∙◌, sym, ap, arith, length}
-use Rattle.std.proofs.lemmas.Result.{err_from_is_err_and}
+use Rattle.std.proofs.lemmas.Result.{err_from_is_err_and, on_ok_weaker}
 use Rattle.pipe_model.specs.Marks.{after_statements}
 use Rattle.pipe_model.specs.SpellablePrograms.{statement_count, statement_counts}
 use Rattle.pipe_model.specs.SyntaxTree.{expression_of, statement_of, statements_of}
 use Rattle.pipe_model.proofs.NestedBlocks.{if_seen, while_seen}
 use Rattle.pipe_check.proofs.Statements.{none_left, block_refused, statement_fits, one_counts, statement_passed, block_left, test_refused, first_refused, second_decides, first_fits, second_fits, branch_left, loop_refused, body_decides, body_fits, loop_left}
-use Rattle.pipe_check.proofs.Results.{on_ok}
 use Rattle.pipe_check.proofs.statement.+walk.Goals as goal
 
 pub check_block-returns-in_err-next-clause-marks : goal.check_block-returns-in_err-next-clause-marks
@@ -80,7 +79,7 @@ check_statement-returns-in_ok-next-in-If-2-clause-marks t c =
 pub check_statement-returns-in_ok-next-in-If-2-clause-behind : goal.check_statement-returns-in_ok-next-in-If-2-clause-behind
 check_statement-returns-in_ok-next-in-If-2-clause-behind t c =
     let is = ap statement_of c.in-If.is ∙ if_seen c.in-If.e c.in-If.a c.in-If.b in
-    on_ok _ _ c.check_block-in-If.result (λ left. branch_left c.args.scope.now c.check_block.new.scope c.check_block-in-If.new.scope (expression_of c.in-If.e)
+    on_ok_weaker c.check_block-in-If.result (λ left. branch_left c.args.scope.now c.check_block.new.scope c.check_block-in-If.new.scope (expression_of c.in-If.e)
     (statements_of c.in-If.a.statements.items) (statements_of c.in-If.b.statements.items) _ is c.in_ok-next-in-If-2.ensures.behind left) c.check_block-in-If.ensures.behind
 
 pub check_statement-returns-in_err-next-in-While-clause-marks : goal.check_statement-returns-in_err-next-in-While-clause-marks
@@ -103,5 +102,5 @@ check_statement-returns-in_ok-next-in-While-clause-marks t c =
 pub check_statement-returns-in_ok-next-in-While-clause-behind : goal.check_statement-returns-in_ok-next-in-While-clause-behind
 check_statement-returns-in_ok-next-in-While-clause-behind t c =
     let is = ap statement_of c.in-While.is ∙ while_seen c.in-While.e c.in-While.a in
-    on_ok _ _ c.check_block-in-While.result (λ left. loop_left c.args.scope.now c.check_block-in-While.new.scope (expression_of c.in-While.e)
+    on_ok_weaker c.check_block-in-While.result (λ left. loop_left c.args.scope.now c.check_block-in-While.new.scope (expression_of c.in-While.e)
     (statements_of c.in-While.a.statements.items) _ is left) c.check_block-in-While.ensures.behind

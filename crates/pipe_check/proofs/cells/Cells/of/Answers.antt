@@ -1,12 +1,17 @@
-use Rattle.std.proofs.Common.{◌≡◌, ◌≤◌, ◌<◌, ◌+◌, ◌∙◌, take, sym, ap, subst, arith, false, ◌==◌, nat_lt, is_some, length, List}
+use Rattle.std.proofs.Common.{◌≡◌, true, Result, Ok, Err, OnOk, ◌≤◌, ◌<◌, ◌+◌, ◌∙◌, take, sym, ap, subst, arith, false, ◌==◌, nat_lt, is_some, length, List}
 use Rattle.std.proofs.lemmas.Bool.{le-ltb}
+use Rattle.std.specs.Result.{is_ok}
 use Rattle.pipe_check.specs.CellTables.{IsTable}
 use Rattle.pipe_model.specs.declared.tree.Declaration.{Declaration}
 use Rattle.pipe_model.specs.CheckingRules.{size_in, is_cell, cell_total}
 use Rattle.pipe_model.specs.Programs.{declared_size}
 use Rattle.pipe_check.proofs.CellTables.{table_more, take_next, cell_passed}
-use Rattle.pipe_check.proofs.Results.{is_passed}
 use Rattle.pipe_check.proofs.cells.Cells.of.Goals as goal
+
+-- what holds where the result is `Ok` holds, since it is
+since_ok : {A E : Type 0} (P : Type 0) (r : Result A E) → true ≡ is_ok r → OnOk r P → P
+since_ok P (Ok x) is h = h
+since_ok P (Err e) is h = cc (is)
 
 pub loop-cell-preserved : goal.loop-cell-preserved
 loop-cell-preserved c =
@@ -26,7 +31,7 @@ loop-cell-preserved c =
     record {
       table = subst (λ (ds : List Declaration). IsTable c.insert.new.self (c.loop-cell.total + c.in-Some.count) ds) (sym (take_next cells i d within c.cell-item.is))
           (table_more c.loop-cell.sizes c.insert.new.self c.loop-cell.total c.in-Some.count before d c.as_bytes-in-loop-cell.result table
-          c.as_bytes-in-loop-cell.ensures new counted few (is_passed _ c.insert.result c.in_ok-map_err.ensures.variant c.insert.ensures.updates).0);
+          c.as_bytes-in-loop-cell.ensures new counted few (since_ok _ c.insert.result c.in_ok-map_err.ensures.variant c.insert.ensures.updates).0);
       numbered = ap (λ n. n + 1) c.loop-cell.invariant.numbered;
       faults = cell_passed cells i c.loop-cell.next d within c.cell-item.is new fits some ∙ c.loop-cell.invariant.faults;
     }
