@@ -1,4 +1,4 @@
-//! Programs, parsed from the tokens of their source.
+//! Programs of the whole language, parsed from the tokens of their source.
 
 ghost use Rattle.std.specs.Prelude.{◌≡◌, ◌<◌, IfErr, IfOk, length};
 ghost use Rattle.pipe_model.specs.MarkPlaces.{is_mark, mark_places};
