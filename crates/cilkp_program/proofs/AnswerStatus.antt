@@ -2,15 +2,15 @@
 use Rattle.std.proofs.Common.{◌≡◌, ◌≤◌, ◌⊎◌, ◌↔◌, ℕ, List, Option, Some, None, refl, inl, inr, arith}
 use Rattle.pipe_model.specs.declared.event.RunLog.{RunLog}
 use Rattle.pipe_model.specs.declared.report.Report.{Report}
-use Rattle.pipe_model.specs.SyntaxTree.{SyntaxTree}
-use Rattle.cilkp_program.specs.Answers.{IsAnswer, OfRow, SourceFault, InputFault}
-use Rattle.cilkp_program.specs.Faults.{Rose}
+use Rattle.pipe_model.specs.Language.SyntaxTree.{SyntaxTree}
+use Rattle.cilkp_program.specs.CallResults.{IsCallResult, OfRow, SourceFault, InputFault}
+use Rattle.cilkp_program.specs.Faults.{CountRose}
 use Rattle.cilkp_program.specs.Reads.{Content}
-use Rattle.cilkp_program.specs.Rows.{Held, Outcome, Races, Finishes, Traps, IsFormat, Row, NoCommand, SourceRefused, Formats, NotBuilt, InputRefused, Runs, log_of}
+use Rattle.cilkp_program.specs.Rows.{FileContents, RunResult, Races, Finishes, Traps, IsFormat, Row, NoCommand, SourceRefused, Formats, NotBuilt, InputRefused, Runs, elision_log}
 use Rattle.cilkp_program.proofs.OneRow.{run_is_no_format}
 
 -- the status of a run
-pub outcome_status : {tree : SyntaxTree} {status : ℕ} {text : List ℕ} {reports : List Report} → Outcome tree status text reports
+pub outcome_status : {tree : SyntaxTree} {status : ℕ} {text : List ℕ} {reports : List Report} → RunResult tree status text reports
     → (status ≡ 0) ⊎ ((status ≡ 2) ⊎ (status ≡ 3))
 outcome_status (Races reports some first) = inr (inl refl)
 outcome_status (Finishes free ends) = inl refl
@@ -23,7 +23,7 @@ IsLogged words status log = (log ≡ None) ↔ ((status ≡ 1) ⊎ ((status ≡ 
 -- what the status of an answer tells
 record TellsStatus (words : List (List ℕ)) (before now status : ℕ) (log : Option RunLog) : Type 0 where
   small : status ≤ 4
-  fault : status ≡ 4 → Rose before now
+  fault : status ≡ 4 → CountRose before now
   logged : IsLogged words status log
 
 -- a refusal
@@ -31,7 +31,7 @@ refusal : {words : List (List ℕ)} {before now : ℕ} → TellsStatus words bef
 refusal = record { small = omega arith; fault = λ e. absurd (omega (arith, e)); logged = (λ e. inl refl, λ e. refl) }
 
 -- a fault of reading
-read_fault : {words : List (List ℕ)} {before now : ℕ} → Rose before now → TellsStatus words before now 4 None
+read_fault : {words : List (List ℕ)} {before now : ℕ} → CountRose before now → TellsStatus words before now 4 None
 read_fault rose = record { small = omega arith; fault = λ e. rose; logged = (λ e. inr (inl refl), λ e. refl) }
 
 -- a text that is printed
@@ -64,38 +64,38 @@ with_run {words} {before} {now} {status} log run is =
     other (inr (inr c)) (inr (inl d)) = absurd (omega (arith, c, d))
 
 -- the status of a row
-row_status : {before now : ℕ} {words : List (List ℕ)} {held : Held} {status : ℕ} {text : List ℕ} {log : Option RunLog} {reports : List Report}
+row_status : {before now : ℕ} {words : List (List ℕ)} {held : FileContents} {status : ℕ} {text : List ℕ} {log : Option RunLog} {reports : List Report}
     → Row words held status text log reports → TellsStatus words before now status log
 row_status (NoCommand n m) = refusal
 row_status (SourceRefused s w r) = refusal
 row_status (Formats s tree w o) = printed (s, w)
 row_status (NotBuilt s i tree w o n) = refusal
 row_status (InputRefused s i tree w o r) = refusal
-row_status (Runs s i tree w o e r) = with_run (log_of tree) (λ format. run_is_no_format w format.1) (outcome_status r)
+row_status (Runs s i tree w o e r) = with_run (elision_log tree) (λ format. run_is_no_format w format.1) (outcome_status r)
 
 -- the status of an answer
 tells_status : {words : List (List ℕ)} {holds : Option Content} {before now status : ℕ} {text : List ℕ} {log : Option RunLog} {reports : List Report}
-    → IsAnswer words holds before now status text log reports → TellsStatus words before now status log
+    → IsCallResult words holds before now status text log reports → TellsStatus words before now status log
 tells_status (OfRow same row) = row_status row.row
 tells_status (SourceFault s grew rose w) = read_fault rose
 tells_status (InputFault s i file tree grew rose w told of) = read_fault rose
 
 -- no answer has the status of a fault of writing
 pub no_write_fault : {words : List (List ℕ)} {holds : Option Content} {before now status : ℕ} {text : List ℕ} {log : Option RunLog} {reports : List Report}
-    → IsAnswer words holds before now status text log reports → status ≡ 5 → ⊥
+    → IsCallResult words holds before now status text log reports → status ≡ 5 → ⊥
 no_write_fault answer five = let t = tells_status answer in let small = t.small in absurd (omega (arith, small, five))
 
 -- the status is at most 4
 pub answer_is_small : {words : List (List ℕ)} {holds : Option Content} {before now status : ℕ} {text : List ℕ} {log : Option RunLog} {reports : List Report}
-    → IsAnswer words holds before now status text log reports → status ≤ 4
+    → IsCallResult words holds before now status text log reports → status ≤ 4
 answer_is_small answer = let t = tells_status answer in t.small
 
 -- a fault of reading has its cause
 pub answer_has_cause : {words : List (List ℕ)} {holds : Option Content} {before now status : ℕ} {text : List ℕ} {log : Option RunLog} {reports : List Report}
-    → IsAnswer words holds before now status text log reports → status ≡ 4 → Rose before now
+    → IsCallResult words holds before now status text log reports → status ≡ 4 → CountRose before now
 answer_has_cause answer four = let t = tells_status answer in t.fault four
 
 -- the run is logged, unless a refusal or a fault of reading came, or a text was to be printed
 pub answer_is_logged : {words : List (List ℕ)} {holds : Option Content} {before now status : ℕ} {text : List ℕ} {log : Option RunLog} {reports : List Report}
-    → IsAnswer words holds before now status text log reports → (log ≡ None) ↔ ((status ≡ 1) ⊎ ((status ≡ 4) ⊎ IsFormat words))
+    → IsCallResult words holds before now status text log reports → (log ≡ None) ↔ ((status ≡ 1) ⊎ ((status ≡ 4) ⊎ IsFormat words))
 answer_is_logged answer = let t = tells_status answer in t.logged

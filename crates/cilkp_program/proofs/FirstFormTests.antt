@@ -5,9 +5,9 @@ use Rattle.std.proofs.lemmas.List.Recursion.{is_count_by}
 use Rattle.std.proofs.lemmas.List.Sums.{sum_by-cons}
 use Rattle.pipe_model.specs.declared.token.Token.{Token}
 use Rattle.pipe_model.specs.declared.tree.Stmt.{Stmt}
-use Rattle.pipe_model.specs.FirstForm.{are_plain_statements, begins_part, is_plain_statement, stages_in, stages_of}
-use Rattle.pipe_model.specs.Tokens.{symbol_in, symbols_in}
-use Rattle.pipe_model.specs.SyntaxTree.{Statement, Let, Assign, AssignElement, Emit, If, While, Stage, NextStage, statement_of, statements_of}
+use Rattle.pipe_model.specs.Language.FirstForm.{are_plain_statements, begins_part, is_plain_statement, stages_in, stages_of}
+use Rattle.pipe_model.specs.Language.Tokens.{symbol_in, symbols_in}
+use Rattle.pipe_model.specs.Language.SyntaxTree.{Statement, Let, Assign, AssignElement, Emit, If, While, Stage, NextStage, statement_of, statements_of}
 
 -- the statements of a list are plain where each is
 pub plain_statements : (ss : List Stmt) → are_plain_statements (statements_of ss) ≡ list_all (λ s. is_plain_statement (statement_of s)) ss

@@ -2,13 +2,13 @@
 use Rattle.std.proofs.Common.{◌≡◌, ◌∙◌, ℕ, List, [], Option, Some, None, IfSome, length, ap, subst}
 use Rattle.pipe_model.specs.declared.event.RunLog.{RunLog}
 use Rattle.pipe_model.specs.declared.report.Report.{Report}
-use Rattle.pipe_model.specs.CanonicalText.{program_text}
-use Rattle.pipe_model.specs.SyntaxTree.{SyntaxTree}
-use Rattle.cilkp_program.specs.Answers.{HasTaken, IsAnswer, OfRow, SourceFault, InputFault, IsPrinted}
-use Rattle.cilkp_program.specs.Faults.{Rose}
-use Rattle.cilkp_program.specs.Formatting.{AnswersText, IsToFormat}
+use Rattle.pipe_model.specs.Language.CanonicalText.{program_text}
+use Rattle.pipe_model.specs.Language.SyntaxTree.{SyntaxTree}
+use Rattle.cilkp_program.specs.CallResults.{HasTaken, IsCallResult, OfRow, SourceFault, InputFault, IsPrinted}
+use Rattle.cilkp_program.specs.Faults.{CountRose}
+use Rattle.cilkp_program.specs.Formatting.{ReturnsText, IsToFormat}
 use Rattle.cilkp_program.specs.Reads.{Content}
-use Rattle.cilkp_program.specs.Rows.{Held, IsSourceOf, Row, Formats, ByFormat, format_words}
+use Rattle.cilkp_program.specs.Rows.{FileContents, IsSourceOf, Row, Formats, ByFormat, format_words}
 use Rattle.cilkp_program.proofs.OneRow.{one_row}
 
 -- the answer is that of the program's text
@@ -19,14 +19,14 @@ record IsTextOf (tree : SyntaxTree) (status : ℕ) (text : List ℕ) (log : Opti
   silent : reports ≡ []
 
 -- the row of such a call
-text_row : {words : List (List ℕ)} {held : Held} {status : ℕ} {text : List ℕ} {log : Option RunLog} {reports : List Report} (tree : SyntaxTree) (source : List ℕ)
+text_row : {words : List (List ℕ)} {held : FileContents} {status : ℕ} {text : List ℕ} {log : Option RunLog} {reports : List Report} (tree : SyntaxTree) (source : List ℕ)
     → words ≡ format_words source → IsSourceOf held.source tree → Row words held status text log reports → IsTextOf tree status text log reports
 text_row tree source w s row =
     let one = one_row row (Formats source tree w s) in record { done = one.0; text_is = one.1; not_run = one.2; silent = one.3 }
 
 -- what a call answers that prints an accepted program, where no read failed
 text_answer : {words : List (List ℕ)} {content : Content} {before now status : ℕ} {text : List ℕ} {log : Option RunLog} {reports : List Report} (tree : SyntaxTree)
-    → ¬ (Rose before now) → IsToFormat words content tree → IsAnswer words (Some content) before now status text log reports → IsTextOf tree status text log reports
+    → ¬ (CountRose before now) → IsToFormat words content tree → IsCallResult words (Some content) before now status text log reports → IsTextOf tree status text log reports
 text_answer tree calm a (OfRow same row) =
     text_row tree a.source a.command (rw (row.told.source a.source (ByFormat a.command)) at a.program) row.row
 text_answer tree calm a (SourceFault s grew rose w) = absurd (calm rose)
@@ -34,8 +34,8 @@ text_answer tree calm a (InputFault s i file other grew rose w told of) = absurd
 
 -- a call whose text was taken whole
 pub text_printed : (words : List (List ℕ)) (holds : Option Content) (before now status written : ℕ) (log : Option RunLog) (reports : List Report)
-    (taken_before taken_now : Option (List ℕ)) → ¬ (Rose before now) → IsPrinted words holds before now status written log reports taken_before taken_now
-    → IfSome holds (λ content. (tree : SyntaxTree) → IsToFormat words content tree → AnswersText tree status written log reports taken_before taken_now)
+    (taken_before taken_now : Option (List ℕ)) → ¬ (CountRose before now) → IsPrinted words holds before now status written log reports taken_before taken_now
+    → IfSome holds (λ content. (tree : SyntaxTree) → IsToFormat words content tree → ReturnsText tree status written log reports taken_before taken_now)
 text_printed words None before now status written log reports taken_before taken_now calm printed = tt
 text_printed words (Some content) before now status written log reports taken_before taken_now calm printed = λ tree a. (
     let h = text_answer tree calm a printed.answer in

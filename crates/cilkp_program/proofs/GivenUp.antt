@@ -2,21 +2,21 @@
 use Rattle.std.proofs.Common.{◌≡◌, ◌≢◌, ◌≤◌, ◌↔◌, ℕ, List, length, Option, inr, arith}
 use Rattle.pipe_model.specs.declared.event.RunLog.{RunLog}
 use Rattle.pipe_model.specs.declared.report.Report.{Report}
-use Rattle.cilkp_program.specs.Answers.{IsAnswer, IsCutShort, IsGivenUp, IsPrinted, HasTaken}
+use Rattle.cilkp_program.specs.CallResults.{IsCallResult, IsCutShort, IsGivenUp, IsPrinted, HasTaken}
 use Rattle.cilkp_program.specs.Reads.{Content}
 use Rattle.cilkp_program.specs.declared.whole.WriteEnd.{WriteEnd}
 use Rattle.cilkp_program.specs.declared.whole.WriteEnd.TheVariants as ends
 
 -- a text that was written whole was printed
 pub text_whole : (words : List (List ℕ)) (holds : Option Content) (before now status written : ℕ) (text : List ℕ) (log : Option RunLog) (reports : List Report)
-    (taken_before taken_now : Option (List ℕ)) → IsAnswer words holds before now status text log reports → written ≡ length text → HasTaken written text taken_before taken_now
+    (taken_before taken_now : Option (List ℕ)) → IsCallResult words holds before now status text log reports → written ≡ length text → HasTaken written text taken_before taken_now
     → IsPrinted words holds before now status written log reports taken_before taken_now
 text_whole words holds before now status written text log reports taken_before taken_now answer whole taken =
     record { text = text; answer = answer; whole = whole; taken = taken }
 
 -- a text that was not written whole was cut short
 pub text_cut_short : (words : List (List ℕ)) (holds : Option Content) (before now status written : ℕ) (text : List ℕ) (log : Option RunLog) (reports : List Report)
-    (taken_before taken_now : Option (List ℕ)) (end : WriteEnd) → IsAnswer words holds before now status text log reports → written ≤ length text → ((end ≡ ends.Whole) ↔ (written ≡ length text)) → end ≢ ends.Whole → HasTaken written text taken_before taken_now
+    (taken_before taken_now : Option (List ℕ)) (end : WriteEnd) → IsCallResult words holds before now status text log reports → written ≤ length text → ((end ≡ ends.Whole) ↔ (written ≡ length text)) → end ≢ ends.Whole → HasTaken written text taken_before taken_now
     → IsCutShort words holds before now written log reports taken_before taken_now
 text_cut_short words holds before now status written text log reports taken_before taken_now end answer within whole cut taken = record {
   status = status;

@@ -3,17 +3,17 @@ use Rattle.std.proofs.Common.{◌≡◌, ◌≢◌, ◌≤◌, ◌∙◌, ◌++�
 use Rattle.pipe_model.specs.declared.event.RunLog.{RunLog}
 use Rattle.pipe_model.specs.declared.report.Report.{Report}
 use Rattle.pipe_model.specs.declared.trap.TrapAt.{TrapAt}
-use Rattle.pipe_model.specs.Pipeline.{Pipeline}
-use Rattle.pipe_model.specs.Programs.{pipeline_of}
-use Rattle.pipe_model.specs.Reports.{AreRight}
-use Rattle.pipe_model.specs.Run.{Run, IsFinished}
-use Rattle.pipe_model.specs.RunLogs.{IsFinishedRun, accesses_after, column_of_frame, columns_after, state_after}
-use Rattle.pipe_model.specs.SerialElision.{serial_events}
-use Rattle.pipe_model.specs.SourceRefusals.{IsAccepted}
-use Rattle.pipe_model.specs.State.{State, own_columns}
-use Rattle.pipe_model.specs.SyntaxTree.{SyntaxTree}
+use Rattle.pipe_model.specs.Pipelines.Pipeline.{Pipeline}
+use Rattle.pipe_model.specs.Language.Programs.{pipeline_of}
+use Rattle.pipe_model.specs.Races.Reports.{AreRight}
+use Rattle.pipe_model.specs.Runs.Run.{Run, IsFinished}
+use Rattle.pipe_model.specs.Runs.RunLogs.{IsFinishedRun, accesses_after, column_of_frame, columns_after, state_after}
+use Rattle.pipe_model.specs.Pipelines.SerialElision.{serial_events}
+use Rattle.pipe_model.specs.Language.SourceRefusals.{IsAccepted}
+use Rattle.pipe_model.specs.Runs.State.{State, own_columns}
+use Rattle.pipe_model.specs.Language.SyntaxTree.{SyntaxTree}
 use Rattle.pipe_model.specs.Texts.{trap_lines}
-use Rattle.pipe_model.specs.Throttling.{IsThrottled}
+use Rattle.pipe_model.specs.Runs.Throttling.{IsThrottled}
 use Rattle.pipe_model.proofs.Members.{none_among}
 use Rattle.dag_build.proofs.FirstRaceLaws.{first_races_are_right, no_report_is_race_free}
 use Rattle.language_laws.proofs.WellFormed.{accepted_is_well_formed}
@@ -22,20 +22,20 @@ use Rattle.run_laws.proofs.RunStates.FrontAndBack.{run_state_is}
 use Rattle.run_laws.proofs.RunStates.IterationCounts.{runs_keep_rules}
 use Rattle.run_laws.specs.RunLaws.{KeepsRules}
 use Rattle.run_laws.specs.SerialLaws.{HasSerialRun}
-use Rattle.cilkp_program.specs.Answers.{IsAnswer, OfRow, SourceFault, InputFault, IsPrinted}
-use Rattle.cilkp_program.specs.Faults.{Rose}
-use Rattle.cilkp_program.specs.Headline.{AnswersRun, IsToRun, MeetsHeadline}
+use Rattle.cilkp_program.specs.CallResults.{IsCallResult, OfRow, SourceFault, InputFault, IsPrinted}
+use Rattle.cilkp_program.specs.Faults.{CountRose}
+use Rattle.cilkp_program.specs.Headline.{ReturnsRun, IsToRun, MeetsHeadline}
 use Rattle.cilkp_program.specs.Reads.{Content}
-use Rattle.cilkp_program.specs.Rows.{HasNoRace, Held, Outcome, Races, Finishes, Traps, Row, NoCommand, SourceRefused, Formats, NotBuilt, InputRefused, Runs, ByRun, accesses_of, columns_of, log_of, output_text, trap_of}
+use Rattle.cilkp_program.specs.Rows.{ElisionHasNoRace, FileContents, RunResult, Races, Finishes, Traps, Row, NoCommand, SourceRefused, Formats, NotBuilt, InputRefused, Runs, ByRun, elision_accesses, elision_columns, elision_log, elision_output_text, elision_trap}
 use Rattle.cilkp_program.proofs.AnswerStatus.{outcome_status}
 use Rattle.cilkp_program.proofs.OneRow.{one_source, plain_is_source, refused_not_accepted_file, refused_not_empty, run_is_no_format}
 
 -- the log of the serial elision tells a finished run, and its own columns and accesses are those of the elision
 record IsSerialLog (tree : SyntaxTree) (limit : ℕ) : Type 0 where
-  run : IsFinishedRun (pipeline_of tree []) limit (log_of tree)
-  columns : columns_after (log_of tree).events ≡ columns_of tree
-  accesses : accesses_after (log_of tree).events ≡ accesses_of tree
-  throttled : IsThrottled limit (log_of tree).events
+  run : IsFinishedRun (pipeline_of tree []) limit (elision_log tree)
+  columns : columns_after (elision_log tree).events ≡ elision_columns tree
+  accesses : accesses_after (elision_log tree).events ≡ elision_accesses tree
+  throttled : IsThrottled limit (elision_log tree).events
 
 -- so it is for every accepted program and every limit of at least 1
 serial_log : (source : List ℕ) (tree : SyntaxTree) (limit : ℕ) → IsAccepted source tree → 1 ≤ limit → IsSerialLog tree limit
@@ -56,12 +56,12 @@ serial_log source tree limit form room =
     }
 
 -- reports that are right for the elision are right for the run of its log
-reports_are_right : (tree : SyntaxTree) (limit : ℕ) (reports : List Report) → IsSerialLog tree limit → AreRight (columns_of tree) (accesses_of tree) reports
-    → AreRight (columns_after (log_of tree).events) (accesses_after (log_of tree).events) reports
+reports_are_right : (tree : SyntaxTree) (limit : ℕ) (reports : List Report) → IsSerialLog tree limit → AreRight (elision_columns tree) (elision_accesses tree) reports
+    → AreRight (columns_after (elision_log tree).events) (accesses_after (elision_log tree).events) reports
 reports_are_right tree limit reports h right = rw (h.columns, h.accesses) right
 
 -- where the elision has no race, no report is right
-none_are_right : (tree : SyntaxTree) → HasNoRace tree → AreRight (columns_of tree) (accesses_of tree) []
+none_are_right : (tree : SyntaxTree) → ElisionHasNoRace tree → AreRight (elision_columns tree) (elision_accesses tree) []
 none_are_right tree free = record {
   name = λ r among. absurd (none_among r among);
   all = λ a b race. absurd (free a b race);
@@ -69,13 +69,13 @@ none_are_right tree free = record {
 
 -- what a program comes to, by its log
 outcome_meets : (source : List ℕ) (tree : SyntaxTree) (limit : ℕ) {status : ℕ} {text : List ℕ} {reports : List Report} → IsAccepted source tree → 1 ≤ limit
-    → Outcome tree status text reports → MeetsHeadline tree limit (log_of tree) reports status text
+    → RunResult tree status text reports → MeetsHeadline tree limit (elision_log tree) reports status text
 outcome_meets source tree limit form room (Races reports some first) =
     let h = serial_log source tree limit form room in
     record {
       run = h.run;
-      reported = reports_are_right tree limit reports h (first_races_are_right (columns_of tree) (accesses_of tree) reports first);
-      silent = no_report_is_race_free (columns_of tree) (accesses_of tree) reports first;
+      reported = reports_are_right tree limit reports h (first_races_are_right (elision_columns tree) (elision_accesses tree) reports first);
+      silent = no_report_is_race_free (elision_columns tree) (elision_accesses tree) reports first;
       racy = (λ e. some, λ e. refl);
       races = λ e. refl;
       otherwise = λ free. absurd (some free);
@@ -91,7 +91,7 @@ outcome_meets source tree limit form room (Finishes free ends) =
       silent = (λ e. free, λ e. refl);
       racy = ((λ e. absurd (omega (arith, e))), λ some. absurd (some free));
       races = λ e. absurd (omega (arith, e));
-      otherwise = λ e. sym (append-nil (output_text tree)) ∙ ap (λ t. output_text tree ++ trap_lines t) (sym ends);
+      otherwise = λ e. sym (append-nil (elision_output_text tree)) ∙ ap (λ t. elision_output_text tree ++ trap_lines t) (sym ends);
       trapped = ((λ e. absurd (omega (arith, e))), λ some. absurd (some.1 ends));
       finished = (λ e. (free, ends), λ e. refl);
       throttled = h.throttled;
@@ -104,21 +104,21 @@ outcome_meets source tree limit form room (Traps t free ends) =
       silent = (λ e. free, λ e. refl);
       racy = ((λ e. absurd (omega (arith, e))), λ some. absurd (some free));
       races = λ e. absurd (omega (arith, e));
-      otherwise = λ e. ap (λ t. output_text tree ++ trap_lines t) (sym ends);
+      otherwise = λ e. ap (λ t. elision_output_text tree ++ trap_lines t) (sym ends);
       trapped = (λ e. (free, traps ends), λ e. refl);
       finished = ((λ e. absurd (omega (arith, e))), λ none. absurd (traps ends none.1));
       throttled = h.throttled;
     }
   where
-    traps : {at : TrapAt} → trap_of tree ≡ Some at → trap_of tree ≢ None
+    traps : {at : TrapAt} → elision_trap tree ≡ Some at → elision_trap tree ≢ None
     traps {at} some none = let d : None ≡ Some at = sym none ∙ some in cc (d)
 
 -- the row of an accepted program is that of its run
 record IsRunOf (tree : SyntaxTree) (status : ℕ) (text : List ℕ) (log : Option RunLog) (reports : List Report) : Type 0 where
-  logged : log ≡ Some (log_of tree)
-  outcome : Outcome tree status text reports
+  logged : log ≡ Some (elision_log tree)
+  outcome : RunResult tree status text reports
 
-accepted_row : {words : List (List ℕ)} {content : Content} {held : Held} {status : ℕ} {text : List ℕ} {log : Option RunLog} {reports : List Report} (tree : SyntaxTree)
+accepted_row : {words : List (List ℕ)} {content : Content} {held : FileContents} {status : ℕ} {text : List ℕ} {log : Option RunLog} {reports : List Report} (tree : SyntaxTree)
     → (a : IsToRun words content tree) → content a.source ≡ held.source → content a.input ≡ held.input → Row words held status text log reports
     → IsRunOf tree status text log reports
 accepted_row tree a s i (NoCommand n m) = absurd (n a.source a.input a.command)
@@ -128,11 +128,11 @@ accepted_row tree a s i (NotBuilt source input other w o r) = absurd (r (rw (one
 accepted_row tree a s i (InputRefused source input other w o r) = absurd (refused_not_empty r (sym i ∙ a.empty))
 accepted_row tree a s i (Runs source input other w o e r) =
     let same : other ≡ tree = one_source other tree (plain_is_source o) (plain_is_source (rw (← s) a.program)) in
-    record { logged = ap (λ t. Some (log_of t)) same; outcome = rw (← same) r }
+    record { logged = ap (λ t. Some (elision_log t)) same; outcome = rw (← same) r }
 
 -- what a call answers for an accepted program, where no read failed
 answer_meets : {words : List (List ℕ)} {content : Content} {before now status : ℕ} {text : List ℕ} {log : Option RunLog} {reports : List Report} (tree : SyntaxTree)
-    → ¬ (Rose before now) → IsToRun words content tree → IsAnswer words (Some content) before now status text log reports → IsRunOf tree status text log reports
+    → ¬ (CountRose before now) → IsToRun words content tree → IsCallResult words (Some content) before now status text log reports → IsRunOf tree status text log reports
 answer_meets tree calm a (OfRow same row) =
     accepted_row tree a (row.told.source a.source (ByRun a.input a.command)) (row.told.input a.input (a.source, a.command)) row.row
 answer_meets tree calm a (SourceFault s grew rose w) = absurd (calm rose)
@@ -140,13 +140,13 @@ answer_meets tree calm a (InputFault s i file other grew rose w told of) = absur
 
 -- the headline of a call whose text was taken whole
 pub printed_meets : (words : List (List ℕ)) (holds : Option Content) (before now status written : ℕ) (log : Option RunLog) (reports : List Report)
-    (taken_before taken_now : Option (List ℕ)) → ¬ (Rose before now) → IsPrinted words holds before now status written log reports taken_before taken_now
-    → IfSome holds (λ content. (tree : SyntaxTree) → IsToRun words content tree → AnswersRun tree status written log reports taken_before taken_now)
+    (taken_before taken_now : Option (List ℕ)) → ¬ (CountRose before now) → IsPrinted words holds before now status written log reports taken_before taken_now
+    → IfSome holds (λ content. (tree : SyntaxTree) → IsToRun words content tree → ReturnsRun tree status written log reports taken_before taken_now)
 printed_meets words None before now status written log reports taken_before taken_now calm printed = tt
 printed_meets words (Some content) before now status written log reports taken_before taken_now calm printed = λ tree a. (
     let h = answer_meets tree calm a printed.answer in
     record {
-      log = log_of tree;
+      log = elision_log tree;
       logged = h.logged;
       text = printed.text;
       whole = printed.whole;

@@ -3,19 +3,19 @@ use Rattle.std.proofs.Common.{◌≡◌, ◌<◌, ◌+◌, ℕ, List, [], length
 use Rattle.std.proofs.lemmas.List.{length-replicate, nil_from_length}
 use Rattle.pipe_lexer.specs.declared.fault.LexFault.TheVariants as lexer
 use Rattle.pipe_model.specs.declared.memory.NoMemory.{NoMemory}
-use Rattle.pipe_model.specs.SourceRefusals.{ForItsText, Lexical}
-use Rattle.pipe_model.specs.Tokens.{IsTooLong, SourceTooLong}
+use Rattle.pipe_model.specs.Language.SourceRefusals.{ForItsText, Lexical}
+use Rattle.pipe_model.specs.Language.Tokens.{IsTooLong, SourceTooLong}
 use Rattle.pipe_model.specs.Texts.{refused_missing, refused_input}
 use Rattle.cilkp_program.specs.declared.whole.Whole.{Whole}
 use Rattle.cilkp_program.specs.declared.whole.Whole.TheVariants as whole
 use Rattle.cilkp_program.specs.Reads.{Content}
 use Rattle.cilkp_program.specs.Rows.{InputRefusal, InputMissing, InputNotEmpty, SourceRefusal, SourceMissing, NotAccepted}
-use Rattle.cilkp_program.specs.Loads.{Gave, GaveSource, IsSourceAnswer}
+use Rattle.cilkp_program.specs.LoadedFiles.{IsLoadOf, IsSourceFrom, IsSourceResult}
 use Rattle.cilkp_program.specs.RefusalLines.{IsLexicalLine}
 use Rattle.cilkp_program.specs.declared.load.Source.{Source}
 use Rattle.cilkp_program.specs.declared.load.Source.TheVariants as sources
 use Rattle.cilkp_program.proofs.OneRow.{one_held}
-use Rattle.cilkp_program.specs.Wholes.{IsUpTo, IsWholeOf}
+use Rattle.cilkp_program.specs.WholeFiles.{IsUpTo, IsWholeOf}
 
 -- the answer is that of a file, which held what the files tell, where they tell
 pub record IsOfFile (holds : Option Content) (name : List ℕ) (limit : ℕ) (answer : Whole) : Type 0 where
@@ -62,8 +62,8 @@ source_is_too_long file name line e h =
     rw e (NotAccepted f.0 (Lexical SourceTooLong) f.1 (ForItsText SourceTooLong (IsTooLong f.2)))
 
 -- what the bytes of a file gave, the file gave
-pub file_gave : (file : Option (List ℕ)) (name bytes : List ℕ) (limit : ℕ) (source : Source) → IsWholeOf file limit (whole.Bytes bytes) → Gave bytes source
-    → GaveSource name file source
+pub file_gave : (file : Option (List ℕ)) (name bytes : List ℕ) (limit : ℕ) (source : Source) → IsWholeOf file limit (whole.Bytes bytes) → IsLoadOf bytes source
+    → IsSourceFrom name file source
 file_gave file name bytes limit (sources.Accepted loaded) h g =
     let held = bytes_are_held file limit bytes h in
     record {
@@ -77,7 +77,7 @@ file_gave file name bytes limit sources.Failed h g = absurd g
 
 -- the answer of the bytes of a file
 pub source_answer : (holds : Option Content) (name : List ℕ) (limit : ℕ) (bytes : List ℕ) (r : Result Source NoMemory) → IsOfFile holds name limit (whole.Bytes bytes)
-    → IfOk r (λ source. Gave bytes source) → IfOk r (λ source. IsSourceAnswer holds name source)
+    → IfOk r (λ source. IsLoadOf bytes source) → IfOk r (λ source. IsSourceResult holds name source)
 source_answer holds name limit bytes (Ok source) f g = record { file = f.file; told = f.told; gave = file_gave f.file name bytes limit source f.is g }
 source_answer holds name limit bytes (Err m) f g = g
 

@@ -4,21 +4,21 @@ use Rattle.std.proofs.lemmas.Bool.{cases_lt}
 use Rattle.pipe_model.specs.declared.access.NodeAccess.{NodeAccess}
 use Rattle.pipe_model.specs.declared.node.Node.{Node}
 use Rattle.pipe_model.specs.declared.report.Report.{Report}
-use Rattle.pipe_model.specs.CellRaces.{NotedAccess, access_at, accesses_to}
-use Rattle.pipe_model.specs.Reports.{report_of}
-use Rattle.pipe_model.specs.FirstRaces.{AreFirstRaces, IsFirstRace, IsFirstRaceOfCell}
-use Rattle.pipe_model.specs.Races.{Among, Here, Later}
+use Rattle.pipe_model.specs.Races.CellRaces.{NotedAccess, access_at, accesses_to}
+use Rattle.pipe_model.specs.Races.Reports.{report_of}
+use Rattle.pipe_model.specs.Races.FirstRaces.{AreFirstRaces, IsFirstRacingPair, ReportsFirstRaceOfCell}
+use Rattle.pipe_model.specs.Races.DeterminacyRaces.{Among, Here, Later}
 use Rattle.pipe_model.proofs.Members.{none_among}
 
 -- the later access of a first race is one
-one_later : {columns : List (List Node)} {accesses : List NotedAccess} (e l f m : ℕ) → IsFirstRace columns accesses e l → IsFirstRace columns accesses f m → l ≡ m
+one_later : {columns : List (List Node)} {accesses : List NotedAccess} (e l f m : ℕ) → IsFirstRacingPair columns accesses e l → IsFirstRacingPair columns accesses f m → l ≡ m
 one_later e l f m h g = elim (cases_lt l m) [
   | inl w ↦ absurd (g.first_later l w e h.race)
   | inr a ↦ elim (cases_lt m l) [ inl w ↦ absurd (h.first_later m w f g.race) | inr b ↦ omega (arith, a, b) ]
 ]
 
 -- and so is the earlier one
-one_earlier : {columns : List (List Node)} {accesses : List NotedAccess} (e f l : ℕ) → IsFirstRace columns accesses e l → IsFirstRace columns accesses f l → e ≡ f
+one_earlier : {columns : List (List Node)} {accesses : List NotedAccess} (e f l : ℕ) → IsFirstRacingPair columns accesses e l → IsFirstRacingPair columns accesses f l → e ≡ f
 one_earlier e f l h g = elim (cases_lt e f) [
   | inl w ↦ absurd (g.first_earlier e w h.race)
   | inr a ↦ elim (cases_lt f e) [ inl w ↦ absurd (h.first_earlier f w g.race) | inr b ↦ omega (arith, a, b) ]
@@ -28,11 +28,11 @@ one_earlier e f l h g = elim (cases_lt e f) [
 record TellsOf (columns : List (List Node)) (accesses : List NodeAccess) (cell : ℕ) (r : Report) : Type 0 where
   earlier : ℕ
   later : ℕ
-  first : IsFirstRace columns (accesses_to cell accesses) earlier later
+  first : IsFirstRacingPair columns (accesses_to cell accesses) earlier later
   told : r ≡ report_of columns cell (access_at (accesses_to cell accesses) earlier) (access_at (accesses_to cell accesses) later)
 
 -- a report tells that of its own cell
-tells_of : (columns : List (List Node)) (accesses : List NodeAccess) (cell : ℕ) (r : Report) → r.cell.0 ≡ cell → IsFirstRaceOfCell columns accesses r
+tells_of : (columns : List (List Node)) (accesses : List NodeAccess) (cell : ℕ) (r : Report) → r.cell.0 ≡ cell → ReportsFirstRaceOfCell columns accesses r
     → TellsOf columns accesses cell r
 tells_of columns accesses cell r e h =
     subst (λ c. TellsOf columns accesses c r) e (record { earlier = h.earlier; later = h.later; first = h.first; told = h.told })
@@ -41,7 +41,7 @@ tells_of columns accesses cell r e h =
 one_report : (columns : List (List Node)) (accesses : List NodeAccess) (cell : ℕ) (r s : Report) → TellsOf columns accesses cell r → TellsOf columns accesses cell s → r ≡ s
 one_report columns accesses cell r s h g =
     let l : h.later ≡ g.later = one_later h.earlier h.later g.earlier g.later h.first g.first in
-    let e : h.earlier ≡ g.earlier = one_earlier h.earlier g.earlier g.later (subst (IsFirstRace columns (accesses_to cell accesses) h.earlier) l h.first) g.first in
+    let e : h.earlier ≡ g.earlier = one_earlier h.earlier g.earlier g.later (subst (IsFirstRacingPair columns (accesses_to cell accesses) h.earlier) l h.first) g.first in
     let noted : List NotedAccess = accesses_to cell accesses in
     h.told ∙ ((λ i. report_of columns cell (access_at noted (e i)) (access_at noted (l i))) ∙ sym g.told)
 

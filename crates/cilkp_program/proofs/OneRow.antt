@@ -2,17 +2,17 @@
 use Rattle.std.proofs.Common.{◌≡◌, ◌≢◌, ◌∙◌, ℕ, List, [], ◌++◌, Option, Some, None, refl, ap, sym}
 use Rattle.pipe_model.specs.declared.event.RunLog.{RunLog}
 use Rattle.pipe_model.specs.declared.report.Report.{Report}
-use Rattle.pipe_model.specs.SyntaxTree.{SyntaxTree}
-use Rattle.pipe_model.specs.CanonicalText.{program_text}
+use Rattle.pipe_model.specs.Language.SyntaxTree.{SyntaxTree}
+use Rattle.pipe_model.specs.Language.CanonicalText.{program_text}
 use Rattle.pipe_model.specs.Texts.{refusal_line, trap_line}
-use Rattle.pipe_model.proofs.SourceRefusals.{one_accepted, one_refusal, refused_not_accepted}
+use Rattle.grammar_laws.proofs.SourceRefusals.{one_accepted, one_refusal, refused_not_accepted}
 use Rattle.cilkp_program.proofs.OneReports.{one_first_races}
 use Rattle.cilkp_program.specs.CellNames.{race_lines}
-use Rattle.cilkp_program.specs.Rows.{Held, run_words, format_words, NamesSource, ByRun, ByFormat, IsSourceOf, IsPlainSourceOf, SourceRefusal, SourceMissing, NotAccepted, InputRefusal, InputMissing, InputNotEmpty, Outcome, Races, Finishes, Traps, columns_of, accesses_of, log_of, output_text, Row, NoCommand, SourceRefused, Formats, NotBuilt, InputRefused, Runs}
+use Rattle.cilkp_program.specs.Rows.{FileContents, run_words, format_words, NamesSource, ByRun, ByFormat, IsSourceOf, IsPlainSourceOf, SourceRefusal, SourceMissing, NotAccepted, InputRefusal, InputMissing, InputNotEmpty, RunResult, Races, Finishes, Traps, elision_columns, elision_accesses, elision_log, elision_output_text, Row, NoCommand, SourceRefused, Formats, NotBuilt, InputRefused, Runs}
 
 -- a status, a text and reports are the same as others
-abbrev pub AreSame : (status other : ℕ) (text other_text : List ℕ) (reports other_reports : List Report) → Type 0
-AreSame status other text other_text reports other_reports = (status ≡ other) × (text ≡ other_text) × (reports ≡ other_reports)
+abbrev pub AreOneRow : (status other : ℕ) (text other_text : List ℕ) (reports other_reports : List Report) → Type 0
+AreOneRow status other text other_text reports other_reports = (status ≡ other) × (text ≡ other_text) × (reports ≡ other_reports)
 
 -- a file is not both missing and there
 missing_not_held : (file : Option (List ℕ)) (bytes : List ℕ) → file ≡ None → file ≡ Some bytes → ⊥
@@ -59,10 +59,10 @@ one_source tree other s o =
     one_accepted s.bytes tree other s.accepted (rw same at o.accepted)
 
 -- a program comes to one outcome
-one_outcome : {tree : SyntaxTree} {status other : ℕ} {text other_text : List ℕ} {reports other_reports : List Report} → Outcome tree status text reports
-    → Outcome tree other other_text other_reports → AreSame status other text other_text reports other_reports
+one_outcome : {tree : SyntaxTree} {status other : ℕ} {text other_text : List ℕ} {reports other_reports : List Report} → RunResult tree status text reports
+    → RunResult tree other other_text other_reports → AreOneRow status other text other_text reports other_reports
 one_outcome {tree} (Races rs some h) (Races rs' some' h') =
-    let same : rs ≡ rs' = one_first_races (columns_of tree) (accesses_of tree) rs rs' h h' in (refl, ap (race_lines tree.cells) same, same)
+    let same : rs ≡ rs' = one_first_races (elision_columns tree) (elision_accesses tree) rs rs' h h' in (refl, ap (race_lines tree.cells) same, same)
 one_outcome (Races rs some h) (Finishes free e') = absurd (some free)
 one_outcome (Races rs some h) (Traps t' free e') = absurd (some free)
 one_outcome (Finishes free e) (Races rs' some' h') = absurd (some' free)
@@ -71,15 +71,15 @@ one_outcome (Finishes free e) (Traps t free' e') = absurd (let d : None ≡ Some
 one_outcome (Traps t free e) (Races rs' some' h') = absurd (some' free)
 one_outcome (Traps t free e) (Finishes free' e') = absurd (let d : None ≡ Some t = sym e' ∙ e in cc (d))
 one_outcome {tree} (Traps t free e) (Traps t' free' e') =
-    (refl, let d : Some t ≡ Some t' = sym e ∙ e' in let same : t ≡ t' = cc (d) in ap (λ x. output_text tree ++ trap_line x) same, refl)
+    (refl, let d : Some t ≡ Some t' = sym e ∙ e' in let same : t ≡ t' = cc (d) in ap (λ x. elision_output_text tree ++ trap_line x) same, refl)
 
 -- a program has one run
 one_run : {tree other_tree : SyntaxTree} {status other : ℕ} {text other_text : List ℕ} {reports other_reports : List Report} → tree ≡ other_tree
-    → Outcome tree status text reports → Outcome other_tree other other_text other_reports
-    → (status ≡ other) × (text ≡ other_text) × (Some (log_of tree) ≡ Some (log_of other_tree)) × (reports ≡ other_reports)
+    → RunResult tree status text reports → RunResult other_tree other other_text other_reports
+    → (status ≡ other) × (text ≡ other_text) × (Some (elision_log tree) ≡ Some (elision_log other_tree)) × (reports ≡ other_reports)
 one_run {tree} {other_tree} {status} {other} {text} {other_text} {reports} {other_reports} same r r' =
-    let one : AreSame status other text other_text reports other_reports = one_outcome r (rw same r') in
-    (one.0, one.1, ap (λ t. Some (log_of t)) same, one.2)
+    let one : AreOneRow status other text other_text reports other_reports = one_outcome r (rw same r') in
+    (one.0, one.1, ap (λ t. Some (elision_log t)) same, one.2)
 
 -- the words name one source, and one input
 pub sources_same : (words : List (List ℕ)) (source source' input input' : List ℕ) → words ≡ run_words source input → words ≡ run_words source' input' → source ≡ source'
@@ -106,7 +106,7 @@ unnamed {source = source} n m (ByRun input w) = n source input w
 unnamed {source = source} n m (ByFormat v) = m source v
 
 -- two rows of a call are one
-pub one_row : {words : List (List ℕ)} {held : Held} {status other : ℕ} {text other_text : List ℕ} {log other_log : Option RunLog} {reports other_reports : List Report}
+pub one_row : {words : List (List ℕ)} {held : FileContents} {status other : ℕ} {text other_text : List ℕ} {log other_log : Option RunLog} {reports other_reports : List Report}
     → Row words held status text log reports → Row words held other other_text other_log other_reports
     → (status ≡ other) × (text ≡ other_text) × (log ≡ other_log) × (reports ≡ other_reports)
 one_row (NoCommand n m) (NoCommand n' m') = (refl, refl, refl, refl)

@@ -3,7 +3,7 @@ use Rattle.std.proofs.Common.{◌≡◌, ◌∙◌, ap, sym, ℕ, ◌+◌, ◌-�
 use Rattle.std.proofs.lemmas.List.{at_drop_more}
 use Rattle.pipe_model.specs.declared.report.Report.{Report}
 use Rattle.pipe_model.specs.declared.tree.Declaration.{Declaration}
-use Rattle.pipe_model.specs.Programs.{declared_size}
+use Rattle.pipe_model.specs.Language.Programs.{declared_size}
 use Rattle.pipe_model.specs.Texts.{instance_text, kind_text, race_line}
 use Rattle.cilkp_program.specs.CellNames.{declared_name, element_name}
 

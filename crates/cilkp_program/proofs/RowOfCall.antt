@@ -4,18 +4,18 @@ use Rattle.std.specs.Prelude.{String, string_bytes}
 use Rattle.std.specs.declared.alloc.Global.{Global}
 use Rattle.pipe_model.specs.declared.memory.NoMemory.{NoMemory}
 use Rattle.pipe_model.specs.declared.report.Report.{Report}
-use Rattle.pipe_model.specs.CanonicalText.{program_text}
-use Rattle.pipe_model.specs.SyntaxTree.{tree_of}
+use Rattle.pipe_model.specs.Language.CanonicalText.{program_text}
+use Rattle.pipe_model.specs.Language.SyntaxTree.{tree_of}
 use Rattle.pipe_model.specs.Texts.{fault_read, refused_program, refused_usage}
 use Rattle.cilkp_program.specs.declared.call.Answer.{Answer}
 use Rattle.cilkp_program.specs.declared.load.Loaded.{Loaded}
 use Rattle.cilkp_program.specs.declared.load.Source.TheVariants as sources
 use Rattle.cilkp_program.specs.declared.load.Input.TheVariants as inputs
-use Rattle.cilkp_program.specs.Answers.{IsAnswer, OfRow, SourceFault, InputFault}
+use Rattle.cilkp_program.specs.CallResults.{IsCallResult, OfRow, SourceFault, InputFault}
 use Rattle.cilkp_program.specs.Faults.{CountsFault}
-use Rattle.cilkp_program.specs.Loads.{IsInputAnswer, IsSourceAnswer}
+use Rattle.cilkp_program.specs.LoadedFiles.{IsInputResult, IsSourceResult}
 use Rattle.cilkp_program.specs.Reads.{Content}
-use Rattle.cilkp_program.specs.Rows.{AreHeldBy, Held, NamesSource, ByRun, ByFormat, NoCommand, SourceRefused, Formats, NotBuilt, InputRefused, Runs, Outcome, log_of, words_of, run_words, format_words}
+use Rattle.cilkp_program.specs.Rows.{AreHeldBy, FileContents, NamesSource, ByRun, ByFormat, NoCommand, SourceRefused, Formats, NotBuilt, InputRefused, Runs, RunResult, elision_log, words_of, run_words, format_words}
 use Rattle.cilkp_program.proofs.OneRow.{inputs_same, one_name, run_is_no_format, unnamed}
 
 -- a list of three texts, by its length and its items
@@ -37,7 +37,7 @@ two_words (x ∷ y ∷ z ∷ ws) a b h p q = absurd (omega (arith, h))
 -- ---- what is held; the files hold the same throughout
 
 -- what the files of a run hold, where they tell
-run_told : (holds : Option Content) (source input : List ℕ) (held : Held) → IfSome holds (λ content. content source ≡ held.source)
+run_told : (holds : Option Content) (source input : List ℕ) (held : FileContents) → IfSome holds (λ content. content source ≡ held.source)
     → IfSome holds (λ content. content input ≡ held.input) → IfSome holds (λ content. AreHeldBy content (run_words source input) held)
 run_told None source input held s i = tt
 run_told (Some content) source input held s i = record {
@@ -46,7 +46,7 @@ run_told (Some content) source input held s i = record {
 }
 
 -- what the file of a format holds, where it tells
-format_told : (holds : Option Content) (source : List ℕ) (held : Held) → IfSome holds (λ content. content source ≡ held.source)
+format_told : (holds : Option Content) (source : List ℕ) (held : FileContents) → IfSome holds (λ content. content source ≡ held.source)
     → IfSome holds (λ content. AreHeldBy content (format_words source) held)
 format_told None source held s = tt
 format_told (Some content) source held s = record {
@@ -68,7 +68,7 @@ unread_told (Some content) name = refl
 
 -- words that are no command
 pub answer_no_command : (words : List (List ℕ)) (holds : Option Content) (faults : ℕ) (text : List ℕ) → ((source input : List ℕ) → words ≢ run_words source input)
-    → ((source : List ℕ) → words ≢ format_words source) → text ≡ refused_usage → IsAnswer words holds faults faults 1 text None []
+    → ((source : List ℕ) → words ≢ format_words source) → text ≡ refused_usage → IsCallResult words holds faults faults 1 text None []
 answer_no_command words holds faults text no_run no_format t =
     rw t (OfRow refl (record { held = record { source = None; input = None }; told = told holds; row = NoCommand no_run no_format }))
   where
@@ -78,7 +78,7 @@ answer_no_command words holds faults text no_run no_format t =
 
 -- a source that is refused and was to be run
 pub run_refused : (holds : Option Content) (before now : ℕ) (source input text : List ℕ) → CountsFault false before now
-    → IsSourceAnswer holds source (sources.Refused text) → IsAnswer (run_words source input) holds before now 1 text None []
+    → IsSourceResult holds source (sources.Refused text) → IsCallResult (run_words source input) holds before now 1 text None []
 run_refused holds before now source input text same s = OfRow same (record {
   held = record { source = s.file; input = unread holds input };
   told = run_told holds source input _ s.told (unread_told holds input);
@@ -87,7 +87,7 @@ run_refused holds before now source input text same s = OfRow same (record {
 
 -- a source that is refused and was to be printed
 pub format_refused : (holds : Option Content) (before now : ℕ) (source text : List ℕ) → CountsFault false before now
-    → IsSourceAnswer holds source (sources.Refused text) → IsAnswer (format_words source) holds before now 1 text None []
+    → IsSourceResult holds source (sources.Refused text) → IsCallResult (format_words source) holds before now 1 text None []
 format_refused holds before now source text same s = OfRow same (record {
   held = record { source = s.file; input = None };
   told = format_told holds source _ s.told;
@@ -96,12 +96,12 @@ format_refused holds before now source text same s = OfRow same (record {
 
 -- a source that could not be read
 pub source_failed : (words : List (List ℕ)) (holds : Option Content) (before now : ℕ) (source text : List ℕ) → NamesSource words source
-    → CountsFault true before now → text ≡ fault_read source → IsAnswer words holds before now 4 text None []
+    → CountsFault true before now → text ≡ fault_read source → IsCallResult words holds before now 4 text None []
 source_failed words holds before now source text w rose t = rw t (SourceFault source rose.0 rose.1 w)
 
 -- a program that is printed
 pub program_printed : (holds : Option Content) (before now : ℕ) (source : List ℕ) (loaded : Loaded) → CountsFault false before now
-    → IsSourceAnswer holds source (sources.Accepted loaded) → IsAnswer (format_words source) holds before now 0 (program_text (tree_of loaded.program)) None []
+    → IsSourceResult holds source (sources.Accepted loaded) → IsCallResult (format_words source) holds before now 0 (program_text (tree_of loaded.program)) None []
 program_printed holds before now source loaded same s = OfRow same (record {
   held = record { source = s.file; input = None };
   told = format_told holds source _ s.told;
@@ -110,7 +110,7 @@ program_printed holds before now source loaded same s = OfRow same (record {
 
 -- a program that is not of the first form and was to be run
 pub not_built : (holds : Option Content) (before now : ℕ) (source input text : List ℕ) (loaded : Loaded) → text ≡ refused_program → CountsFault false before now
-    → IsFalse loaded.is_first_form → IsSourceAnswer holds source (sources.Accepted loaded) → IsAnswer (run_words source input) holds before now 1 text None []
+    → IsFalse loaded.is_first_form → IsSourceResult holds source (sources.Accepted loaded) → IsCallResult (run_words source input) holds before now 1 text None []
 not_built holds before now source input text loaded t same other s = rw t (OfRow same (record {
   held = record { source = s.file; input = unread holds input };
   told = run_told holds source input _ s.told (unread_told holds input);
@@ -119,8 +119,8 @@ not_built holds before now source input text loaded t same other s = rw t (OfRow
 
 -- an input that is refused
 pub input_refused : (holds later : Option Content) (before mid now : ℕ) (source input text : List ℕ) (loaded : Loaded) → later ≡ holds
-    → CountsFault false before mid → CountsFault false mid now → IsTrue loaded.is_first_form → IsSourceAnswer holds source (sources.Accepted loaded)
-    → IsInputAnswer later input (inputs.Refused text) → IsAnswer (run_words source input) holds before now 1 text None []
+    → CountsFault false before mid → CountsFault false mid now → IsTrue loaded.is_first_form → IsSourceResult holds source (sources.Accepted loaded)
+    → IsInputResult later input (inputs.Refused text) → IsCallResult (run_words source input) holds before now 1 text None []
 input_refused holds later before mid now source input text loaded keeps same same' plain s i = OfRow (same' ∙ same) (record {
   held = record { source = s.file; input = i.file };
   told = run_told holds source input _ s.told (rw keeps at i.told);
@@ -129,18 +129,18 @@ input_refused holds later before mid now source input text loaded keeps same sam
 
 -- an input that could not be read
 pub input_failed : (holds : Option Content) (before mid now : ℕ) (source input text : List ℕ) (loaded : Loaded) → CountsFault false before mid
-    → CountsFault true mid now → IsTrue loaded.is_first_form → IsSourceAnswer holds source (sources.Accepted loaded) → text ≡ fault_read input
-    → IsAnswer (run_words source input) holds before now 4 text None []
+    → CountsFault true mid now → IsTrue loaded.is_first_form → IsSourceResult holds source (sources.Accepted loaded) → text ≡ fault_read input
+    → IsCallResult (run_words source input) holds before now 4 text None []
 input_failed holds before mid now source input text loaded same rose plain s t =
-    let at_mid : IsAnswer (run_words source input) holds mid now 4 (fault_read input) None [] =
+    let at_mid : IsCallResult (run_words source input) holds mid now 4 (fault_read input) None [] =
     InputFault source input s.file (tree_of loaded.program) rose.0 rose.1 refl s.told (s.gave.plain plain) in
     rw (t, ← same) at_mid
 
 -- a run
 pub answer_of_run : (holds later : Option Content) (before mid now : ℕ) (source input text : List ℕ) (status : ℕ) (reports : List Report) (loaded : Loaded)
-    → later ≡ holds → CountsFault false before mid → CountsFault false mid now → IsTrue loaded.is_first_form → IsSourceAnswer holds source (sources.Accepted loaded)
-    → IsInputAnswer later input inputs.Empty → Outcome (tree_of loaded.program) status text reports
-    → IsAnswer (run_words source input) holds before now status text (Some (log_of (tree_of loaded.program))) reports
+    → later ≡ holds → CountsFault false before mid → CountsFault false mid now → IsTrue loaded.is_first_form → IsSourceResult holds source (sources.Accepted loaded)
+    → IsInputResult later input inputs.Empty → RunResult (tree_of loaded.program) status text reports
+    → IsCallResult (run_words source input) holds before now status text (Some (elision_log (tree_of loaded.program))) reports
 answer_of_run holds later before mid now source input text status reports loaded keeps same same' plain s i outcome = OfRow (same' ∙ same) (record {
   held = record { source = s.file; input = i.file };
   told = run_told holds source input _ s.told (rw keeps at i.told);
@@ -149,6 +149,6 @@ answer_of_run holds later before mid now source input text status reports loaded
 
 -- a call that answers this
 pub answer_given : (words : List (List ℕ)) (holds : Option Content) (before now : ℕ) (r : Result Answer NoMemory) (a : Answer) → IfOk r (λ b. b ≡ a)
-    → IsAnswer words holds before now a.status a.text a.run_log a.reports → IfOk r (λ b. IsAnswer words holds before now b.status b.text b.run_log b.reports)
+    → IsCallResult words holds before now a.status a.text a.run_log a.reports → IfOk r (λ b. IsCallResult words holds before now b.status b.text b.run_log b.reports)
 answer_given words holds before now (Ok b) a e h = rw e h
 answer_given words holds before now (Err m) a e h = e

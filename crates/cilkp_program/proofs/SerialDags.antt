@@ -6,16 +6,16 @@ use Rattle.pipe_model.specs.declared.event.Event.{Event}
 use Rattle.pipe_model.specs.declared.node.Node.{Node}
 use Rattle.pipe_model.specs.declared.report.Report.{Report}
 use Rattle.pipe_model.specs.declared.trap.TrapAt.{TrapAt}
-use Rattle.pipe_model.specs.Behaviour.{Action, column_of}
-use Rattle.pipe_model.specs.CheckingRules.{limit_out}
-use Rattle.pipe_model.specs.Columns.{nodes_at}
-use Rattle.pipe_model.specs.FirstRaces.{AreFirstRaces}
-use Rattle.pipe_model.specs.Outcome.{ended_column, serial_ended_columns, serial_output}
-use Rattle.pipe_model.specs.Pipeline.{Pipeline}
-use Rattle.pipe_model.specs.Programs.{pipeline_of}
-use Rattle.pipe_model.specs.SerialElision.{serial_accesses, serial_events, serial_traces}
-use Rattle.pipe_model.specs.SourceRefusals.{IsAccepted}
-use Rattle.pipe_model.specs.SyntaxTree.{SyntaxTree}
+use Rattle.pipe_model.specs.Pipelines.Behaviour.{Action, column_of}
+use Rattle.pipe_model.specs.Language.CheckingRules.{first_limit_out}
+use Rattle.pipe_model.specs.Races.Columns.{nodes_at}
+use Rattle.pipe_model.specs.Races.FirstRaces.{AreFirstRaces}
+use Rattle.pipe_model.specs.Pipelines.ElisionResults.{ended_column, serial_ended_columns, serial_output}
+use Rattle.pipe_model.specs.Pipelines.Pipeline.{Pipeline}
+use Rattle.pipe_model.specs.Language.Programs.{pipeline_of}
+use Rattle.pipe_model.specs.Pipelines.SerialElision.{serial_accesses, serial_events, serial_traces}
+use Rattle.pipe_model.specs.Language.SourceRefusals.{IsAccepted}
+use Rattle.pipe_model.specs.Language.SyntaxTree.{SyntaxTree}
 use Rattle.pipe_model.proofs.Members.{among_at}
 use Rattle.dag_build.specs.NodeColumns.{AreRising, IsAccessOf, node_columns}
 use Rattle.dag_build.proofs.FirstRaceLaws.{no_report_is_race_free}
@@ -26,7 +26,7 @@ use Rattle.serial_elision.proofs.LimitRanges.{few_iterations}
 use Rattle.run_laws.proofs.Elision.SerialRun.{serial_elision_is_a_run}
 use Rattle.run_laws.proofs.RunStates.IterationCounts.{runs_keep_rules}
 use Rattle.run_laws.specs.SerialLaws.{HasSerialRun}
-use Rattle.cilkp_program.specs.Rows.{Outcome, Races, Finishes, Traps, accesses_of, columns_of, log_of, trap_of}
+use Rattle.cilkp_program.specs.Rows.{RunResult, Races, Finishes, Traps, elision_accesses, elision_columns, elision_log, elision_trap}
 use Rattle.cilkp_program.specs.RunTexts.{IsPrintedAs, WithRaces, ToItsEnd, WithTrap}
 
 -- the instances of ended columns
@@ -35,7 +35,7 @@ ended_nodes [] = refl
 ended_nodes (t ∷ traces) = ap (λ cs. column_of t ∷ cs) (ended_nodes traces)
 
 -- what the elision tells of its columns are the program's columns
-pub told_columns : (tree : SyntaxTree) (columns : List Column) → columns ≡ serial_ended_columns (pipeline_of tree []) → node_columns columns ≡ columns_of tree
+pub told_columns : (tree : SyntaxTree) (columns : List Column) → columns ≡ serial_ended_columns (pipeline_of tree []) → node_columns columns ≡ elision_columns tree
 told_columns tree columns e = ap node_columns e ∙ ended_nodes (serial_traces (pipeline_of tree []))
 
 -- the serial elision is a run that begins one iteration after the other
@@ -43,7 +43,7 @@ serial_run : (source : List ℕ) (tree : SyntaxTree) → IsAccepted source tree 
 serial_run source tree form = serial_elision_is_a_run (pipeline_of tree []) 1 (accepted_is_well_formed source tree [] form) (omega arith)
 
 -- the stage numbers of the program's columns rise
-columns_rise : (source : List ℕ) (tree : SyntaxTree) → IsAccepted source tree → AreRising (columns_of tree)
+columns_rise : (source : List ℕ) (tree : SyntaxTree) → IsAccepted source tree → AreRising (elision_columns tree)
 columns_rise source tree form =
     let h = serial_run source tree form in
     let rules = runs_keep_rules _ _ _ _ h.run in
@@ -61,29 +61,29 @@ column_inside (c ∷ cs) zero k w = omega arith
 column_inside (c ∷ cs) (suc i) k w = let h = column_inside cs i k w in omega (arith, h)
 
 -- the program's accesses are made by instances of its columns
-accesses_inside : (source : List ℕ) (tree : SyntaxTree) → IsAccepted source tree → All (IsAccessOf (columns_of tree)) (accesses_of tree)
+accesses_inside : (source : List ℕ) (tree : SyntaxTree) → IsAccepted source tree → All (IsAccessOf (elision_columns tree)) (elision_accesses tree)
 accesses_inside source tree form =
     let h = serial_run source tree form in
     let rules = runs_keep_rules _ _ _ _ h.run in
-    subst (λ cs. All (IsAccessOf cs) (accesses_of tree)) h.columns (subst (All (IsAccessOf _)) h.accesses
+    subst (λ cs. All (IsAccessOf cs) (elision_accesses tree)) h.columns (subst (All (IsAccessOf _)) h.accesses
     (λ k d w. let inside = rules.inside _ (among_at _ k d w) in (column_inside _ _ _ inside, inside)))
 
 -- the accesses that the elision tells are made by instances of the dag that is built
 pub told_accesses_inside : (source : List ℕ) (tree : SyntaxTree) (dag : List (List Node)) (columns : List Column) (accesses : List NodeAccess) → IsAccepted source tree
-    → dag ≡ node_columns columns → columns ≡ serial_ended_columns (pipeline_of tree []) → accesses ≡ accesses_of tree → All (IsAccessOf dag) accesses
+    → dag ≡ node_columns columns → columns ≡ serial_ended_columns (pipeline_of tree []) → accesses ≡ elision_accesses tree → All (IsAccessOf dag) accesses
 told_accesses_inside source tree dag columns accesses form d e a =
     rw (a, d ∙ told_columns tree columns e) (accesses_inside source tree form)
 
 -- the races of the dag that is built are those of the program
 told_races : (tree : SyntaxTree) (dag : List (List Node)) (columns : List Column) (accesses : List NodeAccess) (reports : List Report) → dag ≡ node_columns columns
-    → columns ≡ serial_ended_columns (pipeline_of tree []) → accesses ≡ accesses_of tree → AreFirstRaces dag accesses reports → AreFirstRaces (columns_of tree) (accesses_of tree) reports
+    → columns ≡ serial_ended_columns (pipeline_of tree []) → accesses ≡ elision_accesses tree → AreFirstRaces dag accesses reports → AreFirstRaces (elision_columns tree) (elision_accesses tree) reports
 told_races tree dag columns accesses reports d e a r = rw (← a, ← (d ∙ told_columns tree columns e)) r
 
 -- what is printed of the elision's parts is what the program comes to
 pub outcome_of_run : (tree : SyntaxTree) (dag : List (List Node)) (columns : List Column) (accesses : List NodeAccess) (output : List ℤ) (trap : Option TrapAt) (reports : List Report)
-    {status : ℕ} {text : List ℕ} → dag ≡ node_columns columns → columns ≡ serial_ended_columns (pipeline_of tree []) → accesses ≡ accesses_of tree
-    → output ≡ serial_output (pipeline_of tree []) → trap ≡ trap_of tree → AreFirstRaces dag accesses reports
-    → IsPrintedAs tree.cells output trap reports status text → Outcome tree status text reports
+    {status : ℕ} {text : List ℕ} → dag ≡ node_columns columns → columns ≡ serial_ended_columns (pipeline_of tree []) → accesses ≡ elision_accesses tree
+    → output ≡ serial_output (pipeline_of tree []) → trap ≡ elision_trap tree → AreFirstRaces dag accesses reports
+    → IsPrintedAs tree.cells output trap reports status text → RunResult tree status text reports
 outcome_of_run tree dag columns accesses output trap reports d e a o t r (WithRaces some) =
     let first = told_races tree dag columns accesses reports d e a r in
     Races reports (λ free. some ((no_report_is_race_free _ _ reports first).1 free)) first
@@ -99,12 +99,12 @@ pub told_columns_are_few : (source : List ℕ) (tree : SyntaxTree) (columns : Li
     → columns ≡ serial_ended_columns (pipeline_of tree []) → length columns ≤ 2 ^ 32
 told_columns_are_few source tree columns form e =
     let few = serial_columns_are_few (pipeline_of tree []) in
-    let most = few_iterations tree.limits (no_fault (limit_out tree.limits) _ form.obeys).0 in
+    let most = few_iterations tree.limits (no_fault (first_limit_out tree.limits) _ form.obeys).0 in
     omega (arith, ap length e, few, most)
 
 -- the log of the elision's columns and events is that of the program
 pub told_log : (tree : SyntaxTree) (columns : List Column) (accesses : List NodeAccess) (events : List Event)
-    → columns ≡ serial_ended_columns (pipeline_of tree []) → accesses ≡ accesses_of tree
+    → columns ≡ serial_ended_columns (pipeline_of tree []) → accesses ≡ elision_accesses tree
     → ((p : Pipeline) → columns ≡ serial_ended_columns p → accesses ≡ serial_accesses p → events ≡ serial_events p)
-    → record { columns = columns; events = events } ≡ log_of tree
+    → record { columns = columns; events = events } ≡ elision_log tree
 told_log tree columns accesses events e a told = λ i. record { columns = e i; events = told (pipeline_of tree []) e a i }

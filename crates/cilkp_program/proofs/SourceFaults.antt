@@ -2,27 +2,27 @@
 use Rattle.std.proofs.Common.{◌≡◌, ◌∙◌, ◌↔◌, ℕ, List, Some, None, IsTrue, IsFalse, Bool, true, false, sym}
 use Rattle.pipe_check.specs.declared.fault.CheckFault.{CheckFault}
 use Rattle.pipe_check.specs.declared.fault.CheckFault.TheVariants as checks
-use Rattle.pipe_check.specs.Passing.{Tells}
+use Rattle.pipe_check.specs.Passing.{IsFirstFaultOf}
 use Rattle.pipe_lexer.specs.declared.fault.LexFault.{LexFault}
 use Rattle.pipe_lexer.specs.declared.fault.LexFault.TheVariants as lexer
 use Rattle.pipe_lexer.specs.Faults.{IsFaultOf}
 use Rattle.pipe_model.specs.declared.token.Token.{Token}
-use Rattle.pipe_model.specs.CheckingRules as checking
-use Rattle.pipe_model.specs.CheckingRules.{Broken, fault_of}
-use Rattle.pipe_model.specs.FirstForm.{IsPlain}
-use Rattle.pipe_model.specs.MarkPlaces.{mark_places}
-use Rattle.pipe_model.specs.SourceRefusals.{Lexical, Syntactic, LimitOut, RuleBroken, ForItsText, ForAToken, ForALimit, ForARule}
-use Rattle.pipe_model.specs.SourceSpelling.{SourceSpells}
-use Rattle.pipe_model.specs.Spelling as grammar
-use Rattle.pipe_model.specs.Spelling.{Spells}
-use Rattle.pipe_model.specs.SyntaxTree.{SyntaxTree}
-use Rattle.pipe_model.specs.Tokens.{BadByte, TooWide, SourceTooLong, NameTooLong, IsLexed, symbols_in}
+use Rattle.pipe_model.specs.Language.CheckingRules as checking
+use Rattle.pipe_model.specs.Language.CheckingRules.{Broken, fault_of}
+use Rattle.pipe_model.specs.Language.FirstForm.{IsPlain}
+use Rattle.pipe_model.specs.Language.MarkPlaces.{mark_places}
+use Rattle.pipe_model.specs.Language.SourceRefusals.{Lexical, Syntactic, LimitOut, RuleBroken, ForItsText, ForAToken, ForALimit, ForARule}
+use Rattle.pipe_model.specs.Language.SourceSpelling.{SourceSpells}
+use Rattle.pipe_model.specs.Language.Spelling as grammar
+use Rattle.pipe_model.specs.Language.Spelling.{Spells}
+use Rattle.pipe_model.specs.Language.SyntaxTree.{SyntaxTree}
+use Rattle.pipe_model.specs.Language.Tokens.{BadByte, TooWide, SourceTooLong, NameTooLong, IsLexed, symbols_in}
 use Rattle.pipe_parser.specs.declared.parse.ParseFault.{ParseFault}
 use Rattle.pipe_parser.specs.declared.parse.ParseFault.TheVariants as parser
 use Rattle.pipe_parser.specs.Parses.{IsFault}
 use Rattle.language_laws.proofs.MarkPlaces.{place_of_broken}
-use Rattle.pipe_model.proofs.SourceRefusals.{one_lexed}
-use Rattle.cilkp_program.specs.Loads.{AreLoaded, AreRefused}
+use Rattle.grammar_laws.proofs.SourceRefusals.{one_lexed}
+use Rattle.cilkp_program.specs.LoadedFiles.{AreLoaded, AreRefused}
 use Rattle.cilkp_program.specs.RefusalLines.{HasPlace, IsCheckLine, IsLexicalLine, IsRuleLine, IsSyntaxLine}
 
 -- tokens whose symbols spell the program
@@ -49,7 +49,7 @@ tokens_refused source tokens (parser.TooLong place) line l h e =
 tokens_refused source tokens parser.NoMemory line l h e = absurd e
 
 -- the mark of a fault has a place
-pub fault_has_place : (source : List ℕ) (tree : SyntaxTree) (s : SourceSpells source tree) (fault : CheckFault) → Tells fault (fault_of tree)
+pub fault_has_place : (source : List ℕ) (tree : SyntaxTree) (s : SourceSpells source tree) (fault : CheckFault) → IsFirstFaultOf fault (fault_of tree)
     → HasPlace fault (mark_places s.tokens)
 fault_has_place source tree s (checks.LimitOut which) t = tt
 fault_has_place source tree s (checks.Unknown mark) t = place_of_broken source tree s _ mark t
@@ -63,13 +63,13 @@ fault_has_place source tree s (checks.ZeroSize mark) t = place_of_broken source 
 fault_has_place source tree s checks.NoMemory t = tt
 
 -- a rule that is broken
-rule_refused : (source : List ℕ) (tree : SyntaxTree) (s : SourceSpells source tree) (rule : checking.Rule) (mark : ℕ) (line : List ℕ)
+rule_refused : (source : List ℕ) (tree : SyntaxTree) (s : SourceSpells source tree) (rule : checking.CheckingRule) (mark : ℕ) (line : List ℕ)
     → fault_of tree ≡ Some (Broken rule mark) → IsRuleLine rule (mark_places s.tokens) mark line → AreRefused source line
 rule_refused source tree s rule mark line t r =
     record { refusal = RuleBroken rule r.place; refused = ForARule tree rule mark r.place s t r.found; line_is = r.line_is }
 
 -- a fault of the program
-pub program_refused : (source : List ℕ) (tree : SyntaxTree) (s : SourceSpells source tree) (fault : CheckFault) (line : List ℕ) → Tells fault (fault_of tree)
+pub program_refused : (source : List ℕ) (tree : SyntaxTree) (s : SourceSpells source tree) (fault : CheckFault) (line : List ℕ) → IsFirstFaultOf fault (fault_of tree)
     → IsCheckLine fault (mark_places s.tokens) line → AreRefused source line
 program_refused source tree s (checks.LimitOut which) line t e = record { refusal = LimitOut which; refused = ForALimit tree which s t; line_is = e }
 program_refused source tree s (checks.Unknown mark) line t r = rule_refused source tree s _ mark line t r

@@ -2,9 +2,9 @@
 use Rattle.std.specs.Prelude.{◌≡◌, ℕ, List, [], length, Option, None}
 use Rattle.pipe_model.specs.declared.event.RunLog.{RunLog}
 use Rattle.pipe_model.specs.declared.report.Report.{Report}
-use Rattle.pipe_model.specs.CanonicalText.{program_text}
-use Rattle.pipe_model.specs.SyntaxTree.{SyntaxTree}
-use Rattle.cilkp_program.specs.Answers.{HasTaken}
+use Rattle.pipe_model.specs.Language.CanonicalText.{program_text}
+use Rattle.pipe_model.specs.Language.SyntaxTree.{SyntaxTree}
+use Rattle.cilkp_program.specs.CallResults.{HasTaken}
 use Rattle.cilkp_program.specs.Reads.{Content}
 use Rattle.cilkp_program.specs.Rows.{IsSourceOf, format_words}
 
@@ -15,7 +15,7 @@ pub record IsToFormat (words : List (List ℕ)) (content : Content) (tree : Synt
   pub program : IsSourceOf (content source) tree
 
 -- the canonical text of the program was taken whole, with status 0, and nothing was run
-pub record AnswersText (tree : SyntaxTree) (status written : ℕ) (run_log : Option RunLog) (reports : List Report) (taken_before taken_now : Option (List ℕ)) : Type 0 where
+pub record ReturnsText (tree : SyntaxTree) (status written : ℕ) (run_log : Option RunLog) (reports : List Report) (taken_before taken_now : Option (List ℕ)) : Type 0 where
   pub done : status ≡ 0
   pub whole : written ≡ length (program_text tree)
   pub taken : HasTaken written (program_text tree) taken_before taken_now

@@ -2,16 +2,16 @@
 use Rattle.std.specs.Prelude.{◌≡◌, ◌≢◌, ◌≤◌, ◌⊎◌, ◌↔◌, ◌++◌, ℕ, List, [], length, Option, Some, None}
 use Rattle.pipe_model.specs.declared.event.RunLog.{RunLog}
 use Rattle.pipe_model.specs.declared.report.Report.{Report}
-use Rattle.pipe_model.specs.Programs.{pipeline_of}
-use Rattle.pipe_model.specs.Reports.{AreRight}
-use Rattle.pipe_model.specs.RunLogs.{IsFinishedRun, accesses_after, columns_after}
-use Rattle.pipe_model.specs.SyntaxTree.{SyntaxTree}
+use Rattle.pipe_model.specs.Language.Programs.{pipeline_of}
+use Rattle.pipe_model.specs.Races.Reports.{AreRight}
+use Rattle.pipe_model.specs.Runs.RunLogs.{IsFinishedRun, accesses_after, columns_after}
+use Rattle.pipe_model.specs.Language.SyntaxTree.{SyntaxTree}
 use Rattle.pipe_model.specs.Texts.{trap_lines}
-use Rattle.pipe_model.specs.Throttling.{IsThrottled}
-use Rattle.cilkp_program.specs.Answers.{HasTaken}
+use Rattle.pipe_model.specs.Runs.Throttling.{IsThrottled}
+use Rattle.cilkp_program.specs.CallResults.{HasTaken}
 use Rattle.cilkp_program.specs.CellNames.{race_lines}
 use Rattle.cilkp_program.specs.Reads.{Content}
-use Rattle.cilkp_program.specs.Rows.{HasNoRace, IsPlainSourceOf, output_text, run_words, trap_of}
+use Rattle.cilkp_program.specs.Rows.{ElisionHasNoRace, IsPlainSourceOf, elision_output_text, run_words, elision_trap}
 
 -- the words are a command that runs a source which is accepted as the program, and is of the first form, on an empty input
 pub record IsToRun (words : List (List ℕ)) (content : Content) (tree : SyntaxTree) : Type 0 where
@@ -28,20 +28,20 @@ pub record MeetsHeadline (tree : SyntaxTree) (limit : ℕ) (log : RunLog) (repor
   -- a cell is reported exactly when two conflicting accesses to it are parallel in the run's own dag
   pub reported : AreRight (columns_after log.events) (accesses_after log.events) reports
   -- no cell is reported exactly when the dag of the serial elision has no race
-  pub silent : (reports ≡ []) ↔ HasNoRace tree
+  pub silent : (reports ≡ []) ↔ ElisionHasNoRace tree
   -- status 2 comes exactly when the dag of the serial elision has a race, and the races are printed
-  pub racy : (status ≡ 2) ↔ (HasNoRace tree → ⊥)
+  pub racy : (status ≡ 2) ↔ (ElisionHasNoRace tree → ⊥)
   pub races : status ≡ 2 → text ≡ race_lines tree.cells reports
   -- otherwise the output and the trap of the serial elision are printed, with status 3 exactly when it has a trap
-  pub otherwise : HasNoRace tree → text ≡ output_text tree ++ trap_lines (trap_of tree)
-  pub trapped : (status ≡ 3) ↔ (HasNoRace tree × (trap_of tree ≢ None))
-  pub finished : (status ≡ 0) ↔ (HasNoRace tree × (trap_of tree ≡ None))
+  pub otherwise : ElisionHasNoRace tree → text ≡ elision_output_text tree ++ trap_lines (elision_trap tree)
+  pub trapped : (status ≡ 3) ↔ (ElisionHasNoRace tree × (elision_trap tree ≢ None))
+  pub finished : (status ≡ 0) ↔ (ElisionHasNoRace tree × (elision_trap tree ≡ None))
   -- at most the throttling limit of iterations are alive at any event
   pub throttled : IsThrottled limit log.events
 
 -- the call has answered with the log of a run that meets the headline, whatever the limit, and its text was taken whole.
 -- There is no other answer for an accepted program: the status is 0, 2 or 3
-pub record AnswersRun (tree : SyntaxTree) (status written : ℕ) (run_log : Option RunLog) (reports : List Report) (taken_before taken_now : Option (List ℕ)) : Type 0 where
+pub record ReturnsRun (tree : SyntaxTree) (status written : ℕ) (run_log : Option RunLog) (reports : List Report) (taken_before taken_now : Option (List ℕ)) : Type 0 where
   pub log : RunLog
   pub logged : run_log ≡ Some log
   pub text : List ℕ

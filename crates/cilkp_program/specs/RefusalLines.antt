@@ -6,11 +6,11 @@ use Rattle.pipe_lexer.specs.declared.fault.LexFault.{LexFault}
 use Rattle.pipe_lexer.specs.declared.fault.LexFault.TheVariants as lexer
 use Rattle.pipe_parser.specs.declared.parse.ParseFault.{ParseFault}
 use Rattle.pipe_parser.specs.declared.parse.ParseFault.TheVariants as parser
-use Rattle.pipe_model.specs.CheckingRules as checking
-use Rattle.pipe_model.specs.SourceRefusals.{LimitOut}
-use Rattle.pipe_model.specs.Spelling as grammar
+use Rattle.pipe_model.specs.Language.CheckingRules as checking
+use Rattle.pipe_model.specs.Language.SourceRefusals.{LimitOut}
+use Rattle.pipe_model.specs.Language.Spelling as grammar
 use Rattle.pipe_model.specs.Texts.{lexical_line, refusal_line, rule_line, syntax_line}
-use Rattle.pipe_model.specs.Tokens.{BadByte, TooWide, SourceTooLong, NameTooLong}
+use Rattle.pipe_model.specs.Language.Tokens.{BadByte, TooWide, SourceTooLong, NameTooLong}
 
 -- the line of a fault of the text
 abbrev pub IsLexicalLine : LexFault → List ℕ → Type 0
@@ -45,7 +45,7 @@ HasPlace (checks.ZeroSize mark) places = HasPlaceAt places mark
 HasPlace checks.NoMemory places = Unit {0}
 
 -- the line of a rule that is broken at the mark with this number, by the places of the marks
-pub record IsRuleLine (rule : checking.Rule) (places : List ℤ) (mark : ℕ) (line : List ℕ) : Type 0 where
+pub record IsRuleLine (rule : checking.CheckingRule) (places : List ℤ) (mark : ℕ) (line : List ℕ) : Type 0 where
   pub place : ℕ
   pub found : slice_get places mark ≡ Some (pos place)
   pub line_is : line ≡ rule_line rule place

@@ -6,15 +6,15 @@ use Rattle.pipe_model.specs.declared.event.RunLog.{RunLog}
 use Rattle.pipe_model.specs.declared.node.Node.{Node}
 use Rattle.pipe_model.specs.declared.report.Report.{Report}
 use Rattle.pipe_model.specs.declared.trap.TrapAt.{TrapAt}
-use Rattle.pipe_model.specs.CanonicalText.{program_text}
-use Rattle.pipe_model.specs.FirstForm.{IsFirstForm}
-use Rattle.pipe_model.specs.FirstRaces.{AreFirstRaces}
-use Rattle.pipe_model.specs.Outcome.{serial_ended_columns, serial_output, serial_trap}
-use Rattle.pipe_model.specs.Programs.{pipeline_of}
-use Rattle.pipe_model.specs.Races.{IsRaceFree}
-use Rattle.pipe_model.specs.SerialElision.{serial_columns, serial_accesses, serial_events}
-use Rattle.pipe_model.specs.SourceRefusals.{IsAccepted, IsRefused, Refusal}
-use Rattle.pipe_model.specs.SyntaxTree.{SyntaxTree}
+use Rattle.pipe_model.specs.Language.CanonicalText.{program_text}
+use Rattle.pipe_model.specs.Language.FirstForm.{IsFirstForm}
+use Rattle.pipe_model.specs.Races.FirstRaces.{AreFirstRaces}
+use Rattle.pipe_model.specs.Pipelines.ElisionResults.{serial_ended_columns, serial_output, serial_trap}
+use Rattle.pipe_model.specs.Language.Programs.{pipeline_of}
+use Rattle.pipe_model.specs.Races.DeterminacyRaces.{IsRaceFree}
+use Rattle.pipe_model.specs.Pipelines.SerialElision.{serial_columns, serial_accesses, serial_events}
+use Rattle.pipe_model.specs.Language.SourceRefusals.{IsAccepted, IsRefused, Refusal}
+use Rattle.pipe_model.specs.Language.SyntaxTree.{SyntaxTree}
 use Rattle.pipe_model.specs.Texts.{output_lines, trap_line, refusal_line, refused_usage, refused_missing, refused_program, refused_input}
 use Rattle.cilkp_program.specs.CellNames.{race_lines}
 use Rattle.cilkp_program.specs.Reads.{Content}
@@ -45,12 +45,12 @@ abbrev pub NamesInput : (words : List (List ℕ)) (input : List ℕ) → Type 0
 NamesInput words input = (source : List ℕ) × (words ≡ run_words source input)
 
 -- what the two files of a command hold, each by its bytes where there is such a file
-pub record Held : Type 0 where
+pub record FileContents : Type 0 where
   pub source : Option (List ℕ)
   pub input : Option (List ℕ)
 
 -- the files of the command hold what these files tell
-pub record AreHeldBy (content : Content) (words : List (List ℕ)) (held : Held) : Type 0 where
+pub record AreHeldBy (content : Content) (words : List (List ℕ)) (held : FileContents) : Type 0 where
   pub source : (name : List ℕ) → NamesSource words name → content name ≡ held.source
   pub input : (name : List ℕ) → NamesInput words name → content name ≡ held.input
 
@@ -77,39 +77,39 @@ pub data InputRefusal (name : List ℕ) (file : Option (List ℕ)) : List ℕ �
   InputNotEmpty : (bytes : List ℕ) → file ≡ Some bytes → bytes ≢ [] → InputRefusal name file refused_input
 
 -- the output of the program's serial elision, with an empty input
-abbrev pub output_text : SyntaxTree → List ℕ
-output_text tree = output_lines (serial_output (pipeline_of tree []))
+abbrev pub elision_output_text : SyntaxTree → List ℕ
+elision_output_text tree = output_lines (serial_output (pipeline_of tree []))
 
 -- the trap of the program's serial elision, with an empty input
-abbrev pub trap_of : SyntaxTree → Option TrapAt
-trap_of tree = serial_trap (pipeline_of tree [])
+abbrev pub elision_trap : SyntaxTree → Option TrapAt
+elision_trap tree = serial_trap (pipeline_of tree [])
 
 -- the columns of the program's serial elision, with an empty input
-abbrev pub columns_of : SyntaxTree → List (List Node)
-columns_of tree = serial_columns (pipeline_of tree [])
+abbrev pub elision_columns : SyntaxTree → List (List Node)
+elision_columns tree = serial_columns (pipeline_of tree [])
 
 -- the accesses of the program's serial elision, with an empty input
-abbrev pub accesses_of : SyntaxTree → List NodeAccess
-accesses_of tree = serial_accesses (pipeline_of tree [])
+abbrev pub elision_accesses : SyntaxTree → List NodeAccess
+elision_accesses tree = serial_accesses (pipeline_of tree [])
 
 -- the program's serial elision as a run, with an empty input: its columns and its events
-abbrev pub log_of : SyntaxTree → RunLog
-log_of tree = record { columns = serial_ended_columns (pipeline_of tree []); events = serial_events (pipeline_of tree []) }
+abbrev pub elision_log : SyntaxTree → RunLog
+elision_log tree = record { columns = serial_ended_columns (pipeline_of tree []); events = serial_events (pipeline_of tree []) }
 
 -- the dag of the program's serial elision has no race
-abbrev pub HasNoRace : SyntaxTree → Type 0
-HasNoRace tree = IsRaceFree (columns_of tree) (accesses_of tree)
+abbrev pub ElisionHasNoRace : SyntaxTree → Type 0
+ElisionHasNoRace tree = IsRaceFree (elision_columns tree) (elision_accesses tree)
 
 -- what a run of the program comes to: where the dag of its serial elision has a race, the first race of each cell, with status 2;
 -- and where it has none, its output with status 0, or its output and its trap with status 3
-pub data Outcome (tree : SyntaxTree) : ℕ → List ℕ → List Report → Type 0 where
-  Races : (reports : List Report) → (HasNoRace tree → ⊥) → AreFirstRaces (columns_of tree) (accesses_of tree) reports → Outcome tree 2 (race_lines tree.cells reports) reports
-  Finishes : HasNoRace tree → trap_of tree ≡ None → Outcome tree 0 (output_text tree) []
-  Traps : (t : TrapAt) → HasNoRace tree → trap_of tree ≡ Some t → Outcome tree 3 (output_text tree ++ trap_line t) []
+pub data RunResult (tree : SyntaxTree) : ℕ → List ℕ → List Report → Type 0 where
+  Races : (reports : List Report) → (ElisionHasNoRace tree → ⊥) → AreFirstRaces (elision_columns tree) (elision_accesses tree) reports → RunResult tree 2 (race_lines tree.cells reports) reports
+  Finishes : ElisionHasNoRace tree → elision_trap tree ≡ None → RunResult tree 0 (elision_output_text tree) []
+  Traps : (t : TrapAt) → ElisionHasNoRace tree → elision_trap tree ≡ Some t → RunResult tree 3 (elision_output_text tree ++ trap_line t) []
 
 -- the row of a call by its words and its files: its status, its text, its run log where the program is run, and its reports.
 -- The first refusal in this order counts: the words, the source, the input. Only programs of the first form are run
-pub data Row (words : List (List ℕ)) (held : Held) : ℕ → List ℕ → Option RunLog → List Report → Type 0 where
+pub data Row (words : List (List ℕ)) (held : FileContents) : ℕ → List ℕ → Option RunLog → List Report → Type 0 where
   NoCommand : ((source input : List ℕ) → words ≢ run_words source input) → ((source : List ℕ) → words ≢ format_words source)
       → Row words held 1 refused_usage None []
   SourceRefused : (source : List ℕ) {text : List ℕ} → NamesSource words source → SourceRefusal source held.source text → Row words held 1 text None []
@@ -119,4 +119,4 @@ pub data Row (words : List (List ℕ)) (held : Held) : ℕ → List ℕ → Opti
   InputRefused : (source input : List ℕ) {text : List ℕ} (tree : SyntaxTree) → words ≡ run_words source input → IsPlainSourceOf held.source tree
       → InputRefusal input held.input text → Row words held 1 text None []
   Runs : (source input : List ℕ) {status : ℕ} {text : List ℕ} {reports : List Report} (tree : SyntaxTree) → words ≡ run_words source input
-      → IsPlainSourceOf held.source tree → held.input ≡ Some [] → Outcome tree status text reports → Row words held status text (Some (log_of tree)) reports
+      → IsPlainSourceOf held.source tree → held.input ≡ Some [] → RunResult tree status text reports → Row words held status text (Some (elision_log tree)) reports

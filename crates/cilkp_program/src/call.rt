@@ -1,15 +1,15 @@
 //! The top call.
 
 ghost use Rattle.std.specs.Prelude.{◌≡◌, ◌≢◌, ℕ, ◌≤◌, ◌⊎◌, ◌↔◌, List, [], IfOk, IfSome, IfNone, OnErr};
-ghost use Rattle.pipe_model.specs.CanonicalText.{program_text};
-ghost use Rattle.pipe_model.specs.FirstForm.{IsFirstForm};
-ghost use Rattle.pipe_model.specs.SyntaxTree.{SyntaxTree, tree_of};
+ghost use Rattle.pipe_model.specs.Language.CanonicalText.{program_text};
+ghost use Rattle.pipe_model.specs.Language.FirstForm.{IsFirstForm};
+ghost use Rattle.pipe_model.specs.Language.SyntaxTree.{SyntaxTree, tree_of};
 ghost use Rattle.pipe_model.specs.Texts.{fault_read};
-ghost use Rattle.cilkp_program.specs.Answers.{IsAnswer, IsPrinted, IsCutShort, IsGivenUp};
-ghost use Rattle.cilkp_program.specs.Faults.{Grew, Rose};
-ghost use Rattle.cilkp_program.specs.Formatting.{AnswersText, IsToFormat};
-ghost use Rattle.cilkp_program.specs.Headline.{AnswersRun, IsToRun};
-ghost use Rattle.cilkp_program.specs.Rows.{IsFormat, Outcome, log_of, words_of, run_words, format_words};
+ghost use Rattle.cilkp_program.specs.CallResults.{IsCallResult, IsPrinted, IsCutShort, IsGivenUp};
+ghost use Rattle.cilkp_program.specs.Faults.{CountGrew, CountRose};
+ghost use Rattle.cilkp_program.specs.Formatting.{ReturnsText, IsToFormat};
+ghost use Rattle.cilkp_program.specs.Headline.{ReturnsRun, IsToRun};
+ghost use Rattle.cilkp_program.specs.Rows.{IsFormat, RunResult, elision_log, words_of, run_words, format_words};
 ghost use Rattle.cilkp_program.specs.RunTexts.{IsPrintedAs};
 
 use crate::files::Files;
@@ -123,8 +123,8 @@ fn printed_run(
 // What a run of the program comes to, with its log: the run is the serial one, one iteration after the other.
 fn run_program(alloc: Global, program: &Program) -> Result<Answer, NoMemory>
     requires { (source : List ℕ) × IsFirstForm source (tree_of program.now) }
-    ensures outcome { IfOk result (λ a. Outcome (tree_of program.now) a.status a.text a.reports) }
-    ensures log { IfOk result (λ a. a.run_log ≡ Some (log_of (tree_of program.now))) }
+    ensures outcome { IfOk result (λ a. RunResult (tree_of program.now) a.status a.text a.reports) }
+    ensures log { IfOk result (λ a. a.run_log ≡ Some (elision_log (tree_of program.now))) }
 {
     let SerialRun {
         output,
@@ -188,7 +188,7 @@ fn answer_run<F: Files>(
 ) -> Result<Answer, NoMemory>
     ensures keeps { F.holds files.new ≡ F.holds files.old }
     ensures grows { OnErr result (F.faults files.old ≤ F.faults files.new) }
-    ensures answer { IfOk result (λ a. IsAnswer (run_words source.now input.now) (F.holds files.old)
+    ensures answer { IfOk result (λ a. IsCallResult (run_words source.now input.now) (F.holds files.old)
         (F.faults files.old) (F.faults files.new) a.status a.text a.run_log a.reports) }
 {
     let Loaded {
@@ -215,7 +215,7 @@ fn answer_run<F: Files>(
 fn answer_format<F: Files>(alloc: Global, files: &mut F, source: &str) -> Result<Answer, NoMemory>
     ensures keeps { F.holds files.new ≡ F.holds files.old }
     ensures grows { OnErr result (F.faults files.old ≤ F.faults files.new) }
-    ensures answer { IfOk result (λ a. IsAnswer (format_words source.now) (F.holds files.old)
+    ensures answer { IfOk result (λ a. IsCallResult (format_words source.now) (F.holds files.old)
         (F.faults files.old) (F.faults files.new) a.status a.text a.run_log a.reports) }
 {
     match load_source(alloc, files, source)? {
@@ -229,7 +229,7 @@ fn answer_format<F: Files>(alloc: Global, files: &mut F, source: &str) -> Result
 fn answer_for<F: Files>(alloc: Global, words: &[String], files: &mut F) -> Result<Answer, NoMemory>
     ensures keeps { F.holds files.new ≡ F.holds files.old }
     ensures grows { OnErr result (F.faults files.old ≤ F.faults files.new) }
-    ensures answer { IfOk result (λ a. IsAnswer (words_of words.now) (F.holds files.old)
+    ensures answer { IfOk result (λ a. IsCallResult (words_of words.now) (F.holds files.old)
         (F.faults files.old) (F.faults files.new) a.status a.text a.run_log a.reports) }
 {
     if let Some((source, input)) = run_names(words) {
@@ -258,13 +258,13 @@ pub fn cilkp<R: Drop, F: Files, S: Sink, G: Gate + Sync>(
     // reports a cell exactly when the run's own dag has two parallel conflicting accesses to it, reports some cell exactly
     // when the serial elision's dag has such a pair, and otherwise prints exactly the serial elision's output and trap; at
     // most the throttling limit of iterations are alive at any event.
-    ensures headline { IfOk result (λ e. ¬ (Rose (F.faults files.old) (F.faults files.new)) → ¬ (Rose (S.faults out.old) (S.faults out.new)) →
+    ensures headline { IfOk result (λ e. ¬ (CountRose (F.faults files.old) (F.faults files.new)) → ¬ (CountRose (S.faults out.old) (S.faults out.new)) →
         IfSome (F.holds files.old) (λ content. (tree : SyntaxTree) → IsToRun (words_of words.now) content tree →
-        AnswersRun tree e.status e.written e.run_log e.reports (S.taken out.old) (S.taken out.new))) }
+        ReturnsRun tree e.status e.written e.run_log e.reports (S.taken out.old) (S.taken out.new))) }
     // For every accepted program that is to be printed, where no fault came from outside, its canonical text is taken whole.
-    ensures formatted { IfOk result (λ e. ¬ (Rose (F.faults files.old) (F.faults files.new)) → ¬ (Rose (S.faults out.old) (S.faults out.new)) →
+    ensures formatted { IfOk result (λ e. ¬ (CountRose (F.faults files.old) (F.faults files.new)) → ¬ (CountRose (S.faults out.old) (S.faults out.new)) →
         IfSome (F.holds files.old) (λ content. (tree : SyntaxTree) → IsToFormat (words_of words.now) content tree →
-        AnswersText tree e.status e.written e.run_log e.reports (S.taken out.old) (S.taken out.new))) }
+        ReturnsText tree e.status e.written e.run_log e.reports (S.taken out.old) (S.taken out.new))) }
 
     // The text of the call's row, or of its fault of reading, was taken whole; the run log and the reports are those of the row.
     ensures printed { IfOk result (λ e. e.status ≢ 5 →
@@ -282,10 +282,10 @@ pub fn cilkp<R: Drop, F: Files, S: Sink, G: Gate + Sync>(
     ensures logged { IfOk result (λ e. e.status ≢ 5 → (e.run_log ≡ None) ↔ ((e.status ≡ 1) ⊎ ((e.status ≡ 4) ⊎ IsFormat (words_of words.now)))) }
 
     // Each fault has its cause in this call, and is told where its count grew.
-    ensures read_fault { IfOk result (λ e. e.status ≡ 4 → Rose (F.faults files.old) (F.faults files.new)) }
-    ensures write_fault { IfOk result (λ e. e.status ≡ 5 → Rose (S.faults out.old) (S.faults out.new)) }
-    ensures files_grew { IfOk result (λ e. Grew (F.faults files.old) (F.faults files.new) → (e.status ≡ 4) ⊎ (e.status ≡ 5)) }
-    ensures sink_grew { IfOk result (λ e. Grew (S.faults out.old) (S.faults out.new) → e.status ≡ 5) }
+    ensures read_fault { IfOk result (λ e. e.status ≡ 4 → CountRose (F.faults files.old) (F.faults files.new)) }
+    ensures write_fault { IfOk result (λ e. e.status ≡ 5 → CountRose (S.faults out.old) (S.faults out.new)) }
+    ensures files_grew { IfOk result (λ e. CountGrew (F.faults files.old) (F.faults files.new) → (e.status ≡ 4) ⊎ (e.status ≡ 5)) }
+    ensures sink_grew { IfOk result (λ e. CountGrew (S.faults out.old) (S.faults out.new) → e.status ≡ 5) }
     ensures statuses { IfOk result (λ e. e.status ≤ 5) }
 
     // The files stay as they were, and no count of faults falls.

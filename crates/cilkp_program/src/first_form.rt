@@ -2,9 +2,9 @@
 
 ghost use Rattle.std.specs.Prelude.{◌≡◌, ◌==◌, ◌↔◌, ℕ, List, IsFalse, IsTrue};
 ghost use Rattle.std.specs.List.{count_by, list_all};
-ghost use Rattle.pipe_model.specs.FirstForm as first_form;
-ghost use Rattle.pipe_model.specs.SyntaxTree.{expression_of, statement_of, statements_of, tree_of};
-ghost use Rattle.pipe_model.specs.Tokens.{symbol_as, symbols_in};
+ghost use Rattle.pipe_model.specs.Language.FirstForm as first_form;
+ghost use Rattle.pipe_model.specs.Language.SyntaxTree.{expression_of, statement_of, statements_of, tree_of};
+ghost use Rattle.pipe_model.specs.Language.Tokens.{symbol_as, symbols_in};
 
 use pipe_model::token::{Token, TokenKind};
 use pipe_model::tree::{Declaration, Expr, Program, Stmt};

@@ -2,7 +2,7 @@
 
 ghost use Rattle.std.specs.Prelude.{◌≡◌, IfOk, OnErr};
 ghost use Rattle.cilkp_program.specs.Faults.{CountsFault};
-ghost use Rattle.cilkp_program.specs.Loads.{is_source_fault, Gave, IsSourceAnswer, is_input_fault, IsInputAnswer};
+ghost use Rattle.cilkp_program.specs.LoadedFiles.{is_source_fault, IsLoadOf, IsSourceResult, is_input_fault, IsInputResult};
 
 use crate::files::Files;
 use crate::first_form::is_first_form;
@@ -50,7 +50,7 @@ pub fn load_source<F: Files>(alloc: Global, files: &mut F, name: &str) -> Result
     ensures keeps { F.holds files.new ≡ F.holds files.old }
     ensures cause { IfOk result (λ source. CountsFault (is_source_fault source) (F.faults files.old) (F.faults files.new)) }
     ensures memory { OnErr result (F.faults files.new ≡ F.faults files.old) }
-    ensures answer { IfOk result (λ source. IsSourceAnswer (F.holds files.old) name.now source) }
+    ensures answer { IfOk result (λ source. IsSourceResult (F.holds files.old) name.now source) }
 {
     match read_whole(alloc, files, name, LONGEST_SOURCE)? {
         Whole::Missing => Ok(Source::Refused(named_line(alloc, MISSING, name)?)),
@@ -62,7 +62,7 @@ pub fn load_source<F: Files>(alloc: Global, files: &mut F, name: &str) -> Result
 
 // The program of these bytes, or the line that refuses them: the first fault of the lexer, the parser or the checker.
 fn source_of(alloc: Global, source: &[u8]) -> Result<Source, NoMemory>
-    ensures { IfOk result (λ answer. Gave source.now answer) }
+    ensures { IfOk result (λ answer. IsLoadOf source.now answer) }
 {
     let tokens = match tokens(alloc, source) {
         Ok(tokens) => tokens,
@@ -98,7 +98,7 @@ pub fn load_input<F: Files>(alloc: Global, files: &mut F, name: &str) -> Result<
     ensures keeps { F.holds files.new ≡ F.holds files.old }
     ensures cause { IfOk result (λ input. CountsFault (is_input_fault input) (F.faults files.old) (F.faults files.new)) }
     ensures memory { OnErr result (F.faults files.new ≡ F.faults files.old) }
-    ensures answer { IfOk result (λ input. IsInputAnswer (F.holds files.old) name.now input) }
+    ensures answer { IfOk result (λ input. IsInputResult (F.holds files.old) name.now input) }
 {
     match read_whole(alloc, files, name, 0)? {
         Whole::Missing => return Ok(Input::Refused(named_line(alloc, MISSING, name)?)),

@@ -22,7 +22,7 @@ pub struct CleanSink {
 
 impl Model for CleanSink {
     ghost use Rattle.std.specs.Prelude.{◌<◌};
-    ghost use Rattle.cilkp_program.specs.Stored.{StoredText};
+    ghost use Rattle.cilkp_program.specs.MemoryFiles.{StoredText};
 
     ghost Value = { StoredText };
 

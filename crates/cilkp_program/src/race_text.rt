@@ -2,7 +2,7 @@
 
 ghost use Rattle.std.specs.Prelude.{◌≡◌, ◌++◌, codes, IfOk, OnOk};
 ghost use Rattle.cilkp_program.specs.CellNames.{cell_name, declared_name, element_name, race_lines};
-ghost use Rattle.pipe_model.specs.Programs.{declared_size};
+ghost use Rattle.pipe_model.specs.Language.Programs.{declared_size};
 ghost use Rattle.pipe_model.specs.Texts.{instance_text, kind_text, race_line};
 
 use pipe_model::access::{AccessKind, CellId};

@@ -4,7 +4,7 @@ ghost use Rattle.std.specs.Prelude.{◌≡◌, ◌+◌, ◌++◌, ◌≤◌, ◌
 ghost use Rattle.std.specs.Option.{option_map};
 ghost use Rattle.cilkp_program.specs.Faults.{CountsFault};
 ghost use Rattle.cilkp_program.specs.Reads.{is_read_fault, bytes_read};
-ghost use Rattle.cilkp_program.specs.Wholes.{is_file_fault, IsUpTo, IsWholeOf, is_text_fault, IsFrontOf, EndsAt};
+ghost use Rattle.cilkp_program.specs.WholeFiles.{is_file_fault, IsUpTo, IsWholeOf, is_text_fault, IsFrontOf, EndsAt};
 
 use crate::files::{Files, ReadPart};
 use crate::sink::{Sink, WritePart};

@@ -13,11 +13,11 @@ use Rattle.std.specs.List.Sorted.{IsNonDecreasingBy}
 use Rattle.pipe_model.specs.declared.access.NodeAccess.{NodeAccess}
 use Rattle.pipe_model.specs.declared.node.Node.{Node}
 use Rattle.pipe_model.specs.declared.report.Report.{Report}
-use Rattle.pipe_model.specs.CellRaces.{NotedAccess, accesses_to, RacesAt}
-use Rattle.pipe_model.specs.Races.{Among, Here}
+use Rattle.pipe_model.specs.Races.CellRaces.{NotedAccess, accesses_to, RacesAt}
+use Rattle.pipe_model.specs.Races.DeterminacyRaces.{Among, Here}
 use Rattle.pipe_model.proofs.Members.{among_at, among_either, among_left, among_right, only_one}
-use Rattle.pipe_model.specs.FirstRaces.{HasReport, IsFirstRaceOfCell, TellsFirstRace}
-use Rattle.dag_build.specs.CellRaces.{HasNoRace, noted_all}
+use Rattle.pipe_model.specs.Races.FirstRaces.{HasReport, ReportsFirstRaceOfCell, ReportsFirstRace}
+use Rattle.dag_build.specs.RacingAccesses.{CellHasNoRace, noted_all}
 use Rattle.dag_build.proofs.RacePlaces.{noted_of}
 
 -- the cell of an access
@@ -129,13 +129,13 @@ group_of_first xs x m is e sorted =
 pub record IsProgress (columns : List (List Node)) (xs rest : List NodeAccess) (reports : List Report) : Type 0 where
   pub left : (c : ℕ) → (IsBelowAll c rest → ⊥) → accesses_to c xs ≡ accesses_to c rest
   pub sorted : IsNonDecreasingBy cell_of rest
-  pub each : (r : Report) → Among r reports → IsFirstRaceOfCell columns xs r
+  pub each : (r : Report) → Among r reports → ReportsFirstRaceOfCell columns xs r
   pub below : (r : Report) → Among r reports → IsBelowAll r.cell.0 rest
   pub rise : AllPairs (λ (a : Report) (b : Report). a.cell.0 < b.cell.0) reports
   pub all : (c later earlier : ℕ) → IsBelowAll c rest → RacesAt columns (accesses_to c xs) later earlier → HasReport reports c
 
 -- no access, no race
-none_in_none : (columns : List (List Node)) (noted : List NotedAccess) → noted ≡ [] → HasNoRace columns noted
+none_in_none : (columns : List (List Node)) (noted : List NotedAccess) → noted ≡ [] → CellHasNoRace columns noted
 none_in_none columns noted e later earlier r = let w = r.within in omega (arith, w, ap length e)
 
 -- nothing is told yet
@@ -209,7 +209,7 @@ race_in_front columns xs rest reports c m h g cell later earlier below r l =
 
 -- a group without a race
 pub progress_without : (columns : List (List Node)) (xs rest : List NodeAccess) (reports : List Report) (c m : ℕ)
-    → IsProgress columns xs rest reports → IsGroup rest c m → HasNoRace columns (noted_all (take m rest))
+    → IsProgress columns xs rest reports → IsGroup rest c m → CellHasNoRace columns (noted_all (take m rest))
     → IsProgress columns xs (drop m rest) reports
 progress_without columns xs rest reports c m h g none = record {
   left = left_behind columns xs rest reports c m h g;
@@ -233,15 +233,15 @@ still_reported reports r cell h = (h.0, among_left h.0 reports (r ∷ []) h.1, h
 
 -- a group with a race, which is reported
 pub progress_with : (columns : List (List Node)) (xs rest : List NodeAccess) (reports : List Report) (c m : ℕ) (r : Report)
-    → IsProgress columns xs rest reports → IsGroup rest c m → TellsFirstRace columns (noted_all (take m rest)) r
+    → IsProgress columns xs rest reports → IsGroup rest c m → ReportsFirstRace columns (noted_all (take m rest)) r
     → r.cell.0 ≡ c → IsProgress columns xs (drop m rest) (reports ++ r ∷ [])
 progress_with columns xs rest reports c m r h g told e = record {
   left = left_behind columns xs rest reports c m h g;
   sorted = IsNonDecreasingBy-drop cell_of m rest h.sorted;
   each = λ x among. elim (among_either x reports (r ∷ []) among) [
     | inl old ↦ h.each x old
-    | inr new ↦ subst (IsFirstRaceOfCell columns xs) (sym (only_one x r new))
-        (subst (λ l. TellsFirstRace columns l r) (sym (ap (λ i. accesses_to i xs) e ∙ of_group columns xs rest reports c m h g)) told)
+    | inr new ↦ subst (ReportsFirstRaceOfCell columns xs) (sym (only_one x r new))
+        (subst (λ l. ReportsFirstRace columns l r) (sym (ap (λ i. accesses_to i xs) e ∙ of_group columns xs rest reports c m h g)) told)
   ];
   below = λ x among. elim (among_either x reports (r ∷ []) among) [
     | inl old ↦ All-drop (λ a. x.cell.0 < cell_of a) m rest (h.below x old)

@@ -4,8 +4,8 @@ use Rattle.std.proofs.lemmas.Bool.{cases_order}
 use Rattle.std.proofs.lemmas.Int.{by_lt_z, ints}
 use Rattle.pipe_model.specs.declared.node.Kind.TheVariants.{Wait}
 use Rattle.pipe_model.specs.declared.node.Node.{Node}
-use Rattle.pipe_model.specs.Columns.{node_at, IsRising}
-use Rattle.pipe_model.specs.Dag.{CrossEdge, HeadCross, WaitCross, IsLastUpTo}
+use Rattle.pipe_model.specs.Races.Columns.{node_at, IsRising}
+use Rattle.pipe_model.specs.Races.Dag.{CrossEdge, HeadCross, WaitCross, IsLastUpTo}
 use Rattle.dag_build.specs.Landings.{CrossesFrom, NoneCross}
 
 -- a place whose number is at most s, with the last such place behind it

@@ -4,14 +4,14 @@ use Rattle.std.proofs.Common.{◌≡◌, List, [], ◌∷◌, ◌++◌, refl, sy
 use Rattle.pipe_model.specs.declared.access.NodeAccess.{NodeAccess}
 use Rattle.pipe_model.specs.declared.node.Node.{Node}
 use Rattle.pipe_model.specs.declared.report.Report.{Report}
-use Rattle.pipe_model.specs.CellRaces.{NotedAccess, access_at, accesses_to, KindsConflict}
-use Rattle.pipe_model.specs.Dag.{AreParallel}
-use Rattle.pipe_model.specs.Races.{Among, Here, Later, IsDeterminacyRace, IsRaceFree}
-use Rattle.pipe_model.specs.Reports.{AreRight, NamesRace, report_of}
+use Rattle.pipe_model.specs.Races.CellRaces.{NotedAccess, access_at, accesses_to, KindsConflict}
+use Rattle.pipe_model.specs.Races.Dag.{AreParallel}
+use Rattle.pipe_model.specs.Races.DeterminacyRaces.{Among, Here, Later, IsDeterminacyRace, IsRaceFree}
+use Rattle.pipe_model.specs.Races.Reports.{AreRight, NamesRace, report_of}
 use Rattle.pipe_model.proofs.CellAccesses.{ArePlacedAccesses, cell_id, noted_of, two_places}
-use Rattle.pipe_model.proofs.CellRaces.{race_at}
+use Rattle.pipe_model.proofs.RacesByCell.{race_at}
 use Rattle.pipe_model.proofs.Members.{among_right}
-use Rattle.pipe_model.specs.FirstRaces.{AreFirstRaces, HasReport, IsFirstRaceOfCell}
+use Rattle.pipe_model.specs.Races.FirstRaces.{AreFirstRaces, HasReport, ReportsFirstRaceOfCell}
 
 -- the accesses of a report, at their places in the list
 record HasAccesses (columns : List (List Node)) (accesses : List NodeAccess) (r : Report) : Type 0 where
@@ -29,7 +29,7 @@ record HasAccesses (columns : List (List Node)) (accesses : List NodeAccess) (r 
 
 -- a report of a first race has them
 has_accesses : (columns : List (List Node)) (accesses : List NodeAccess) (r : Report)
-    → IsFirstRaceOfCell columns accesses r → HasAccesses columns accesses r
+    → ReportsFirstRaceOfCell columns accesses r → HasAccesses columns accesses r
 has_accesses columns accesses r h =
     let race = h.first.race in
     let noted : List NotedAccess = accesses_to r.cell.0 accesses in
@@ -53,7 +53,7 @@ has_accesses columns accesses r h =
 
 -- each report names a race of the list
 report_names_race : (columns : List (List Node)) (accesses : List NodeAccess) (r : Report)
-    → IsFirstRaceOfCell columns accesses r → NamesRace columns accesses r
+    → ReportsFirstRaceOfCell columns accesses r → NamesRace columns accesses r
 report_names_race columns accesses r first =
     let a = has_accesses columns accesses r first in
     record {

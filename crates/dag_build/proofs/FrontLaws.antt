@@ -6,11 +6,11 @@ use Rattle.pipe_model.specs.declared.access.AccessKind.TheVariants.{Read, Write}
 use Rattle.pipe_model.specs.declared.access.NodeAccess.{NodeAccess}
 use Rattle.pipe_model.specs.declared.node.Node.{Node}
 use Rattle.pipe_model.specs.declared.node.NodeId.{NodeId}
-use Rattle.pipe_model.specs.CellRaces.{NotedAccess, access_at}
+use Rattle.pipe_model.specs.Races.CellRaces.{NotedAccess, access_at}
 use Rattle.dag_build.specs.AccessFronts.{AreFronts, LeadsFrom, joined_fronts}
 use Rattle.dag_build.specs.Landings.{MovesTo}
 use Rattle.dag_build.specs.declared.fronts.Fronts.{Fronts}
-use Rattle.dag_build.specs.CellRaces.{noted_all}
+use Rattle.dag_build.specs.RacingAccesses.{noted_all}
 use Rattle.dag_build.proofs.RacePlaces.{noted_at}
 use Rattle.dag_build.proofs.Paths.{leads_from_itself, leads_moved}
 

@@ -5,8 +5,8 @@ use Rattle.std.proofs.lemmas.List.{get_or_append_left, get_or_default, get_or_pu
 use Rattle.std.proofs.lemmas.List.Elements.{All-push}
 use Rattle.std.specs.List.{All}
 use Rattle.pipe_model.specs.declared.node.Node.{Node}
-use Rattle.pipe_model.specs.Columns.{nodes_at}
-use Rattle.dag_build.specs.Landings.{AreJumps, AreLandings, AreLevels, IsLanding, IsTable, MovesTo, Stays, Moves}
+use Rattle.pipe_model.specs.Races.Columns.{nodes_at}
+use Rattle.dag_build.specs.Landings.{AreJumps, AreLandings, AreLevels, IsLanding, IsJumpTable, MovesTo, Stays, Moves}
 use Rattle.dag_build.specs.declared.jumps.Jumps.{Jumps}
 use Rattle.dag_build.proofs.Crossings.{edge_begins_within}
 
@@ -44,7 +44,7 @@ moves_past columns i m (suc d) w l =
 
 -- landings are the jumps of one column
 pub table_of_landings : (columns : List (List Node)) (i : ℕ) (table : List ℕ)
-    → AreLandings (nodes_at columns i) (nodes_at columns (i + 1)) table → IsTable columns 1 i table
+    → AreLandings (nodes_at columns i) (nodes_at columns (i + 1)) table → IsJumpTable columns 1 i table
 table_of_landings columns i table h = record {
   whole = h.whole;
   moves = λ m w. Moves i m (get_or table m 0) Stays (h.each m (let e = h.whole in omega (arith, w, e)));
@@ -53,21 +53,21 @@ table_of_landings columns i table h = record {
 -- the first tables, one for each column up to i
 pub record HasTables (columns : List (List Node)) (step : ℕ) (tables : List (List ℕ)) (i : ℕ) : Type 0 where
   pub whole : length tables ≡ i
-  pub each : (n : ℕ) → n < i → IsTable columns step n (get_or tables n [])
+  pub each : (n : ℕ) → n < i → IsJumpTable columns step n (get_or tables n [])
 
 -- one table more
 pub one_more_table : (columns : List (List Node)) (step : ℕ) (tables more : List (List ℕ)) (table : List ℕ) (i : ℕ)
-    → HasTables columns step tables i → IsTable columns step i table → more ≡ tables ++ table ∷ []
+    → HasTables columns step tables i → IsJumpTable columns step i table → more ≡ tables ++ table ∷ []
     → HasTables columns step more (i + 1)
 one_more_table columns step tables more table i h new e =
     let whole = h.whole in
     subst (λ ts. HasTables columns step ts (i + 1)) (sym e) (record {
       whole = omega (arith, length-append tables (table ∷ []), whole);
       each = λ n l. elim (cases_lt n i) [
-        | inl less ↦ subst (IsTable columns step n)
+        | inl less ↦ subst (IsJumpTable columns step n)
             (sym (get_or_append_left tables (table ∷ []) [] n (omega (arith, less, whole)))) (h.each n less)
-        | inr past ↦ subst (λ k. IsTable columns step k (get_or (tables ++ table ∷ []) k [])) (omega (arith, l, past))
-            (subst (IsTable columns step i) (sym (get_or_push tables table [] i whole)) new)
+        | inr past ↦ subst (λ k. IsJumpTable columns step k (get_or (tables ++ table ∷ []) k [])) (omega (arith, l, past))
+            (subst (IsJumpTable columns step i) (sym (get_or_push tables table [] i whole)) new)
       ];
     })
 
@@ -122,15 +122,15 @@ all_levels columns levels more last h e = subst (AreLevels columns) (sym e) (rec
 -- the table of a column, as an index reads it
 pub table_at : (columns : List (List Node)) (jumps : Jumps) (tables : List (List ℕ)) (i : ℕ) (table : List ℕ)
     → AreJumps columns jumps → tables ≡ jumps.tables → i + jumps.step < length columns → table ≡ get_or tables i table
-    → IsTable columns jumps.step i table
+    → IsJumpTable columns jumps.step i table
 table_at columns jumps tables i table h e w is =
     let whole = h.whole in
     let within : i < length jumps.tables = omega (arith, w, whole) in
-    subst (IsTable columns jumps.step i)
+    subst (IsJumpTable columns jumps.step i)
     (get_or_default jumps.tables i [] table within ∙ (ap (λ ts. get_or ts i table) (sym e) ∙ sym is)) (h.each i within)
 
 -- a step from where a step comes
-pub twice_moved : (columns : List (List Node)) (step i m end : ℕ) (table once : List ℕ) → IsTable columns step i table
+pub twice_moved : (columns : List (List Node)) (step i m end : ℕ) (table once : List ℕ) → IsJumpTable columns step i table
     → once ≡ table → m < length once → MovesTo columns (i + step) (get_or once m 0) (i + step + step) end
     → MovesTo columns i m (i + (step + step)) end
 twice_moved columns step i m end table once h e w more =

@@ -3,14 +3,14 @@ use Rattle.std.proofs.Common.{◌≡◌, ℕ, zero, suc, ◌+◌, ◌-◌, ◌<�
 use Rattle.std.proofs.lemmas.Bool.{cases_lt, cases_order}
 use Rattle.pipe_model.specs.declared.node.Node.{Node}
 use Rattle.pipe_model.specs.declared.node.NodeId.{NodeId}
-use Rattle.pipe_model.specs.Columns.{nodes_at, at}
-use Rattle.pipe_model.specs.Dag.{AreParallel, CrossEdge, Edge, DownEdge, AcrossEdge, Precedes, ByEdge, ByPath}
+use Rattle.pipe_model.specs.Races.Columns.{nodes_at, at}
+use Rattle.pipe_model.specs.Races.Dag.{AreParallel, CrossEdge, Edge, DownEdge, AcrossEdge, Precedes, ByEdge, ByPath}
 use Rattle.dag_build.proofs.Crossings.{edge_begins_within}
 use Rattle.dag_build.specs.AccessFronts.{LeadsTo, LeadsFrom}
 use Rattle.dag_build.specs.Landings.{IsLanding, MovesTo, Stays, Moves}
 
 -- in column i, x leads to what stands at place m or past it, and to nothing before it
-pub record IsFront (columns : List (List Node)) (x : NodeId) (i m : ℕ) : Type 0 where
+pub record ReachesFrom (columns : List (List Node)) (x : NodeId) (i m : ℕ) : Type 0 where
   pub leads : LeadsFrom columns x i m
   pub only : (k : ℕ) → LeadsTo columns x (at i k) → m ≤ k
 
@@ -69,7 +69,7 @@ pub leads_from_itself : (columns : List (List Node)) (i m : ℕ) → LeadsFrom c
 leads_from_itself columns i m = down_from columns (at i m) i m (inl refl)
 
 -- in its column its front is itself
-front_of_itself : (columns : List (List Node)) (i m : ℕ) → IsFront columns (at i m) i m
+front_of_itself : (columns : List (List Node)) (i m : ℕ) → ReachesFrom columns (at i m) i m
 front_of_itself columns i m = record {
   leads = leads_from_itself columns i m;
   only = λ k h. elim h [
@@ -98,7 +98,7 @@ leads_moved columns x leads (Moves t from landing moves lands) =
 
 -- what x leads to by an edge from y, in the column after i, is not before the landing
 edge_lands : {columns : List (List Node)} {y z : NodeId} (x : NodeId) (i m landing : ℕ) → Edge columns y z
-    → LeadsTo columns x y → x.iteration ≤ i → IsFront columns x i m
+    → LeadsTo columns x y → x.iteration ≤ i → ReachesFrom columns x i m
     → IsLanding (nodes_at columns i) (nodes_at columns (i + 1)) m landing
     → (Precedes columns x y → y.iteration ≡ i + 1 → landing ≤ y.index) → z.iteration ≡ i + 1 → landing ≤ z.index
 edge_lands x i m landing (DownEdge t k h) leads before front lands earlier e = elim leads [
@@ -116,7 +116,7 @@ edge_lands {columns} x i m landing (AcrossEdge t j k c) leads before front lands
 
 -- what x leads to by a path, in the column after i, is not before the landing
 path_lands : {columns : List (List Node)} {x z : NodeId} (i m landing : ℕ) → Precedes columns x z → x.iteration ≤ i
-    → IsFront columns x i m → IsLanding (nodes_at columns i) (nodes_at columns (i + 1)) m landing
+    → ReachesFrom columns x i m → IsLanding (nodes_at columns i) (nodes_at columns (i + 1)) m landing
     → z.iteration ≡ i + 1 → landing ≤ z.index
 path_lands {columns} {x} i m landing (ByEdge e) before front lands =
     edge_lands x i m landing e (inl refl) before front lands (λ p h. absurd (omega (arith, h, before)))
@@ -124,8 +124,8 @@ path_lands {columns} {x} i m landing (ByPath p e) before front lands =
     edge_lands x i m landing e (inr p) before front lands (λ q. path_lands i m landing p before front lands)
 
 -- the front in the next column is where it lands
-front_lands : (columns : List (List Node)) (x : NodeId) (i m landing : ℕ) → x.iteration ≤ i → IsFront columns x i m
-    → IsLanding (nodes_at columns i) (nodes_at columns (i + 1)) m landing → IsFront columns x (i + 1) landing
+front_lands : (columns : List (List Node)) (x : NodeId) (i m landing : ℕ) → x.iteration ≤ i → ReachesFrom columns x i m
+    → IsLanding (nodes_at columns i) (nodes_at columns (i + 1)) m landing → ReachesFrom columns x (i + 1) landing
 front_lands columns x i m landing before front lands = record {
   leads = leads_from_landing columns x i m landing front.leads lands;
   only = λ k h. elim h [
@@ -143,7 +143,7 @@ moves_forward (Moves t from landing moves lands) = let h = moves_forward moves i
 
 -- the front of an instance is where its place comes
 pub front_moved : (columns : List (List Node)) {i m t place : ℕ} → MovesTo columns i m t place
-    → IsFront columns (at i m) t place
+    → ReachesFrom columns (at i m) t place
 front_moved columns {i} {m} Stays = front_of_itself columns i m
 front_moved columns {i} {m} (Moves t from landing moves lands) =
     front_lands columns (at i m) t from landing (moves_forward moves) (front_moved columns moves) lands
@@ -154,7 +154,7 @@ not_itself columns x y h l = elim l [ inl e ↦ absurd (h e) | inr p ↦ p ]
 
 -- the front in a later column decides what is preceded there
 pub precedes_from_front : (columns : List (List Node)) (x y : NodeId) (m : ℕ) → x.iteration < y.iteration
-    → IsFront columns x y.iteration m → y.index < length (nodes_at columns y.iteration) → m ≤ y.index
+    → ReachesFrom columns x y.iteration m → y.index < length (nodes_at columns y.iteration) → m ≤ y.index
     → Precedes columns x y
 precedes_from_front columns x y m before front w l =
     not_itself columns x y
@@ -162,7 +162,7 @@ precedes_from_front columns x y m before front w l =
     (front.leads.reached y.index l w)
 
 -- and only that
-pub front_from_precedes : (columns : List (List Node)) (x y : NodeId) (m : ℕ) → IsFront columns x y.iteration m
+pub front_from_precedes : (columns : List (List Node)) (x y : NodeId) (m : ℕ) → ReachesFrom columns x y.iteration m
     → Precedes columns x y → m ≤ y.index
 front_from_precedes columns x y m front p = front.only y.index (inr p)
 

@@ -4,10 +4,10 @@ use Rattle.std.proofs.lemmas.List.{get_or-map, length-map}
 use Rattle.pipe_model.specs.declared.access.AccessKind.TheVariants.{Read}
 use Rattle.pipe_model.specs.declared.access.NodeAccess.{NodeAccess}
 use Rattle.pipe_model.specs.declared.node.Node.{Node}
-use Rattle.pipe_model.specs.CellRaces.{NotedAccess, access_at, noted_access, KindsConflict, RacesAt}
-use Rattle.pipe_model.specs.Columns.{at}
-use Rattle.pipe_model.specs.Dag.{AreParallel}
-use Rattle.dag_build.specs.CellRaces.{AreRacing, noted_all}
+use Rattle.pipe_model.specs.Races.CellRaces.{NotedAccess, access_at, noted_access, KindsConflict, RacesAt}
+use Rattle.pipe_model.specs.Races.Columns.{at}
+use Rattle.pipe_model.specs.Races.Dag.{AreParallel}
+use Rattle.dag_build.specs.RacingAccesses.{AreRacing, noted_all}
 
 -- an access as it is noted
 abbrev pub noted_of : NodeAccess → NotedAccess

@@ -8,9 +8,9 @@ use Rattle.pipe_model.specs.declared.access.AccessKind.TheVariants.{Read}
 use Rattle.pipe_model.specs.declared.access.NodeAccess.{NodeAccess}
 use Rattle.pipe_model.specs.declared.node.Node.{Node}
 use Rattle.pipe_model.specs.declared.report.Report.{Report}
-use Rattle.pipe_model.specs.CellRaces.{NotedAccess, accesses_to, RacesAt}
-use Rattle.pipe_model.specs.FirstRaces.{AreFirstRaces, TellsFirstRace}
-use Rattle.dag_build.specs.CellRaces.{noted_all}
+use Rattle.pipe_model.specs.Races.CellRaces.{NotedAccess, accesses_to, RacesAt}
+use Rattle.pipe_model.specs.Races.FirstRaces.{AreFirstRaces, ReportsFirstRace}
+use Rattle.dag_build.specs.RacingAccesses.{noted_all}
 use Rattle.dag_build.proofs.CellGroups.{cell_of}
 use Rattle.dag_build.proofs.RacePlaces.{noted_of}
 
@@ -53,7 +53,7 @@ accesses_to-stable xs ys stable c =
 pub first_races_of_same : (columns : List (List Node)) (xs ys : List NodeAccess) (reports : List Report)
     → ((c : ℕ) → accesses_to c ys ≡ accesses_to c xs) → AreFirstRaces columns ys reports → AreFirstRaces columns xs reports
 first_races_of_same columns xs ys reports same h = record {
-  each = λ r among. subst (λ l. TellsFirstRace columns l r) (same r.cell.0) (h.each r among);
+  each = λ r among. subst (λ l. ReportsFirstRace columns l r) (same r.cell.0) (h.each r among);
   rise = h.rise;
   all = λ c later earlier r. h.all c later earlier (subst (λ l. RacesAt columns l later earlier) (sym (same c)) r);
 }

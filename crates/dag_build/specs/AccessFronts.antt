@@ -5,9 +5,9 @@ use Rattle.pipe_model.specs.declared.access.AccessKind.{AccessKind}
 use Rattle.pipe_model.specs.declared.access.AccessKind.TheVariants.{Read, Write}
 use Rattle.pipe_model.specs.declared.node.Node.{Node}
 use Rattle.pipe_model.specs.declared.node.NodeId.{NodeId}
-use Rattle.pipe_model.specs.CellRaces.{NotedAccess, access_at}
-use Rattle.pipe_model.specs.Columns.{nodes_at, at}
-use Rattle.pipe_model.specs.Dag.{Precedes}
+use Rattle.pipe_model.specs.Races.CellRaces.{NotedAccess, access_at}
+use Rattle.pipe_model.specs.Races.Columns.{nodes_at, at}
+use Rattle.pipe_model.specs.Races.Dag.{Precedes}
 use Rattle.dag_build.specs.declared.fronts.Fronts.{Fronts}
 
 -- x is y or precedes it

@@ -3,8 +3,8 @@
 -- edges between the two alone.
 use Rattle.std.specs.Prelude.{◌≡◌, ℕ, List, [], All, ◌+◌, ◌-◌, ◌<◌, ◌≤◌, length, slice_index, slice_index_or}
 use Rattle.pipe_model.specs.declared.node.Node.{Node}
-use Rattle.pipe_model.specs.Columns.{nodes_at}
-use Rattle.pipe_model.specs.Dag.{CrossEdge}
+use Rattle.pipe_model.specs.Races.Columns.{nodes_at}
+use Rattle.pipe_model.specs.Races.Dag.{CrossEdge}
 use Rattle.dag_build.specs.declared.jumps.Jumps.{Jumps}
 
 -- an edge leads from place `from` of the left column, or a later one, to place k of the right column
@@ -34,7 +34,7 @@ pub data MovesTo (columns : List (List Node)) (i m : ℕ) : ℕ → ℕ → Type
       → MovesTo columns i m (t + 1) landing
 
 -- the table tells where the places of column i come `step` columns further
-pub record IsTable (columns : List (List Node)) (step i : ℕ) (table : List ℕ) : Type 0 where
+pub record IsJumpTable (columns : List (List Node)) (step i : ℕ) (table : List ℕ) : Type 0 where
   pub whole : length table ≡ length (nodes_at columns i)
   pub moves : (m : ℕ) → m < length table → MovesTo columns i m (i + step) (slice_index table m)
 
@@ -42,7 +42,7 @@ pub record IsTable (columns : List (List Node)) (step i : ℕ) (table : List ℕ
 pub record AreJumps (columns : List (List Node)) (jumps : Jumps) : Type 0 where
   pub positive : 0 < jumps.step
   pub whole : length jumps.tables ≡ length columns - jumps.step
-  pub each : (i : ℕ) → i < length jumps.tables → IsTable columns jumps.step i (slice_index_or jumps.tables i [])
+  pub each : (i : ℕ) → i < length jumps.tables → IsJumpTable columns jumps.step i (slice_index_or jumps.tables i [])
 
 -- jumps of several steps, the first of which is one column
 pub record AreLevels (columns : List (List Node)) (levels : List Jumps) : Type 0 where

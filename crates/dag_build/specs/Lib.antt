@@ -1,4 +1,4 @@
 pub mod AccessFronts
-pub mod CellRaces
 pub mod Landings
 pub mod NodeColumns
+pub mod RacingAccesses

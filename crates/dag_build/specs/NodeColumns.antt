@@ -3,7 +3,7 @@ use Rattle.std.specs.Prelude.{ℕ, List, map}
 use Rattle.pipe_model.specs.declared.access.NodeAccess.{NodeAccess}
 use Rattle.pipe_model.specs.declared.column.Column.{Column}
 use Rattle.pipe_model.specs.declared.node.Node.{Node}
-use Rattle.pipe_model.specs.Columns.{nodes_at, IsRising, IsNodeOf}
+use Rattle.pipe_model.specs.Races.Columns.{nodes_at, IsRising, IsNodeOf}
 
 -- the columns without their ends
 abbrev pub node_columns : List Column → List (List Node)

@@ -1,8 +1,8 @@
 //! The dag of columns, with the jumps that answer which instances precede which.
 
 ghost use Rattle.std.specs.Prelude.{◌≡◌, ◌<◌, ◌≤◌, ◌+◌, ◌↔◌, length, IfOk, IsTrue};
-ghost use Rattle.pipe_model.specs.Columns.{nodes_at, IsNodeOf};
-ghost use Rattle.pipe_model.specs.Dag.{Precedes};
+ghost use Rattle.pipe_model.specs.Races.Columns.{nodes_at, IsNodeOf};
+ghost use Rattle.pipe_model.specs.Races.Dag.{Precedes};
 ghost use Rattle.dag_build.specs.Landings.{MovesTo};
 ghost use Rattle.dag_build.specs.NodeColumns.{node_columns, AreRising};
 

@@ -1,8 +1,8 @@
 //! Jumps: where the places of a column come several columns further, so that a long way takes few look-ups.
 
 ghost use Rattle.std.specs.Prelude.{◌≡◌, ◌+◌, ◌<◌, ◌≤◌, IfOk, length};
-ghost use Rattle.pipe_model.specs.Columns.{nodes_at};
-ghost use Rattle.dag_build.specs.Landings.{AreJumps, AreLevels, IsTable, MovesTo};
+ghost use Rattle.pipe_model.specs.Races.Columns.{nodes_at};
+ghost use Rattle.dag_build.specs.Landings.{AreJumps, AreLevels, IsJumpTable, MovesTo};
 ghost use Rattle.dag_build.specs.NodeColumns.{AreRising};
 
 use crate::landing::landings;
@@ -90,7 +90,7 @@ fn doubled_table(
 ) -> Result<ListOf<usize>, NoMemory>
     requires jumps { AreJumps columns.now jumps.now }
     requires within { i + jumps.now.step + jumps.now.step < length columns.now }
-    ensures { IfOk result (λ table. IsTable columns.now (jumps.now.step + jumps.now.step) i table) }
+    ensures { IfOk result (λ table. IsJumpTable columns.now (jumps.now.step + jumps.now.step) i table) }
 {
     let once = jumps.tables.as_slice()[i].as_slice();
     let mut twice = ListOf::with_capacity(alloc, once.len())?;

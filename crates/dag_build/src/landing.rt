@@ -3,7 +3,7 @@
 
 ghost use Rattle.std.specs.Prelude.{ℕ, ◌<◌, ◌≤◌, length, IfOk};
 ghost use Rattle.std.specs.Bool.{OnTrue, OnFalse};
-ghost use Rattle.pipe_model.specs.Columns.{IsRising};
+ghost use Rattle.pipe_model.specs.Races.Columns.{IsRising};
 ghost use Rattle.dag_build.specs.Landings.{AreLandings, CrossesFrom, IsLanding, NoneCross};
 
 use pipe_model::list::ListOf;

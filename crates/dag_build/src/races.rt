@@ -4,15 +4,15 @@ ghost use Rattle.std.specs.Prelude.{◌≡◌, ◌<◌, ◌==◌, All, IfOk, IfN
 ghost use Rattle.std.specs.Bool.{OnFalse, OnTrue};
 ghost use Rattle.std.specs.List.Sorted.{IsNonDecreasingBy};
 ghost use Rattle.std.specs.List.{prefix_len};
-ghost use Rattle.pipe_model.specs.CellRaces.{noted_access, KindsConflict, RacesAt};
-ghost use Rattle.pipe_model.specs.Dag.{AreParallel};
-ghost use Rattle.pipe_model.specs.Columns.{IsNodeOf};
-ghost use Rattle.pipe_model.specs.Reports.{number_at, report_of};
+ghost use Rattle.pipe_model.specs.Races.CellRaces.{noted_access, KindsConflict, RacesAt};
+ghost use Rattle.pipe_model.specs.Races.Dag.{AreParallel};
+ghost use Rattle.pipe_model.specs.Races.Columns.{IsNodeOf};
+ghost use Rattle.pipe_model.specs.Races.Reports.{number_at, report_of};
 ghost use Rattle.dag_build.specs.AccessFronts.{AreFronts};
-ghost use Rattle.pipe_model.specs.FirstRaces.{AreFirstRaces, IsFirstRace, RacesWithNone};
-ghost use Rattle.dag_build.specs.CellRaces.{AreRacing, HasNoRace};
-ghost use Rattle.pipe_model.specs.FirstRaces.{RacesWithNoneBefore, TellsFirstRace};
-ghost use Rattle.dag_build.specs.CellRaces.{noted_all};
+ghost use Rattle.pipe_model.specs.Races.FirstRaces.{AreFirstRaces, IsFirstRacingPair, RacesWithNone};
+ghost use Rattle.dag_build.specs.RacingAccesses.{AreRacing, CellHasNoRace};
+ghost use Rattle.pipe_model.specs.Races.FirstRaces.{RacesWithNoneBefore, ReportsFirstRace};
+ghost use Rattle.dag_build.specs.RacingAccesses.{noted_all};
 ghost use Rattle.dag_build.specs.NodeColumns.{IsAccessOf};
 
 use crate::dag::Dag;
@@ -108,8 +108,8 @@ impl Dag {
     // The places of the first race among the accesses to one cell, the earlier access first.
     fn first_race(&self, accesses: &[NodeAccess]) -> Option<(usize, usize)>
         requires { All (IsAccessOf self.now) accesses.now }
-        ensures some { IfSome result (λ race. IsFirstRace self.now (noted_all accesses.now) race.0 race.1) }
-        ensures none { IfNone result (HasNoRace self.now (noted_all accesses.now)) }
+        ensures some { IfSome result (λ race. IsFirstRacingPair self.now (noted_all accesses.now) race.0 race.1) }
+        ensures none { IfNone result (CellHasNoRace self.now (noted_all accesses.now)) }
     {
         let first = accesses.first()?;
         let mut fronts = Fronts {
@@ -160,9 +160,9 @@ impl Dag {
     // The report of the first race among the accesses to this cell.
     fn cell_report(&self, cell: CellId, accesses: &[NodeAccess]) -> Option<Report>
         requires { All (IsAccessOf self.now) accesses.now }
-        ensures some { IfSome result (λ r. TellsFirstRace self.now (noted_all accesses.now) r) }
+        ensures some { IfSome result (λ r. ReportsFirstRace self.now (noted_all accesses.now) r) }
         ensures cell { IfSome result (λ r. r.cell ≡ cell) }
-        ensures none { IfNone result (HasNoRace self.now (noted_all accesses.now)) }
+        ensures none { IfNone result (CellHasNoRace self.now (noted_all accesses.now)) }
     {
         let (earlier, later) = self.first_race(accesses)?;
         Some(self.report(cell, &accesses[earlier], &accesses[later]))

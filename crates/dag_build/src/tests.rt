@@ -2,7 +2,7 @@
 
 ghost use Rattle.std.specs.Prelude.{◌<◌, ◌<ℤ◌, ℕ, All, length};
 ghost use Rattle.std.specs.Bool.{OnTrue};
-ghost use Rattle.pipe_model.specs.Columns.{node_at, IsNodeOf, IsRising};
+ghost use Rattle.pipe_model.specs.Races.Columns.{node_at, IsNodeOf, IsRising};
 ghost use Rattle.dag_build.specs.NodeColumns.{node_columns, AreRising, IsAccessOf};
 
 use crate::dag::Dag;

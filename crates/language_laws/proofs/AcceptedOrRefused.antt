@@ -1,13 +1,13 @@
 -- Each source is accepted or refused.
 use Rattle.std.proofs.Common.{◌≡◌, refl, ℕ, List, ◌⊎◌, inl, inr, Option, Some, None}
 use Rattle.pipe_model.specs.declared.token.Token.{Token}
-use Rattle.pipe_model.specs.CheckingRules.{Fault, OutOfLimit, Broken, fault_of}
-use Rattle.pipe_model.specs.SourceRefusals.{IsAccepted, fault_place, Refusal, Lexical, Syntactic, LimitOut, RuleBroken, IsRefused, ForItsText, ForAToken, ForALimit, ForARule}
-use Rattle.pipe_model.specs.SourceSpelling.{SourceSpells}
-use Rattle.pipe_model.specs.SyntaxTree.{SyntaxTree}
-use Rattle.pipe_model.specs.Tokens.{IsLexed, symbols_in}
+use Rattle.pipe_model.specs.Language.CheckingRules.{Fault, OutOfLimit, Broken, fault_of}
+use Rattle.pipe_model.specs.Language.SourceRefusals.{IsAccepted, fault_place, Refusal, Lexical, Syntactic, LimitOut, RuleBroken, IsRefused, ForItsText, ForAToken, ForALimit, ForARule}
+use Rattle.pipe_model.specs.Language.SourceSpelling.{SourceSpells}
+use Rattle.pipe_model.specs.Language.SyntaxTree.{SyntaxTree}
+use Rattle.pipe_model.specs.Language.Tokens.{IsLexed, symbols_in}
 use Rattle.pipe_lexer.proofs.EachSource.{lexed_or_fault}
-use Rattle.pipe_parser.specs.Law.{IsProgramOrFault}
+use Rattle.pipe_parser.specs.ParsingLaw.{IsProgramOrFault}
 use Rattle.pipe_parser.proofs.EachProgram.{program_or_fault}
 use Rattle.language_laws.proofs.MarkPlaces.{place_of_broken}
 

@@ -7,11 +7,11 @@ use Rattle.pipe_model.specs.declared.node.Kind.{Kind}
 use Rattle.pipe_model.specs.declared.node.Kind.TheVariants.{Zero}
 use Rattle.pipe_model.specs.declared.column.ColumnEnd.{ColumnEnd}
 use Rattle.pipe_model.specs.declared.column.ColumnEnd.TheVariants as ends
-use Rattle.pipe_model.specs.Evaluation.{CellRange, Setting, StagePosition, Environment, evaluate, execute, execute_all, assign, emit, go_to_stage, go_to_next_stage, if_zero, leave_block, loop_turns, local_value}
-use Rattle.pipe_model.specs.Interaction.{Interaction, Return, Raise, Step, Get, Set, Stage, bind, with_budget}
-use Rattle.pipe_model.specs.Pipeline.{HasLegalStages}
-use Rattle.pipe_model.specs.SyntaxTree as syntax
-use Rattle.pipe_model.specs.SyntaxTree.{Expression, Statement, Let, Assign, AssignElement, Emit, If, While, NextStage, Statements, Empty, Then}
+use Rattle.pipe_model.specs.Language.Evaluation.{CellRange, Setting, StagePosition, Environment, evaluate, execute, execute_all, assign, emit, go_to_stage, go_to_next_stage, if_zero, leave_block, loop_turns, local_value}
+use Rattle.pipe_model.specs.Language.Interaction.{Interaction, Return, Raise, Step, Get, Set, Stage, bind, with_budget}
+use Rattle.pipe_model.specs.Pipelines.Pipeline.{HasLegalStages}
+use Rattle.pipe_model.specs.Language.SyntaxTree as syntax
+use Rattle.pipe_model.specs.Language.SyntaxTree.{Expression, Statement, Let, Assign, AssignElement, Emit, If, While, NextStage, Statements, Empty, Then}
 use Rattle.language_laws.proofs.NamedKinds.{NamesKinds, AllNameKinds}
 use Rattle.language_laws.proofs.Straight.{IsStraight, Returns, Raises, Steps, Gets, Sets, Anything, straight-evaluate, straight-element_of, straight-fitting}
 use Rattle.language_laws.proofs.Straight.{either as straight_either}

@@ -1,36 +1,36 @@
 -- The mark at which a program breaks a rule has its place in the source that spells the program.
 use Rattle.std.proofs.Common.{◌≡◌, refl, ℕ, zero, suc, ◌+◌, ◌<◌, ℤ, pos, Bool, true, false, List, [], ◌∷◌, length, slice_get, Option, Some, None, if◌then◌else◌, arith}
 use Rattle.pipe_model.specs.declared.token.Token.{Token}
-use Rattle.pipe_model.specs.CheckingRules.{Fault, Broken, Rule, broken_at, fault_of, fault_or, first_fault, limit_fault_or, limit_out}
-use Rattle.pipe_model.specs.MarkPlaces.{is_mark, mark_places}
-use Rattle.pipe_model.specs.Marks.{Mark, marks_of}
-use Rattle.pipe_model.specs.SourceSpelling.{SourceSpells}
-use Rattle.pipe_model.specs.SyntaxTree.{SyntaxTree}
+use Rattle.pipe_model.specs.Language.CheckingRules.{Fault, Broken, CheckingRule, broken_at, fault_of, fault_or, first_fault, limit_fault_or, first_limit_out}
+use Rattle.pipe_model.specs.Language.MarkPlaces.{is_mark, mark_places}
+use Rattle.pipe_model.specs.Language.Marks.{Mark, marks_of}
+use Rattle.pipe_model.specs.Language.SourceSpelling.{SourceSpells}
+use Rattle.pipe_model.specs.Language.SyntaxTree.{SyntaxTree}
 use Rattle.language_laws.proofs.MarkedTokens.{marks_have_places}
 
 -- ---- the mark of a broken rule is one of the marks
 
 -- a rule that is broken at the first mark or behind it is broken at one of so many
-broken_here : (o : Option Rule) (rest : Option Fault) (n many mark : ℕ) (rule : Rule) → (rest ≡ Some (Broken rule mark) → mark < n + 1 + many)
+broken_here : (o : Option CheckingRule) (rest : Option Fault) (n many mark : ℕ) (rule : CheckingRule) → (rest ≡ Some (Broken rule mark) → mark < n + 1 + many)
     → fault_or o n rest ≡ Some (Broken rule mark) → mark < n + (1 + many)
 broken_here (Some r) rest n many mark rule behind h = let same : n ≡ mark = cc (h) in omega (arith, same)
 broken_here None rest n many mark rule behind h = let within = behind h in omega (arith, within)
 
 -- a rule that is broken at a mark is broken at one of these
-broken_among : (n mark : ℕ) (marks : List Mark) (rule : Rule) → first_fault n marks ≡ Some (Broken rule mark) → mark < n + length marks
+broken_among : (n mark : ℕ) (marks : List Mark) (rule : CheckingRule) → first_fault n marks ≡ Some (Broken rule mark) → mark < n + length marks
 broken_among n mark [] rule h = cc (h)
 broken_among n mark (m ∷ marks) rule h =
     let within = broken_here (broken_at m) (first_fault (n + 1) marks) n (length marks) mark rule (broken_among (n + 1) mark marks rule) h in omega (arith, within)
 
 -- where a rule is broken, no limit is out of its range
-behind_limits : (o : Option ℕ) (rest : Option Fault) (rule : Rule) (mark : ℕ) → limit_fault_or o rest ≡ Some (Broken rule mark) → rest ≡ Some (Broken rule mark)
+behind_limits : (o : Option ℕ) (rest : Option Fault) (rule : CheckingRule) (mark : ℕ) → limit_fault_or o rest ≡ Some (Broken rule mark) → rest ≡ Some (Broken rule mark)
 behind_limits None rest rule mark h = h
 behind_limits (Some which) rest rule mark h = cc (h)
 
 -- the mark at which a program breaks a rule is one of its marks
-broken_within : (tree : SyntaxTree) (rule : Rule) (mark : ℕ) → fault_of tree ≡ Some (Broken rule mark) → mark < length (marks_of tree)
+broken_within : (tree : SyntaxTree) (rule : CheckingRule) (mark : ℕ) → fault_of tree ≡ Some (Broken rule mark) → mark < length (marks_of tree)
 broken_within tree rule mark h =
-    let within = broken_among 0 mark (marks_of tree) rule (behind_limits (limit_out tree.limits) (first_fault 0 (marks_of tree)) rule mark h) in
+    let within = broken_among 0 mark (marks_of tree) rule (behind_limits (first_limit_out tree.limits) (first_fault 0 (marks_of tree)) rule mark h) in
     omega (arith, within)
 
 -- ---- each of the places is a number of bytes
@@ -52,7 +52,7 @@ place_of_mark [] mark h = absurd (omega (arith, h))
 place_of_mark (token ∷ tokens) mark h = one_more_place (is_mark token.kind) token.place (mark_places tokens) mark (place_of_mark tokens) h
 
 -- the mark at which the program breaks a rule has a place in the source
-pub place_of_broken : (source : List ℕ) (tree : SyntaxTree) (s : SourceSpells source tree) (rule : Rule) (mark : ℕ) → fault_of tree ≡ Some (Broken rule mark)
+pub place_of_broken : (source : List ℕ) (tree : SyntaxTree) (s : SourceSpells source tree) (rule : CheckingRule) (mark : ℕ) → fault_of tree ≡ Some (Broken rule mark)
     → (place : ℕ) × (slice_get (mark_places s.tokens) mark ≡ Some (pos place))
 place_of_broken source tree s rule mark h =
     let within = broken_within tree rule mark h in

@@ -6,11 +6,11 @@ use Rattle.pipe_model.specs.declared.symbol.Symbol.TheVariants as symbols
 use Rattle.pipe_model.specs.declared.token.Token.{Token}
 use Rattle.pipe_model.specs.declared.token.TokenKind.{TokenKind}
 use Rattle.pipe_model.specs.declared.token.TokenKind.TheVariants as kinds
-use Rattle.pipe_model.specs.MarkPlaces.{is_mark, mark_places}
-use Rattle.pipe_model.specs.Marks.{Occurrence, DeclaredCell, DeclaredLocal, Plain, Indexed, IterWord, StageWord, Mark, marks_of}
-use Rattle.pipe_model.specs.SourceSpelling.{SourceSpells}
-use Rattle.pipe_model.specs.SyntaxTree.{SyntaxTree}
-use Rattle.pipe_model.specs.Tokens.{text_in, symbol_as, symbols_in}
+use Rattle.pipe_model.specs.Language.MarkPlaces.{is_mark, mark_places}
+use Rattle.pipe_model.specs.Language.Marks.{Occurrence, DeclaredCell, DeclaredLocal, Plain, Indexed, IterWord, StageWord, Mark, marks_of}
+use Rattle.pipe_model.specs.Language.SourceSpelling.{SourceSpells}
+use Rattle.pipe_model.specs.Language.SyntaxTree.{SyntaxTree}
+use Rattle.pipe_model.specs.Language.Tokens.{text_in, symbol_as, symbols_in}
 use Rattle.language_laws.specs.MarkLaws.{OccursAs, HaveMarks, NoToken, OtherToken, MarkToken}
 use Rattle.language_laws.proofs.SpelledMarks.{MarkText, NameText, IterText, StageText, text_at, texts_of, marked_text, texts_in, program_texts}
 

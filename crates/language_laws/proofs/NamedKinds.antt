@@ -1,8 +1,8 @@
 -- The kinds of the stages that statements name.
 use Rattle.std.proofs.Common.{◌≢◌, ℕ, List}
 use Rattle.pipe_model.specs.declared.node.Kind.TheVariants.{Zero}
-use Rattle.pipe_model.specs.Grammar.{Piece, DerivesStatement, LetIs, AssignIs, AssignElementIs, EmitIs, IfIs, WhileIs, WaitIs, WaitNextIs, ContinueIs, ContinueNextIs, DerivesStatements, NoStatement, OneMore, DerivesBlock, BlockIs, DerivesPart, NoPart, PartIs}
-use Rattle.pipe_model.specs.SyntaxTree.{Statement, Let, Assign, AssignElement, Emit, If, While, Stage, NextStage, Statements, Empty, Then}
+use Rattle.pipe_model.specs.Language.Grammar.{Piece, DerivesStatement, LetIs, AssignIs, AssignElementIs, EmitIs, IfIs, WhileIs, WaitIs, WaitNextIs, ContinueIs, ContinueNextIs, DerivesStatements, NoStatement, OneMore, DerivesBlock, BlockIs, DerivesPart, NoPart, PartIs}
+use Rattle.pipe_model.specs.Language.SyntaxTree.{Statement, Let, Assign, AssignElement, Emit, If, While, Stage, NextStage, Statements, Empty, Then}
 
 abbrev mutual
   -- a statement that names a next stage names one by wait or continue

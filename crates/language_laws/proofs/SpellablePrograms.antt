@@ -1,13 +1,13 @@
 -- A program that a source spells is spellable.
 use Rattle.std.proofs.Common.{◌≡◌, ap, refl, ℕ, ◌≤◌, List, length, arith}
 use Rattle.std.proofs.lemmas.List.{length-map}
-use Rattle.pipe_model.specs.SourceSpelling.{SourceSpells}
-use Rattle.pipe_model.specs.SpellablePrograms.{IsSpellable}
-use Rattle.pipe_model.specs.SyntaxTree.{SyntaxTree}
-use Rattle.pipe_model.specs.Tokens.{symbol_in, symbols_in}
-use Rattle.pipe_model.specs.Grammar.{flat}
-use Rattle.pipe_model.proofs.WritablePrograms.{writable_program}
-use Rattle.pipe_model.proofs.Writings.{IsSourceOf}
+use Rattle.pipe_model.specs.Language.SourceSpelling.{SourceSpells}
+use Rattle.pipe_model.specs.Language.SpellablePrograms.{IsSpellable}
+use Rattle.pipe_model.specs.Language.SyntaxTree.{SyntaxTree}
+use Rattle.pipe_model.specs.Language.Tokens.{symbol_in, symbols_in}
+use Rattle.pipe_model.specs.Language.Grammar.{flat}
+use Rattle.grammar_laws.proofs.WritablePrograms.{writable_program}
+use Rattle.grammar_laws.proofs.Writings.{IsWritingOf}
 use Rattle.language_laws.proofs.SpelledMarks.{marks_within}
 use Rattle.language_laws.proofs.SpelledSizes.{measured_program}
 use Rattle.language_laws.proofs.TokenCounts.{tokens_within}
@@ -16,7 +16,7 @@ use Rattle.language_laws.proofs.WritableOperators.{program_known, not_negative, 
 -- its size is bounded as the length of the source is
 pub spelled_is_spellable : (source : List ℕ) (tree : SyntaxTree) → SourceSpells source tree → IsSpellable tree
 spelled_is_spellable source tree s =
-    let of : IsSourceOf source (symbols_in source s.tokens) = record { tokens = s.tokens; lexed = s.lexed; same = refl } in
+    let of : IsWritingOf source (symbols_in source s.tokens) = record { tokens = s.tokens; lexed = s.lexed; same = refl } in
     let pieces = s.spelled.pieces in
     let written = writable_program source (symbols_in source s.tokens) pieces tree of s.spelled.split s.spelled.derived in
     let measured = measured_program s.spelled.derived in

@@ -5,12 +5,12 @@ use Rattle.pipe_model.specs.declared.symbol.Symbol.{Symbol}
 use Rattle.pipe_model.specs.declared.symbol.Symbol.TheVariants as symbols
 use Rattle.pipe_model.specs.declared.region.Region.TheVariants as regions
 use Rattle.pipe_model.specs.declared.tree.Declaration.{Declaration}
-use Rattle.pipe_model.specs.Marks as marks
-use Rattle.pipe_model.specs.Marks.{Scope, Occurrence, Mark, opening, after_statement, after_block, marks_of_expression, marks_of_statement, marks_of_statements, marks_of_cells, marks_of}
-use Rattle.pipe_model.specs.SyntaxTree.{Expression, And, Or, Binary, joined_by, Statement, Statements, SyntaxTree}
-use Rattle.pipe_model.specs.Grammar.{Derives, Numeral, Named, Indexed, CallsMore, CallsTake, CallsIter, Negative, Not, Bracketed, Tighter, Joined, Piece, Single, flat, DerivesStatement, LetIs, AssignIs, AssignElementIs, EmitIs, IfIs, WhileIs, WaitIs, WaitNextIs, ContinueIs, ContinueNextIs, DerivesStatements, NoStatement, OneMore, DerivesBlock, BlockIs, DerivesPart, NoPart, PartIs, DerivesSize, NoSize, SizeIs, DerivesValue, ValueIs, NegativeValueIs, declaration, DerivesCells, NoCell, CellIs, DerivesProgram, ProgramIs}
-use Rattle.pipe_model.specs.Words.{semicolon, equals, close_round, close_square, close_brace}
-use Rattle.pipe_model.proofs.Pieces.{flat_append}
+use Rattle.pipe_model.specs.Language.Marks as marks
+use Rattle.pipe_model.specs.Language.Marks.{Scope, Occurrence, Mark, opening, after_statement, after_block, marks_of_expression, marks_of_statement, marks_of_statements, marks_of_cells, marks_of}
+use Rattle.pipe_model.specs.Language.SyntaxTree.{Expression, And, Or, Binary, binary_expression, Statement, Statements, SyntaxTree}
+use Rattle.pipe_model.specs.Language.Grammar.{Derives, Numeral, Named, Indexed, CallsMore, CallsTake, CallsIter, Negative, Not, Bracketed, Tighter, Joined, Piece, Single, flat, DerivesStatement, LetIs, AssignIs, AssignElementIs, EmitIs, IfIs, WhileIs, WaitIs, WaitNextIs, ContinueIs, ContinueNextIs, DerivesStatements, NoStatement, OneMore, DerivesBlock, BlockIs, DerivesPart, NoPart, PartIs, DerivesSize, NoSize, SizeIs, DerivesValue, ValueIs, NegativeValueIs, declaration, DerivesCells, NoCell, CellIs, DerivesProgram, ProgramIs}
+use Rattle.pipe_model.specs.Language.Words.{semicolon, equals, close_round, close_square, close_brace}
+use Rattle.grammar_laws.proofs.Pieces.{flat_append}
 
 -- ---- what the text has at a mark
 
@@ -74,7 +74,7 @@ of_pieces ms ns ps qs h i = of_both ms ns (flat ps) (flat qs) h i ∙ ap texts_i
 -- ---- expressions
 
 joined_texts : (code : ℕ) (scope : Scope) (a b : Expression)
-    → texts_of (marks_of_expression scope (joined_by code a b)) ≡ texts_of (marks_of_expression scope a ++ marks_of_expression scope b)
+    → texts_of (marks_of_expression scope (binary_expression code a b)) ≡ texts_of (marks_of_expression scope a ++ marks_of_expression scope b)
 joined_texts code scope a b = by_code (code == 1) (code == 2)
   where
     by_code : (p q : Bool) → texts_of (marks_of_expression scope (if p then Or a b else (if q then And a b else Binary code a b)))

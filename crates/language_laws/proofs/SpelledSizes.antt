@@ -5,16 +5,16 @@ use Rattle.std.proofs.lemmas.List.Elements.{All-nil, All-cons, All-append}
 use Rattle.std.proofs.lemmas.List.Sums.{sum_by-append, sum_by-cons}
 use Rattle.pipe_model.specs.declared.symbol.Symbol.{Symbol}
 use Rattle.pipe_model.specs.declared.symbol.Symbol.TheVariants as symbols
-use Rattle.pipe_model.specs.SpellablePrograms.{node_count, expressions_of_statement, expressions_of_statements, statement_count, statement_counts, expressions_of}
-use Rattle.pipe_model.specs.SyntaxTree.{Expression, And, Or, Binary, joined_by, Statement, Statements, SyntaxTree}
-use Rattle.pipe_model.specs.Grammar.{Derives, Numeral, Named, Indexed, CallsMore, CallsTake, CallsIter, Negative, Not, Bracketed, Tighter, Joined, Piece, Single, FullExpression, flat, DerivesStatement, LetIs, AssignIs, AssignElementIs, EmitIs, IfIs, WhileIs, WaitIs, WaitNextIs, ContinueIs, ContinueNextIs, DerivesStatements, NoStatement, OneMore, DerivesBlock, BlockIs, DerivesPart, NoPart, PartIs, DerivesProgram, ProgramIs, limits_before}
-use Rattle.pipe_model.specs.Spelling.{AreShort}
-use Rattle.pipe_model.specs.Words.{close_round, close_square}
-use Rattle.pipe_model.proofs.Pieces.{flat_append, short_front, short_back}
+use Rattle.pipe_model.specs.Language.SpellablePrograms.{node_count, expressions_of_statement, expressions_of_statements, statement_count, statement_counts, expressions_of}
+use Rattle.pipe_model.specs.Language.SyntaxTree.{Expression, And, Or, Binary, binary_expression, Statement, Statements, SyntaxTree}
+use Rattle.pipe_model.specs.Language.Grammar.{Derives, Numeral, Named, Indexed, CallsMore, CallsTake, CallsIter, Negative, Not, Bracketed, Tighter, Joined, Piece, Single, FullExpression, flat, DerivesStatement, LetIs, AssignIs, AssignElementIs, EmitIs, IfIs, WhileIs, WaitIs, WaitNextIs, ContinueIs, ContinueNextIs, DerivesStatements, NoStatement, OneMore, DerivesBlock, BlockIs, DerivesPart, NoPart, PartIs, DerivesProgram, ProgramIs, limits_before}
+use Rattle.pipe_model.specs.Language.Spelling.{AreShort}
+use Rattle.pipe_model.specs.Language.Words.{close_round, close_square}
+use Rattle.grammar_laws.proofs.Pieces.{flat_append, short_front, short_back}
 
 -- ---- expressions
 
-joined_nodes : (code : ℕ) (a b : Expression) → node_count (joined_by code a b) ≡ 1 + (node_count a + node_count b)
+joined_nodes : (code : ℕ) (a b : Expression) → node_count (binary_expression code a b) ≡ 1 + (node_count a + node_count b)
 joined_nodes code a b = by_code (code == 1) (code == 2)
   where
     by_code : (p q : Bool) → node_count (if p then Or a b else (if q then And a b else Binary code a b)) ≡ 1 + (node_count a + node_count b)

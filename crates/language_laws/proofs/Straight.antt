@@ -3,9 +3,9 @@ use Rattle.std.proofs.Common.{◌==◌, ℕ, zero, suc, ℤ, pos, negsuc, Bool, 
 use Rattle.std.specs.Prelude.{int_div, int_rem}
 use Rattle.std.proofs.Math.IntN.{◌+ℤ◌, ◌-ℤ◌, ◌*ℤ◌, neg_ℤ}
 use Rattle.pipe_model.specs.declared.trap.Trap.{Trap}
-use Rattle.pipe_model.specs.Evaluation.{Local, CellRange, Setting, evaluate, operate, operate_one, fitting, divided, if_zero, named_value, element_of, element_in, take_at, local_value, is_i64}
-use Rattle.pipe_model.specs.Interaction.{Interaction, Return, Raise, Step, Get, Set, bind}
-use Rattle.pipe_model.specs.SyntaxTree.{Expression, Number, Name, Element, And, Or, Binary, Unary, More, Take, Iter}
+use Rattle.pipe_model.specs.Language.Evaluation.{Local, CellRange, Setting, evaluate, operate, operate_one, fitting, divided, if_zero, named_value, element_of, element_in, take_at, local_value, is_i64}
+use Rattle.pipe_model.specs.Language.Interaction.{Interaction, Return, Raise, Step, Get, Set, bind}
+use Rattle.pipe_model.specs.Language.SyntaxTree.{Expression, Number, Name, Element, And, Or, Binary, Unary, More, Take, Iter}
 
 -- the tree names no next stage, and what it returns has the property
 pub data IsStraight {A : Type 0} (P : A → Type 0) : Interaction A → Type 0 where

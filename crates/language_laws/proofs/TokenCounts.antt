@@ -1,7 +1,7 @@
 -- A source has no more tokens than bytes.
 use Rattle.std.proofs.Common.{◌≡◌, ℕ, ◌+◌, ◌<◌, ◌≤◌, List, [], ◌∷◌, length, length-append, Some, None, arith}
-use Rattle.pipe_model.specs.Lexis.{symbol_of}
-use Rattle.pipe_model.specs.Tokens.{Scans, Stops, Blank, Comment, Taken, HasTokens}
+use Rattle.pipe_model.specs.Language.Lexis.{symbol_of}
+use Rattle.pipe_model.specs.Language.Tokens.{Scans, Stops, Blank, Comment, Taken, HasTokens}
 use Rattle.pipe_model.specs.declared.symbol.Symbol.{Symbol}
 use Rattle.pipe_model.specs.declared.token.Token.{Token}
 

@@ -4,15 +4,15 @@ use Rattle.std.specs.Ordering.{int_eq}
 use Rattle.std.proofs.lemmas.Bool.Decides.{Decides-int_eq}
 use Rattle.pipe_model.specs.declared.column.ColumnEnd.{ColumnEnd}
 use Rattle.pipe_model.specs.declared.trap.Trap.TheVariants as traps
-use Rattle.pipe_model.specs.Behaviour.{is_closing}
-use Rattle.pipe_model.specs.Evaluation.{Setting, first_environment, run_iteration}
-use Rattle.pipe_model.specs.CheckingRules.{Fault, fault_of, is_between, limit_fault_or, limit_out}
-use Rattle.pipe_model.specs.Grammar.{Piece, DerivesProgram, ProgramIs}
-use Rattle.pipe_model.specs.Interaction.{Interaction, with_budget}
-use Rattle.pipe_model.specs.Pipeline.{AlwaysClosesLoop, IsWellFormed}
-use Rattle.pipe_model.specs.Programs.{natural, pipeline_of, setting_of}
-use Rattle.pipe_model.specs.SourceRefusals.{IsAccepted}
-use Rattle.pipe_model.specs.SyntaxTree.{Expression, Statements, SyntaxTree}
+use Rattle.pipe_model.specs.Pipelines.Behaviour.{closes_at_once}
+use Rattle.pipe_model.specs.Language.Evaluation.{Setting, first_environment, run_iteration}
+use Rattle.pipe_model.specs.Language.CheckingRules.{Fault, fault_of, is_between, limit_fault_or, first_limit_out}
+use Rattle.pipe_model.specs.Language.Grammar.{Piece, DerivesProgram, ProgramIs}
+use Rattle.pipe_model.specs.Language.Interaction.{Interaction, with_budget}
+use Rattle.pipe_model.specs.Pipelines.Pipeline.{AlwaysClosesLoop, IsWellFormed}
+use Rattle.pipe_model.specs.Language.Programs.{natural, pipeline_of, setting_of}
+use Rattle.pipe_model.specs.Language.SourceRefusals.{IsAccepted}
+use Rattle.pipe_model.specs.Language.SyntaxTree.{Expression, Statements, SyntaxTree}
 use Rattle.language_laws.proofs.LegalStages.{Rises, RisesReturn, RisesRaise, RisesStep, EndsRightly, either_by_zero, legal-with_budget, rises-bind, rises-execute_all, straight-then}
 use Rattle.language_laws.proofs.NamedKinds.{AllNameKinds, block_names_kinds}
 use Rattle.language_laws.proofs.Straight.{IsStraight, Returns, Raises, Steps, Gets, Sets, straight-bind, straight-evaluate}
@@ -32,7 +32,7 @@ rises-run_iteration w test body named =
 
 -- an end that closes the loop
 abbrev IsClosing : ColumnEnd → Type 0
-IsClosing e = is_closing e ≡ true
+IsClosing e = closes_at_once e ≡ true
 
 -- a tree that names no stage and returns closing ends closes the loop
 closes-with_budget : {d : Interaction ColumnEnd} (budget left : ℕ) → IsStraight IsClosing d → AlwaysClosesLoop (with_budget budget left d)
@@ -67,7 +67,7 @@ no_limit_out (Some which) rest h = cc (h)
 
 -- the iterations of a program without a fault are in their range
 iterations_in_range : (tree : SyntaxTree) → fault_of tree ≡ None → is_between (pos 1) (pos 65536) tree.limits.iterations ≡ true
-iterations_in_range tree h = first_in_range (is_between (pos 1) (pos 65536) tree.limits.iterations) _ (no_limit_out (limit_out tree.limits) _ h)
+iterations_in_range tree h = first_in_range (is_between (pos 1) (pos 65536) tree.limits.iterations) _ (no_limit_out (first_limit_out tree.limits) _ h)
 
 -- the body of a derived program
 body_is_derived : {ps : List Piece} {tree : SyntaxTree} → DerivesProgram ps tree → AllNameKinds tree.body

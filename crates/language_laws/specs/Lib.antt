@@ -1,7 +1,5 @@
-pub mod Examples
-pub mod SpellingLaws
-pub mod TokenLaws
 pub mod ProgramLaws
 pub mod SpellableLaws
 pub mod MarkLaws
 pub mod RefusalLaws
+pub mod LanguageExamples

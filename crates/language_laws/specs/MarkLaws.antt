@@ -3,12 +3,12 @@ use Rattle.std.specs.Prelude.{◌≡◌, ℕ, ℤ, pos, true, false, List, [], �
 use Rattle.pipe_model.specs.declared.symbol.Symbol.{Symbol}
 use Rattle.pipe_model.specs.declared.symbol.Symbol.TheVariants as symbols
 use Rattle.pipe_model.specs.declared.token.Token.{Token}
-use Rattle.pipe_model.specs.MarkPlaces.{is_mark, mark_places}
-use Rattle.pipe_model.specs.Marks.{Occurrence, DeclaredCell, DeclaredLocal, Plain, Indexed, IterWord, StageWord, Mark, marks_of}
-use Rattle.pipe_model.specs.SourceSpelling.{SourceSpells}
-use Rattle.pipe_model.specs.SyntaxTree.{SyntaxTree}
-use Rattle.pipe_model.specs.Tokens.{symbol_in}
-use Rattle.pipe_model.specs.Words.{word_pipe_wait, word_pipe_continue, word_iter}
+use Rattle.pipe_model.specs.Language.MarkPlaces.{is_mark, mark_places}
+use Rattle.pipe_model.specs.Language.Marks.{Occurrence, DeclaredCell, DeclaredLocal, Plain, Indexed, IterWord, StageWord, Mark, marks_of}
+use Rattle.pipe_model.specs.Language.SourceSpelling.{SourceSpells}
+use Rattle.pipe_model.specs.Language.SyntaxTree.{SyntaxTree}
+use Rattle.pipe_model.specs.Language.Tokens.{symbol_in}
+use Rattle.pipe_model.specs.Language.Words.{word_pipe_wait, word_pipe_continue, word_iter}
 
 -- what occurs is this symbol of the text
 abbrev pub OccursAs : Occurrence → Symbol → Type 0

@@ -1,7 +1,7 @@
 -- The laws of refusals: each source is accepted as one program or refused for one thing, and never both.
 use Rattle.std.specs.Prelude.{◌≡◌, ℕ, List, ◌⊎◌}
-use Rattle.pipe_model.specs.SourceRefusals.{IsAccepted, Refusal, IsRefused}
-use Rattle.pipe_model.specs.SyntaxTree.{SyntaxTree}
+use Rattle.pipe_model.specs.Language.SourceRefusals.{IsAccepted, Refusal, IsRefused}
+use Rattle.pipe_model.specs.Language.SyntaxTree.{SyntaxTree}
 
 -- a source is refused for one thing at most
 abbrev pub SourcesHaveOneRefusal : Type 0

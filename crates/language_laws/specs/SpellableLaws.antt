@@ -1,8 +1,8 @@
 -- What the check of a program may take for granted holds of every program that a source spells.
 use Rattle.std.specs.Prelude.{ℕ, List}
-use Rattle.pipe_model.specs.SourceSpelling.{SourceSpells}
-use Rattle.pipe_model.specs.SpellablePrograms.{IsSpellable}
-use Rattle.pipe_model.specs.SyntaxTree.{SyntaxTree}
+use Rattle.pipe_model.specs.Language.SourceSpelling.{SourceSpells}
+use Rattle.pipe_model.specs.Language.SpellablePrograms.{IsSpellable}
+use Rattle.pipe_model.specs.Language.SyntaxTree.{SyntaxTree}
 
 -- a program that a source spells is spellable
 abbrev pub SpelledProgramsAreSpellable : Type 0

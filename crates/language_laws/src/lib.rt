@@ -7,5 +7,3 @@ pub mod marks;
 pub mod programs;
 pub mod refusals;
 pub mod spellable;
-pub mod spelling;
-pub mod tokens;

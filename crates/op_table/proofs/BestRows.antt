@@ -2,7 +2,7 @@
 use Rattle.std.proofs.Common.{ℕ, ◌<◌, ◌≤◌, List, [], ◌∷◌, ◌++◌, length, refl, arith, Option, Some, None, IfSome, IfNone, Contains}
 use Rattle.std.proofs.lemmas.List.Elements.{All-push, All-weaker, Contains-append_left, Contains-append_right}
 use Rattle.op_table.specs.declared.table.OpRow.{OpRow}
-use Rattle.op_table.specs.Tables.{text_of, IsFront, IsLongest, HasNoSymbol, IsBest, Outdoes}
+use Rattle.op_table.specs.Tables.{text_of, StartsWith, IsLongestMatch, HasNoSymbol, IsBest, Outdoes}
 
 -- the last row stands in the table
 pub last_stands : (rows : List OpRow) (row : OpRow) → Contains (rows ++ row ∷ []) row
@@ -10,15 +10,15 @@ last_stands rows row = Contains-append_right rows (row ∷ []) row (0, omega ari
 
 -- the row's symbol is no longer front of the bytes than that of another
 abbrev NoLonger : List ℕ → OpRow → OpRow → Type 0
-NoLonger bytes row other = IsFront (text_of other) bytes → length (text_of other) ≤ length (text_of row)
+NoLonger bytes row other = StartsWith (text_of other) bytes → length (text_of other) ≤ length (text_of row)
 
 -- a row whose symbol is a longer front than the best so far is the best
-pub takes : (rows : List OpRow) (bytes : List ℕ) (best : Option OpRow) (row : OpRow) → IsBest rows bytes best → IsFront (text_of row) bytes → Outdoes row best
+pub takes : (rows : List OpRow) (bytes : List ℕ) (best : Option OpRow) (row : OpRow) → IsBest rows bytes best → StartsWith (text_of row) bytes → Outdoes row best
     → IsBest (rows ++ row ∷ []) bytes (Some row)
 takes rows bytes None row b f o = record {
   among = last_stands rows row;
   front = f;
-  longest = All-push (NoLonger bytes row) rows row (All-weaker (λ other. IsFront (text_of other) bytes → ⊥) (NoLonger bytes row) (λ other none front. absurd (none front)) rows b)
+  longest = All-push (NoLonger bytes row) rows row (All-weaker (λ other. StartsWith (text_of other) bytes → ⊥) (NoLonger bytes row) (λ other none front. absurd (none front)) rows b)
       (λ front. omega arith);
 }
 takes rows bytes (Some best) row b f o = record {
@@ -29,9 +29,9 @@ takes rows bytes (Some best) row b f o = record {
 }
 
 -- otherwise the best stays
-pub keeps : (rows : List OpRow) (bytes : List ℕ) (best : Option OpRow) (row : OpRow) → IsBest rows bytes best → (IsFront (text_of row) bytes → Outdoes row best → ⊥)
+pub keeps : (rows : List OpRow) (bytes : List ℕ) (best : Option OpRow) (row : OpRow) → IsBest rows bytes best → (StartsWith (text_of row) bytes → Outdoes row best → ⊥)
     → IsBest (rows ++ row ∷ []) bytes best
-keeps rows bytes None row b n = All-push (λ other. IsFront (text_of other) bytes → ⊥) rows row b (λ front. n front tt)
+keeps rows bytes None row b n = All-push (λ other. StartsWith (text_of other) bytes → ⊥) rows row b (λ front. n front tt)
 keeps rows bytes (Some best) row b n = record {
   among = Contains-append_left rows (row ∷ []) best b.among;
   front = b.front;
@@ -42,7 +42,7 @@ keeps rows bytes (Some best) row b n = record {
     not_less x y h = omega (arith, h)
 
 -- the best of all rows
-pub best_is_longest : (rows : List OpRow) (bytes : List ℕ) (best : Option OpRow) → IsBest rows bytes best → IfSome best (λ row. IsLongest rows bytes row)
+pub best_is_longest : (rows : List OpRow) (bytes : List ℕ) (best : Option OpRow) → IsBest rows bytes best → IfSome best (λ row. IsLongestMatch rows bytes row)
 best_is_longest rows bytes None b = tt
 best_is_longest rows bytes (Some row) b = b
 

@@ -5,7 +5,7 @@ use Rattle.std.proofs.lemmas.List.{get_or-map}
 use Rattle.std.proofs.lemmas.List.Quantifiers.{position-Some}
 use Rattle.std.proofs.lemmas.Slice.Eq.{bytes_eq-Decides}
 use Rattle.pipe_model.specs.declared.symbol.Symbol.TheVariants as symbols
-use Rattle.pipe_model.specs.Lexis.{operators, punctuation_symbol}
+use Rattle.pipe_model.specs.Language.Lexis.{operators, punctuation_symbol}
 use Rattle.op_table.specs.declared.table.OpRow.{OpRow}
 use Rattle.op_table.specs.declared.operators.TheConstants.{OPS}
 use Rattle.op_table.specs.Tables.{text_of}

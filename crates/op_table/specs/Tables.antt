@@ -7,24 +7,24 @@ abbrev pub text_of : OpRow → List ℕ
 text_of row = take row.length row.symbol
 
 -- the bytes begin with the text
-abbrev pub IsFront : List ℕ → List ℕ → Type 0
-IsFront text bytes = (rest : List ℕ) × (bytes ≡ text ++ rest)
+abbrev pub StartsWith : List ℕ → List ℕ → Type 0
+StartsWith text bytes = (rest : List ℕ) × (bytes ≡ text ++ rest)
 
 -- the row stands in the table, the bytes begin with its symbol, and with no longer one of the table
-pub record IsLongest (rows : List OpRow) (bytes : List ℕ) (row : OpRow) : Type 0 where
+pub record IsLongestMatch (rows : List OpRow) (bytes : List ℕ) (row : OpRow) : Type 0 where
   pub among : Contains rows row
-  pub front : IsFront (text_of row) bytes
-  pub longest : All (λ other. IsFront (text_of other) bytes → length (text_of other) ≤ length (text_of row)) rows
+  pub front : StartsWith (text_of row) bytes
+  pub longest : All (λ other. StartsWith (text_of other) bytes → length (text_of other) ≤ length (text_of row)) rows
 
 -- the code is that of the longest symbol with which the bytes begin
 pub record HasLongest (rows : List OpRow) (bytes : List ℕ) (code : ℕ) : Type 0 where
   pub row : OpRow
-  pub longest : IsLongest rows bytes row
+  pub longest : IsLongestMatch rows bytes row
   pub same : row.code ≡ code
 
 -- the bytes begin with no symbol of the table
 abbrev pub HasNoSymbol : List OpRow → List ℕ → Type 0
-HasNoSymbol rows bytes = All (λ row. IsFront (text_of row) bytes → ⊥) rows
+HasNoSymbol rows bytes = All (λ row. StartsWith (text_of row) bytes → ⊥) rows
 
 -- the row stands in the table and has the code
 pub record HasCode (rows : List OpRow) (code : ℕ) (row : OpRow) : Type 0 where
@@ -43,4 +43,4 @@ Outdoes row (Some other) = length (text_of other) < length (text_of row)
 -- the row has the longest symbol with which the bytes begin; there is none where they begin with no symbol
 abbrev pub IsBest : List OpRow → List ℕ → Option OpRow → Type 0
 IsBest rows bytes None = HasNoSymbol rows bytes
-IsBest rows bytes (Some row) = IsLongest rows bytes row
+IsBest rows bytes (Some row) = IsLongestMatch rows bytes row

@@ -1,8 +1,8 @@
 //! The rules of the table of operators. Each function has an empty body; its contract is the rule.
 
 ghost use Rattle.std.specs.Prelude.{◌≡◌, All, map};
-ghost use Rattle.pipe_model.specs.Grammar.{level_of};
-ghost use Rattle.pipe_model.specs.Lexis.{operators};
+ghost use Rattle.pipe_model.specs.Language.Grammar.{level_of};
+ghost use Rattle.pipe_model.specs.Language.Lexis.{operators};
 ghost use Rattle.op_table.specs.Tables.{text_of};
 ghost use Rattle.op_table.specs.Rules.{ObeysRules};
 

@@ -2,7 +2,7 @@
 
 ghost use Rattle.std.specs.Prelude.{◌≡◌, IfNone, IfSome};
 ghost use Rattle.std.specs.Bool.{Decides};
-ghost use Rattle.op_table.specs.Tables.{text_of, IsFront, HasLongest, HasNoSymbol, HasCode, HasNoCode, IsLongest, Outdoes};
+ghost use Rattle.op_table.specs.Tables.{text_of, StartsWith, HasLongest, HasNoSymbol, HasCode, HasNoCode, IsLongestMatch, Outdoes};
 
 /// An operator: the bytes of its symbol and how many of them count, 1 or 2; its level, where a higher level binds more
 /// tightly; and its code.
@@ -30,7 +30,7 @@ impl OpRow {
 
     // Whether the bytes begin with the symbol.
     fn begins(&self, bytes: &[u8]) -> bool
-        ensures { Decides result (IsFront (text_of self.now) bytes.now) }
+        ensures { Decides result (StartsWith (text_of self.now) bytes.now) }
     {
         bytes.starts_with(self.text())
     }
@@ -57,7 +57,7 @@ impl<const N: usize> OpTable<N> {
 
     // A row whose symbol is the longest prefix of the bytes.
     fn longest(&self, bytes: &[u8]) -> Option<OpRow>
-        ensures some { IfSome result (λ row. IsLongest self.now.rows bytes.now row) }
+        ensures some { IfSome result (λ row. IsLongestMatch self.now.rows bytes.now row) }
         ensures none { IfNone result (HasNoSymbol self.now.rows bytes.now) }
     {
         let mut best: Option<OpRow> = None;

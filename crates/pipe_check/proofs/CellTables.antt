@@ -7,12 +7,12 @@ use Rattle.std.specs.BTreeMap.{get, BTreeMap}
 use Rattle.std.specs.Cmp.Lexicographic.{slice_cmp}
 use Rattle.std.specs.Ordering.{is_eq, nat_cmp}
 use Rattle.std.specs.Str.{bytes_eq}
-use Rattle.pipe_check.specs.CellTables.{IsTable}
+use Rattle.pipe_check.specs.CellTables.{IsCellTable}
 use Rattle.pipe_model.specs.declared.region.Region.TheVariants as regions
 use Rattle.pipe_model.specs.declared.tree.Declaration.{Declaration}
-use Rattle.pipe_model.specs.CheckingRules.{size_in, is_cell, cell_total, broken_at, fault_or, first_fault}
-use Rattle.pipe_model.specs.Marks.{opening, at, DeclaredCell, marks_of_cells}
-use Rattle.pipe_model.specs.Programs.{declared_size}
+use Rattle.pipe_model.specs.Language.CheckingRules.{size_in, is_cell, cell_total, broken_at, fault_or, first_fault}
+use Rattle.pipe_model.specs.Language.Marks.{opening, mark_at, DeclaredCell, marks_of_cells}
+use Rattle.pipe_model.specs.Language.Programs.{declared_size}
 
 -- another name is found as before
 found_before : (ds : List Declaration) (d : Declaration) (x : List ℕ) → bytes_eq d.name x ≡ false → size_in (ds ++ d ∷ []) x ≡ size_in ds x
@@ -48,10 +48,10 @@ is_none (Some x) h = absurd (let e : true ≡ false = h in cc (e))
 
 -- the table has one cell more
 pub table_more : (sizes grown : BTreeMap (Bor (List ℕ)) (Option ℤ)) (total count : ℕ) (ds : List Declaration) (d : Declaration) (key : Bor (List ℕ))
-    → IsTable sizes total ds → key.now ≡ d.name → is_cell ds d.name ≡ false → count ≡ declared_size d.size → total + count ≤ 65536
+    → IsCellTable sizes total ds → key.now ≡ d.name → is_cell ds d.name ≡ false → count ≡ declared_size d.size → total + count ≤ 65536
     → ((x : Bor (List ℕ)) → get (λ a b. slice_cmp nat_cmp a.now b.now) grown x
     ≡ cond (is_eq (slice_cmp nat_cmp key.now x.now)) (Some d.size) (get (λ a b. slice_cmp nat_cmp a.now b.now) sizes x))
-    → IsTable grown (total + count) (ds ++ d ∷ [])
+    → IsCellTable grown (total + count) (ds ++ d ∷ [])
 table_more sizes grown total count ds d key table named new counted few updates = record {
   found = λ x. updates x ∙ ap (λ o. cond (is_eq (slice_cmp nat_cmp key.now x.now)) (Some d.size) o) (table.found x)
       ∙ ap (λ b. cond b (Some d.size) (size_in ds x.now)) (is_eq-slice_cmp key.now x.now ∙ ap (λ name. bytes_eq name x.now) named)
@@ -66,7 +66,7 @@ take_next cells i d h e = take_more cells i d h ∙ ap (λ x. take i cells ++ x 
 
 -- the declaration obeys the rules
 cell_obeys : (ds : List Declaration) (d : Declaration) → is_cell ds d.name ≡ false → nat_lt 65536 (cell_total ds + declared_size d.size) ≡ false
-    → (declared_size d.size == 0) ≡ false → broken_at (at (opening regions.Cells ds) (DeclaredCell d.name d.size)) ≡ None
+    → (declared_size d.size == 0) ≡ false → broken_at (mark_at (opening regions.Cells ds) (DeclaredCell d.name d.size)) ≡ None
 cell_obeys ds d new few some = rw (new, few, some) refl
 
 -- behind a declaration without a fault, the first fault is that of the others

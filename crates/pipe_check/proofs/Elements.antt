@@ -1,21 +1,21 @@
 -- The marks of an assignment to an element: its name, its index, and its value.
 use Rattle.std.proofs.Common.{ℕ, List, [], ◌∷◌, ◌++◌, Result, Ok, Err}
 use Rattle.pipe_check.specs.declared.fault.CheckFault.{CheckFault}
-use Rattle.pipe_check.specs.Passing.{Passes}
+use Rattle.pipe_check.specs.Passing.{PassesMarks}
 use Rattle.pipe_check.proofs.Faults.{fails_first, passes_then}
-use Rattle.pipe_model.specs.Marks.{Scope, at, Indexed, marks_of_expression, marks_of_statement}
-use Rattle.pipe_model.specs.SyntaxTree.{Expression, AssignElement}
+use Rattle.pipe_model.specs.Language.Marks.{Scope, mark_at, Indexed, marks_of_expression, marks_of_statement}
+use Rattle.pipe_model.specs.Language.SyntaxTree.{Expression, AssignElement}
 
 -- the index is refused
-pub index_refused : (scope : Scope) (n k : ℕ) (x : List ℕ) (i e : Expression) (refusal : CheckFault) → Passes (Ok k) n (at scope (Indexed x) ∷ [])
-    → Passes (Err refusal) k (marks_of_expression scope i) → Passes (Err refusal) n (marks_of_statement scope (AssignElement x i e))
+pub index_refused : (scope : Scope) (n k : ℕ) (x : List ℕ) (i e : Expression) (refusal : CheckFault) → PassesMarks (Ok k) n (mark_at scope (Indexed x) ∷ [])
+    → PassesMarks (Err refusal) k (marks_of_expression scope i) → PassesMarks (Err refusal) n (marks_of_statement scope (AssignElement x i e))
 index_refused scope n k x i e refusal p q =
-    passes_then (Err refusal) n k (at scope (Indexed x) ∷ []) (marks_of_expression scope i ++ marks_of_expression scope e) p
+    passes_then (Err refusal) n k (mark_at scope (Indexed x) ∷ []) (marks_of_expression scope i ++ marks_of_expression scope e) p
     (fails_first refusal k (marks_of_expression scope i) (marks_of_expression scope e) q)
 
 -- name and index pass, and the value decides
-pub value_decides : (scope : Scope) (n k j : ℕ) (x : List ℕ) (i e : Expression) (answer : Result ℕ CheckFault) → Passes (Ok k) n (at scope (Indexed x) ∷ [])
-    → Passes (Ok j) k (marks_of_expression scope i) → Passes answer j (marks_of_expression scope e) → Passes answer n (marks_of_statement scope (AssignElement x i e))
+pub value_decides : (scope : Scope) (n k j : ℕ) (x : List ℕ) (i e : Expression) (answer : Result ℕ CheckFault) → PassesMarks (Ok k) n (mark_at scope (Indexed x) ∷ [])
+    → PassesMarks (Ok j) k (marks_of_expression scope i) → PassesMarks answer j (marks_of_expression scope e) → PassesMarks answer n (marks_of_statement scope (AssignElement x i e))
 value_decides scope n k j x i e answer p q r =
-    passes_then answer n k (at scope (Indexed x) ∷ []) (marks_of_expression scope i ++ marks_of_expression scope e) p
+    passes_then answer n k (mark_at scope (Indexed x) ∷ []) (marks_of_expression scope i ++ marks_of_expression scope e) p
     (passes_then answer k j (marks_of_expression scope i) (marks_of_expression scope e) q r)

@@ -1,10 +1,10 @@
 -- The marks of an expression with a two-place operator are those of its left side, and then those of its right side.
 use Rattle.std.proofs.Common.{◌≡◌, ◌∙◌, ℕ, Bool, true, false, ◌++◌, ◌==◌, refl, sym, ap, subst, Result, Ok, Err, if◌then◌else◌}
 use Rattle.pipe_check.specs.declared.fault.CheckFault.{CheckFault}
-use Rattle.pipe_check.specs.Passing.{Passes}
+use Rattle.pipe_check.specs.Passing.{PassesMarks}
 use Rattle.pipe_check.proofs.Faults.{fails_first, passes_then}
-use Rattle.pipe_model.specs.Marks.{Scope, marks_of_expression}
-use Rattle.pipe_model.specs.SyntaxTree.{Expression, And, Or, Binary, joined_by}
+use Rattle.pipe_model.specs.Language.Marks.{Scope, marks_of_expression}
+use Rattle.pipe_model.specs.Language.SyntaxTree.{Expression, And, Or, Binary, binary_expression}
 
 -- whichever of the three it is
 marks_either : (scope : Scope) (code : ℕ) (a b : Expression) (first second : Bool)
@@ -13,17 +13,17 @@ marks_either scope code a b true second = refl
 marks_either scope code a b false true = refl
 marks_either scope code a b false false = refl
 
-pub marks_joined : (scope : Scope) (code : ℕ) (a b : Expression) → marks_of_expression scope (joined_by code a b) ≡ marks_of_expression scope a ++ marks_of_expression scope b
+pub marks_joined : (scope : Scope) (code : ℕ) (a b : Expression) → marks_of_expression scope (binary_expression code a b) ≡ marks_of_expression scope a ++ marks_of_expression scope b
 marks_joined scope code a b = marks_either scope code a b (code == 1) (code == 2)
 
 -- the left side is refused
-pub left_refused : (scope : Scope) (code n : ℕ) (a b whole : Expression) (refusal : CheckFault) → whole ≡ joined_by code a b
-    → Passes (Err refusal) n (marks_of_expression scope a) → Passes (Err refusal) n (marks_of_expression scope whole)
+pub left_refused : (scope : Scope) (code n : ℕ) (a b whole : Expression) (refusal : CheckFault) → whole ≡ binary_expression code a b
+    → PassesMarks (Err refusal) n (marks_of_expression scope a) → PassesMarks (Err refusal) n (marks_of_expression scope whole)
 left_refused scope code n a b whole refusal is h =
-    subst (λ marks. Passes (Err refusal) n marks) (sym (marks_joined scope code a b) ∙ ap (marks_of_expression scope) (sym is)) (fails_first refusal n (marks_of_expression scope a) (marks_of_expression scope b) h)
+    subst (λ marks. PassesMarks (Err refusal) n marks) (sym (marks_joined scope code a b) ∙ ap (marks_of_expression scope) (sym is)) (fails_first refusal n (marks_of_expression scope a) (marks_of_expression scope b) h)
 
 -- the left side passes, and the right side decides
-pub right_decides : (scope : Scope) (code n k : ℕ) (a b whole : Expression) (answer : Result ℕ CheckFault) → whole ≡ joined_by code a b
-    → Passes (Ok k) n (marks_of_expression scope a) → Passes answer k (marks_of_expression scope b) → Passes answer n (marks_of_expression scope whole)
+pub right_decides : (scope : Scope) (code n k : ℕ) (a b whole : Expression) (answer : Result ℕ CheckFault) → whole ≡ binary_expression code a b
+    → PassesMarks (Ok k) n (marks_of_expression scope a) → PassesMarks answer k (marks_of_expression scope b) → PassesMarks answer n (marks_of_expression scope whole)
 right_decides scope code n k a b whole answer is h g =
-    subst (λ marks. Passes answer n marks) (sym (marks_joined scope code a b) ∙ ap (marks_of_expression scope) (sym is)) (passes_then answer n k (marks_of_expression scope a) (marks_of_expression scope b) h g)
+    subst (λ marks. PassesMarks answer n marks) (sym (marks_joined scope code a b) ∙ ap (marks_of_expression scope) (sym is)) (passes_then answer n k (marks_of_expression scope a) (marks_of_expression scope b) h g)

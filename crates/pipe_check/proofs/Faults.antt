@@ -2,12 +2,12 @@
 use Rattle.std.proofs.Common.{◌≡◌, ◌∙◌, ℕ, List, [], ◌∷◌, ◌++◌, ◌+◌, length, refl, sym, ap, arith, Result, Ok, Err, Option, Some, None, length-append}
 use Rattle.pipe_check.specs.declared.fault.CheckFault.{CheckFault}
 use Rattle.pipe_check.specs.declared.fault.CheckFault.TheVariants as faults
-use Rattle.pipe_check.specs.Passing.{Tells, Passes, Fits}
-use Rattle.pipe_model.specs.CheckingRules.{Rule, Fault, broken_at, fault_or, first_fault}
-use Rattle.pipe_model.specs.Marks.{Mark}
+use Rattle.pipe_check.specs.Passing.{IsFirstFaultOf, PassesMarks, Fits}
+use Rattle.pipe_model.specs.Language.CheckingRules.{CheckingRule, Fault, broken_at, fault_or, first_fault}
+use Rattle.pipe_model.specs.Language.Marks.{Mark}
 
 -- a fault that stands in what follows a mark stands behind it
-fault_stays : (broken : Option Rule) (n : ℕ) (x y : Option Fault) (fault : Fault) → (x ≡ Some fault → y ≡ Some fault)
+fault_stays : (broken : Option CheckingRule) (n : ℕ) (x y : Option Fault) (fault : Fault) → (x ≡ Some fault → y ≡ Some fault)
     → fault_or broken n x ≡ Some fault → fault_or broken n y ≡ Some fault
 fault_stays (Some rule) n x y fault f h = h
 fault_stays None n x y fault f h = f h
@@ -19,11 +19,11 @@ first_stays n (mark ∷ a) b fault h =
     fault_stays (broken_at mark) n (first_fault (n + 1) a) (first_fault (n + 1) (a ++ b)) fault (first_stays (n + 1) a b fault) h
 
 -- where there is no fault, neither the mark nor what follows has one
-record HasNone (broken : Option Rule) (n : ℕ) (x : Option Fault) : Type 0 where
+record HasNone (broken : Option CheckingRule) (n : ℕ) (x : Option Fault) : Type 0 where
   pub follows : x ≡ None
   pub skips : (y : Option Fault) → fault_or broken n y ≡ y
 
-has_none : (broken : Option Rule) (n : ℕ) (x : Option Fault) → fault_or broken n x ≡ None → HasNone broken n x
+has_none : (broken : Option CheckingRule) (n : ℕ) (x : Option Fault) → fault_or broken n x ≡ None → HasNone broken n x
 has_none (Some rule) n x h = absurd (let e : Some _ ≡ None = h in cc (e))
 has_none None n x h = record { follows = h; skips = λ y. refl }
 
@@ -35,7 +35,7 @@ first_behind n (mark ∷ a) b h =
     none.skips (first_fault (n + 1) (a ++ b)) ∙ first_behind (n + 1) a b none.follows ∙ ap (λ k. first_fault k b) (omega arith)
 
 -- what a refusal tells of one answer it tells of another that has the same fault
-pub tells_more : (refusal : CheckFault) (x y : Option Fault) → ((fault : Fault) → x ≡ Some fault → y ≡ Some fault) → Tells refusal x → Tells refusal y
+pub tells_more : (refusal : CheckFault) (x y : Option Fault) → ((fault : Fault) → x ≡ Some fault → y ≡ Some fault) → IsFirstFaultOf refusal x → IsFirstFaultOf refusal y
 tells_more (faults.Unknown n) x y f h = f _ h
 tells_more (faults.Twice n) x y f h = f _ h
 tells_more (faults.LimitOut n) x y f h = f _ h
@@ -48,11 +48,11 @@ tells_more (faults.ZeroSize n) x y f h = f _ h
 tells_more faults.NoMemory x y f h = tt
 
 -- a refusal stays, whatever follows
-pub fails_first : (refusal : CheckFault) (n : ℕ) (a b : List Mark) → Passes (Err refusal) n a → Passes (Err refusal) n (a ++ b)
+pub fails_first : (refusal : CheckFault) (n : ℕ) (a b : List Mark) → PassesMarks (Err refusal) n a → PassesMarks (Err refusal) n (a ++ b)
 fails_first refusal n a b h = tells_more refusal (first_fault n a) (first_fault n (a ++ b)) (first_stays n a b) h
 
 -- marks without a fault are passed, and then what follows
-pub passes_then : (answer : Result ℕ CheckFault) (n k : ℕ) (a b : List Mark) → Passes (Ok k) n a → Passes answer k b → Passes answer n (a ++ b)
+pub passes_then : (answer : Result ℕ CheckFault) (n k : ℕ) (a b : List Mark) → PassesMarks (Ok k) n a → PassesMarks answer k b → PassesMarks answer n (a ++ b)
 passes_then (Ok end) n k a b p q =
     let behind : first_fault n (a ++ b) ≡ first_fault k b = first_behind n a b p.0 ∙ ap (λ j. first_fault j b) (sym p.1) in
     (behind ∙ q.0, omega (arith, p.1, q.1, length-append a b))
@@ -64,5 +64,5 @@ passes_then (Err refusal) n k a b p q =
 pub fits_first : (n : ℕ) (a b : List Mark) → Fits n (a ++ b) → Fits n a
 fits_first n a b h = omega (arith, h, length-append a b)
 
-pub fits_then : (n k : ℕ) (a b : List Mark) → Fits n (a ++ b) → Passes (Ok k) n a → Fits k b
+pub fits_then : (n k : ℕ) (a b : List Mark) → Fits n (a ++ b) → PassesMarks (Ok k) n a → Fits k b
 fits_then n k a b h p = omega (arith, h, p.1, length-append a b)

@@ -1,9 +1,9 @@
 -- The first fault is found exactly where a rule is broken.
 use Rattle.std.proofs.Common.{◌≡◌, ◌∙◌, ℕ, zero, suc, ◌+◌, ◌<◌, Bool, true, false, if◌then◌else◌, List, [], ◌∷◌, ◌++◌, length, slice_index_or, All, Option, Some, None, refl, sym, ap, subst, arith}
-use Rattle.pipe_check.specs.RuleLaws.{ObeysThese, BreaksNoRule, IsFirstBroken}
-use Rattle.pipe_model.specs.CheckingRules.{Rule, Fault, OutOfLimit, Broken, breaks, broken_at, first_broken, first_fault, fault_of, fault_or, limit_fault_or, limit_out, rules_in_order}
-use Rattle.pipe_model.specs.Marks.{Mark, marks_of}
-use Rattle.pipe_model.specs.SyntaxTree.{SyntaxTree}
+use Rattle.pipe_check.specs.RuleLaws.{ObeysThese, ObeysAllRules, IsFirstBroken}
+use Rattle.pipe_model.specs.Language.CheckingRules.{CheckingRule, Fault, OutOfLimit, Broken, breaks, broken_at, first_broken, first_fault, fault_of, fault_or, limit_fault_or, first_limit_out, rules_in_order}
+use Rattle.pipe_model.specs.Language.Marks.{Mark, marks_of}
+use Rattle.pipe_model.specs.Language.SyntaxTree.{SyntaxTree}
 
 -- all of a list with one more at its front, and of none
 pub all_none : {X : Type 0} (P : X → Type 0) → All P []
@@ -25,31 +25,31 @@ others_of P x xs h = λ k d within. h (suc k) d (omega (arith, within))
 
 -- ---- one mark
 
-passed : (b : Bool) (rule : Rule) (rest : Option Rule) → (if b then Some rule else rest) ≡ None → (b ≡ false) × (rest ≡ None)
+passed : (b : Bool) (rule : CheckingRule) (rest : Option CheckingRule) → (if b then Some rule else rest) ≡ None → (b ≡ false) × (rest ≡ None)
 passed true rule rest h = absurd (let e : Some rule ≡ None = h in cc (e))
 passed false rule rest h = (refl, h)
 
-none_broken : (mark : Mark) (rules : List Rule) → first_broken mark rules ≡ None → ObeysThese mark rules
+none_broken : (mark : Mark) (rules : List CheckingRule) → first_broken mark rules ≡ None → ObeysThese mark rules
 none_broken mark [] h = all_none (λ rule. breaks rule mark.scope mark.occurrence ≡ false)
 none_broken mark (rule ∷ rules) h =
     let both = passed (breaks rule mark.scope mark.occurrence) rule (first_broken mark rules) h in
     all_more (λ r. breaks r mark.scope mark.occurrence ≡ false) rule rules both.0 (none_broken mark rules both.1)
 
-not_broken : (mark : Mark) (rules : List Rule) → ObeysThese mark rules → first_broken mark rules ≡ None
+not_broken : (mark : Mark) (rules : List CheckingRule) → ObeysThese mark rules → first_broken mark rules ≡ None
 not_broken mark [] h = refl
 not_broken mark (rule ∷ rules) h =
     let one = first_of (λ r. breaks r mark.scope mark.occurrence ≡ false) rule rules h in
     rw one (not_broken mark rules (others_of (λ r. breaks r mark.scope mark.occurrence ≡ false) rule rules h))
 
 -- what a first broken rule is
-record IsFirstRule (mark : Mark) (rules : List Rule) (rule : Rule) : Type 0 where
-  pub earlier : List Rule
-  pub later : List Rule
+record IsFirstRule (mark : Mark) (rules : List CheckingRule) (rule : CheckingRule) : Type 0 where
+  pub earlier : List CheckingRule
+  pub later : List CheckingRule
   pub rules_are : rules ≡ earlier ++ rule ∷ later
   pub broken : breaks rule mark.scope mark.occurrence ≡ true
   pub obeys_earlier : ObeysThese mark earlier
 
-first_rule_by : (mark : Mark) (head : Rule) (rules : List Rule) (rule : Rule) (b : Bool) → breaks head mark.scope mark.occurrence ≡ b
+first_rule_by : (mark : Mark) (head : CheckingRule) (rules : List CheckingRule) (rule : CheckingRule) (b : Bool) → breaks head mark.scope mark.occurrence ≡ b
     → (if b then Some head else first_broken mark rules) ≡ Some rule → (first_broken mark rules ≡ Some rule → IsFirstRule mark rules rule)
     → IsFirstRule mark (head ∷ rules) rule
 first_rule_by mark head rules rule true is h go =
@@ -71,14 +71,14 @@ first_rule_by mark head rules rule false is h go =
       obeys_earlier = all_more (λ r. breaks r mark.scope mark.occurrence ≡ false) head rest.earlier is rest.obeys_earlier;
     }
 
-first_rule : (mark : Mark) (rules : List Rule) (rule : Rule) → first_broken mark rules ≡ Some rule → IsFirstRule mark rules rule
+first_rule : (mark : Mark) (rules : List CheckingRule) (rule : CheckingRule) → first_broken mark rules ≡ Some rule → IsFirstRule mark rules rule
 first_rule mark [] rule h = absurd (let e : None ≡ Some rule = h in cc (e))
 first_rule mark (head ∷ rules) rule h =
     first_rule_by mark head rules rule (breaks head mark.scope mark.occurrence) refl h (first_rule mark rules rule)
 
 -- ---- marks in order
 
-no_fault : (broken : Option Rule) (n : ℕ) (x : Option Fault) → fault_or broken n x ≡ None → (broken ≡ None) × (x ≡ None)
+no_fault : (broken : Option CheckingRule) (n : ℕ) (x : Option Fault) → fault_or broken n x ≡ None → (broken ≡ None) × (x ≡ None)
 no_fault (Some rule) n x h = absurd (let e : Some _ ≡ None = h in cc (e))
 no_fault None n x h = (refl, h)
 
@@ -95,12 +95,12 @@ none_found n (mark ∷ marks) h =
     ap (λ broken. fault_or broken n (first_fault (n + 1) marks)) one ∙ none_found (n + 1) marks (others_of (λ m. ObeysThese m rules_in_order) mark marks h)
 
 -- the number is counted from n on
-record IsFirstFrom (n : ℕ) (marks : List Mark) (rule : Rule) (number : ℕ) : Type 0 where
+record IsFirstFrom (n : ℕ) (marks : List Mark) (rule : CheckingRule) (number : ℕ) : Type 0 where
   pub place : ℕ
   pub first : IsFirstBroken marks rule place
   pub numbered : number ≡ n + place
 
-first_from_by : (n : ℕ) (mark : Mark) (marks : List Mark) (rule : Rule) (number : ℕ) (found : Option Rule) → broken_at mark ≡ found
+first_from_by : (n : ℕ) (mark : Mark) (marks : List Mark) (rule : CheckingRule) (number : ℕ) (found : Option CheckingRule) → broken_at mark ≡ found
     → fault_or found n (first_fault (n + 1) marks) ≡ Some (Broken rule number)
     → (first_fault (n + 1) marks ≡ Some (Broken rule number) → IsFirstFrom (n + 1) marks rule number) → IsFirstFrom n (mark ∷ marks) rule number
 first_from_by n mark marks rule number (Some r) is h go =
@@ -146,7 +146,7 @@ first_from_by n mark marks rule number None is h go =
       numbered = omega (arith, rest.numbered);
     }
 
-first_from : (n : ℕ) (marks : List Mark) (rule : Rule) (number : ℕ) → first_fault n marks ≡ Some (Broken rule number) → IsFirstFrom n marks rule number
+first_from : (n : ℕ) (marks : List Mark) (rule : CheckingRule) (number : ℕ) → first_fault n marks ≡ Some (Broken rule number) → IsFirstFrom n marks rule number
 first_from n [] rule number h = absurd (let e : None ≡ Some (Broken rule number) = h in cc (e))
 first_from n (mark ∷ marks) rule number h =
     first_from_by n mark marks rule number (broken_at mark) refl h (first_from (n + 1) marks rule number)
@@ -157,22 +157,22 @@ within_limits : (which : Option ℕ) (rest : Option Fault) → limit_fault_or wh
 within_limits (Some n) rest h = absurd (let e : Some _ ≡ None = h in cc (e))
 within_limits None rest h = (refl, h)
 
-pub breaks_none : (tree : SyntaxTree) → fault_of tree ≡ None → BreaksNoRule tree
+pub breaks_none : (tree : SyntaxTree) → fault_of tree ≡ None → ObeysAllRules tree
 breaks_none tree h =
-    let both = within_limits (limit_out tree.limits) (first_fault 0 (marks_of tree)) h in
+    let both = within_limits (first_limit_out tree.limits) (first_fault 0 (marks_of tree)) h in
     record { limits = both.0; marks = all_obey 0 (marks_of tree) both.1 }
 
-pub has_no_fault : (tree : SyntaxTree) → BreaksNoRule tree → fault_of tree ≡ None
+pub has_no_fault : (tree : SyntaxTree) → ObeysAllRules tree → fault_of tree ≡ None
 has_no_fault tree b = ap (λ which. limit_fault_or which (first_fault 0 (marks_of tree))) b.limits ∙ none_found 0 (marks_of tree) b.marks
 
-of_marks : (which : Option ℕ) (rest : Option Fault) (rule : Rule) (number : ℕ) → limit_fault_or which rest ≡ Some (Broken rule number)
+of_marks : (which : Option ℕ) (rest : Option Fault) (rule : CheckingRule) (number : ℕ) → limit_fault_or which rest ≡ Some (Broken rule number)
     → (which ≡ None) × (rest ≡ Some (Broken rule number))
 of_marks (Some w) rest rule number h = absurd (let e : Some (OutOfLimit w) ≡ Some (Broken rule number) = h in cc (e))
 of_marks None rest rule number h = (refl, h)
 
-pub is_first : (tree : SyntaxTree) (rule : Rule) (number : ℕ) → fault_of tree ≡ Some (Broken rule number)
-    → (limit_out tree.limits ≡ None) × IsFirstBroken (marks_of tree) rule number
+pub is_first : (tree : SyntaxTree) (rule : CheckingRule) (number : ℕ) → fault_of tree ≡ Some (Broken rule number)
+    → (first_limit_out tree.limits ≡ None) × IsFirstBroken (marks_of tree) rule number
 is_first tree rule number h =
-    let both = of_marks (limit_out tree.limits) (first_fault 0 (marks_of tree)) rule number h in
+    let both = of_marks (first_limit_out tree.limits) (first_fault 0 (marks_of tree)) rule number h in
     let found = first_from 0 (marks_of tree) rule number both.1 in
     (both.0, subst (λ (k : ℕ). IsFirstBroken (marks_of tree) rule k) (omega (arith, found.numbered)) found.first)

@@ -1,14 +1,14 @@
 -- The marks of a program, region by region: what is behind the first ones decides of all.
 use Rattle.std.proofs.Common.{◌≡◌, ◌∙◌, ℕ, ◌≤◌, List, [], ◌∷◌, ◌++◌, length, sym, arith, refl, Result, Ok, Err, None}
 use Rattle.pipe_check.specs.declared.fault.CheckFault.{CheckFault}
-use Rattle.pipe_check.specs.Passing.{Passes, Fits}
+use Rattle.pipe_check.specs.Passing.{PassesMarks, Fits}
 use Rattle.pipe_check.proofs.Faults.{fails_first, passes_then, fits_first, fits_then}
 use Rattle.pipe_model.specs.declared.region.Region.TheVariants as regions
 use Rattle.pipe_model.specs.declared.tree.Declaration.{Declaration}
-use Rattle.pipe_model.specs.CheckingRules.{first_fault}
-use Rattle.pipe_model.specs.Marks.{Mark, opening, marks_of, marks_of_cells, marks_of_expression, marks_of_statements}
-use Rattle.pipe_model.specs.SpellablePrograms.{IsSpellable}
-use Rattle.pipe_model.specs.SyntaxTree.{SyntaxTree}
+use Rattle.pipe_model.specs.Language.CheckingRules.{first_fault}
+use Rattle.pipe_model.specs.Language.Marks.{Mark, opening, marks_of, marks_of_cells, marks_of_expression, marks_of_statements}
+use Rattle.pipe_model.specs.Language.SpellablePrograms.{IsSpellable}
+use Rattle.pipe_model.specs.Language.SyntaxTree.{SyntaxTree}
 
 -- the marks of each region
 abbrev pub init_marks : SyntaxTree → List Mark
@@ -25,18 +25,18 @@ last_marks tree = marks_of_statements (opening regions.Last tree.cells) tree.las
 
 -- of all marks these are left, and the first of them has the number k
 pub record AreLeft (k : ℕ) (left all : List Mark) : Type 0 where
-  pub decide : (answer : Result ℕ CheckFault) → Passes answer k left → Passes answer 0 all
+  pub decide : (answer : Result ℕ CheckFault) → PassesMarks answer k left → PassesMarks answer 0 all
   pub fit : Fits k left
 
 -- the first ones pass
-next_region : (k j : ℕ) (a b all : List Mark) → AreLeft k (a ++ b) all → Passes (Ok j) k a → AreLeft j b all
+next_region : (k j : ℕ) (a b all : List Mark) → AreLeft k (a ++ b) all → PassesMarks (Ok j) k a → AreLeft j b all
 next_region k j a b all at p = record {
   decide = λ answer q. at.decide answer (passes_then answer k j a b p q);
   fit = fits_then k j a b at.fit p;
 }
 
 -- the first ones are refused, or fit
-region_fails : (refusal : CheckFault) (k : ℕ) (a b all : List Mark) → AreLeft k (a ++ b) all → Passes (Err refusal) k a → Passes (Err refusal) 0 all
+region_fails : (refusal : CheckFault) (k : ℕ) (a b all : List Mark) → AreLeft k (a ++ b) all → PassesMarks (Err refusal) k a → PassesMarks (Err refusal) 0 all
 region_fails refusal k a b all at q = at.decide (Err refusal) (fails_first refusal k a b q)
 
 region_fits : (k : ℕ) (a b all : List Mark) → AreLeft k (a ++ b) all → Fits k a
@@ -57,8 +57,8 @@ few_cells tree s =
     let fits = region_fits 0 (marks_of_cells [] tree.cells) (init_marks tree ++ (test_marks tree ++ (body_marks tree ++ last_marks tree))) (marks_of tree) (at_cells tree s) in
     omega (arith, fits, cells_length [] tree.cells)
 
-pub cells_fail : (tree : SyntaxTree) (refusal : CheckFault) → IsSpellable tree → Passes (Err refusal) 0 (marks_of_cells [] tree.cells)
-    → Passes (Err refusal) 0 (marks_of tree)
+pub cells_fail : (tree : SyntaxTree) (refusal : CheckFault) → IsSpellable tree → PassesMarks (Err refusal) 0 (marks_of_cells [] tree.cells)
+    → PassesMarks (Err refusal) 0 (marks_of tree)
 cells_fail tree refusal s =
     region_fails refusal 0 (marks_of_cells [] tree.cells) (init_marks tree ++ (test_marks tree ++ (body_marks tree ++ last_marks tree))) (marks_of tree) (at_cells tree s)
 
@@ -73,34 +73,34 @@ pub init_fits : (tree : SyntaxTree) (k : ℕ) → AreLeft k (init_marks tree ++ 
 init_fits tree k = region_fits k (init_marks tree) (test_marks tree ++ (body_marks tree ++ last_marks tree)) (marks_of tree)
 
 pub init_fails : (tree : SyntaxTree) (refusal : CheckFault) (k : ℕ) → AreLeft k (init_marks tree ++ (test_marks tree ++ (body_marks tree ++ last_marks tree))) (marks_of tree)
-    → Passes (Err refusal) k (init_marks tree) → Passes (Err refusal) 0 (marks_of tree)
+    → PassesMarks (Err refusal) k (init_marks tree) → PassesMarks (Err refusal) 0 (marks_of tree)
 init_fails tree refusal k = region_fails refusal k (init_marks tree) (test_marks tree ++ (body_marks tree ++ last_marks tree)) (marks_of tree)
 
 -- behind `init`
 pub at_test : (tree : SyntaxTree) (k j : ℕ) → AreLeft k (init_marks tree ++ (test_marks tree ++ (body_marks tree ++ last_marks tree))) (marks_of tree)
-    → Passes (Ok j) k (init_marks tree) → AreLeft j (test_marks tree ++ (body_marks tree ++ last_marks tree)) (marks_of tree)
+    → PassesMarks (Ok j) k (init_marks tree) → AreLeft j (test_marks tree ++ (body_marks tree ++ last_marks tree)) (marks_of tree)
 at_test tree k j = next_region k j (init_marks tree) (test_marks tree ++ (body_marks tree ++ last_marks tree)) (marks_of tree)
 
 pub test_fits : (tree : SyntaxTree) (k : ℕ) → AreLeft k (test_marks tree ++ (body_marks tree ++ last_marks tree)) (marks_of tree) → Fits k (test_marks tree)
 test_fits tree k = region_fits k (test_marks tree) (body_marks tree ++ last_marks tree) (marks_of tree)
 
 pub test_fails : (tree : SyntaxTree) (refusal : CheckFault) (k : ℕ) → AreLeft k (test_marks tree ++ (body_marks tree ++ last_marks tree)) (marks_of tree)
-    → Passes (Err refusal) k (test_marks tree) → Passes (Err refusal) 0 (marks_of tree)
+    → PassesMarks (Err refusal) k (test_marks tree) → PassesMarks (Err refusal) 0 (marks_of tree)
 test_fails tree refusal k = region_fails refusal k (test_marks tree) (body_marks tree ++ last_marks tree) (marks_of tree)
 
 -- behind the loop's test
 pub at_body : (tree : SyntaxTree) (k j : ℕ) → AreLeft k (test_marks tree ++ (body_marks tree ++ last_marks tree)) (marks_of tree)
-    → Passes (Ok j) k (test_marks tree) → AreLeft j (body_marks tree ++ last_marks tree) (marks_of tree)
+    → PassesMarks (Ok j) k (test_marks tree) → AreLeft j (body_marks tree ++ last_marks tree) (marks_of tree)
 at_body tree k j = next_region k j (test_marks tree) (body_marks tree ++ last_marks tree) (marks_of tree)
 
 pub body_fits : (tree : SyntaxTree) (k : ℕ) → AreLeft k (body_marks tree ++ last_marks tree) (marks_of tree) → Fits k (body_marks tree)
 body_fits tree k = region_fits k (body_marks tree) (last_marks tree) (marks_of tree)
 
 pub body_fails : (tree : SyntaxTree) (refusal : CheckFault) (k : ℕ) → AreLeft k (body_marks tree ++ last_marks tree) (marks_of tree)
-    → Passes (Err refusal) k (body_marks tree) → Passes (Err refusal) 0 (marks_of tree)
+    → PassesMarks (Err refusal) k (body_marks tree) → PassesMarks (Err refusal) 0 (marks_of tree)
 body_fails tree refusal k = region_fails refusal k (body_marks tree) (last_marks tree) (marks_of tree)
 
 -- behind the loop
-pub at_last : (tree : SyntaxTree) (k j : ℕ) → AreLeft k (body_marks tree ++ last_marks tree) (marks_of tree) → Passes (Ok j) k (body_marks tree)
+pub at_last : (tree : SyntaxTree) (k j : ℕ) → AreLeft k (body_marks tree ++ last_marks tree) (marks_of tree) → PassesMarks (Ok j) k (body_marks tree)
     → AreLeft j (last_marks tree) (marks_of tree)
 at_last tree k j = next_region k j (body_marks tree) (last_marks tree) (marks_of tree)

@@ -11,9 +11,9 @@ use Rattle.pipe_model.specs.declared.tree.Declaration.{Declaration}
 use Rattle.pipe_model.specs.declared.tree.Expr.{Expr}
 use Rattle.pipe_model.specs.declared.tree.Stmt.{Stmt}
 use Rattle.pipe_model.specs.declared.tree.Stmt.TheVariants as stmts
-use Rattle.pipe_model.specs.Marks.{marks_of_cells, marks_of_expression, marks_of_statements, opening}
-use Rattle.pipe_model.specs.SpellablePrograms.{HasNoNegativeSize, IsSpellable, expressions_of, expressions_of_statements, has_known_operators, node_count}
-use Rattle.pipe_model.specs.SyntaxTree.{Expression, Number, If, While, Empty, Then, SyntaxTree, expression_of, statements_of}
+use Rattle.pipe_model.specs.Language.Marks.{marks_of_cells, marks_of_expression, marks_of_statements, opening}
+use Rattle.pipe_model.specs.Language.SpellablePrograms.{HasNoNegativeSize, IsSpellable, expressions_of, expressions_of_statements, has_known_operators, node_count}
+use Rattle.pipe_model.specs.Language.SyntaxTree.{Expression, Number, If, While, Empty, Then, SyntaxTree, expression_of, statements_of}
 use Rattle.pipe_model.proofs.NestedBlocks.{if_seen, while_seen}
 use Rattle.pipe_check.specs.Samples.{AreSmall}
 use Rattle.pipe_check.proofs.Regions.{cells_length}

@@ -1,17 +1,17 @@
 -- Statements bring locals into scope behind those that are in scope already, so the first ones are those of the place where they began.
 use Rattle.std.proofs.Common.{◌≡◌, ◌∙◌, ℕ, List, [], ◌∷◌, ◌++◌, length, take, refl, sym, ap, append_assoc, append-nil}
 use Rattle.std.proofs.Math.Seq.{take-append_seam}
-use Rattle.pipe_model.specs.Marks.{Scope, after_statement, after_statements}
-use Rattle.pipe_model.specs.SyntaxTree.{Statement, Let, Assign, AssignElement, Emit, If, While, Stage, NextStage, Statements, Empty, Then}
+use Rattle.pipe_model.specs.Language.Marks.{Scope, after_statement, after_statements}
+use Rattle.pipe_model.specs.Language.SyntaxTree.{Statement, Let, Assign, AssignElement, Emit, If, While, Stage, NextStage, Statements, Empty, Then}
 
-record Extends (before after : List (List ℕ)) : Type 0 where
+record ExtendsScope (before after : List (List ℕ)) : Type 0 where
   pub more : List (List ℕ)
   pub is : after ≡ before ++ more
 
-same : (names : List (List ℕ)) → Extends names names
+same : (names : List (List ℕ)) → ExtendsScope names names
 same names = record { more = []; is = sym (append-nil names) }
 
-extends_once : (scope : Scope) (s : Statement) → Extends scope.visible (after_statement scope s).visible
+extends_once : (scope : Scope) (s : Statement) → ExtendsScope scope.visible (after_statement scope s).visible
 extends_once scope (Let x e) = record { more = x ∷ []; is = refl }
 extends_once scope (Assign x e) = same scope.visible
 extends_once scope (AssignElement x i e) = same scope.visible
@@ -21,7 +21,7 @@ extends_once scope (While e a) = same scope.visible
 extends_once scope (Stage kind e) = same scope.visible
 extends_once scope (NextStage kind) = same scope.visible
 
-extends : (scope : Scope) (ss : Statements) → Extends scope.visible (after_statements scope ss).visible
+extends : (scope : Scope) (ss : Statements) → ExtendsScope scope.visible (after_statements scope ss).visible
 extends scope Empty = same scope.visible
 extends scope (Then s ss) =
     let one = extends_once scope s in

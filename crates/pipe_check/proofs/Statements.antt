@@ -2,14 +2,14 @@
 use Rattle.std.proofs.Common.{◌≡◌, ◌∙◌, ℕ, zero, suc, ◌+◌, ◌<◌, ◌≤◌, List, [], ◌∷◌, ◌++◌, length, take, drop, get_or, sym, ap, subst, arith, Result, Ok, Err, Option, length-append}
 use Rattle.std.proofs.lemmas.List.{drop_all, at_drop_more}
 use Rattle.pipe_check.specs.declared.fault.CheckFault.{CheckFault}
-use Rattle.pipe_check.specs.Passing.{Tells, Passes, Fits}
+use Rattle.pipe_check.specs.Passing.{IsFirstFaultOf, PassesMarks, Fits}
 use Rattle.pipe_check.proofs.Faults.{first_behind, fails_first, passes_then, fits_first, fits_then}
 use Rattle.pipe_check.proofs.Scopes.{first_visible}
 use Rattle.pipe_model.specs.declared.tree.Stmt.{Stmt}
-use Rattle.pipe_model.specs.CheckingRules.{Fault, first_fault}
-use Rattle.pipe_model.specs.Marks.{Scope, after_block, after_statement, after_statements, marks_of_expression, marks_of_statement, marks_of_statements}
-use Rattle.pipe_model.specs.SpellablePrograms.{statement_count, statement_counts}
-use Rattle.pipe_model.specs.SyntaxTree.{Expression, If, While, Statement, Statements, Empty, Then, statement_of, statements_of}
+use Rattle.pipe_model.specs.Language.CheckingRules.{Fault, first_fault}
+use Rattle.pipe_model.specs.Language.Marks.{Scope, after_block, after_statement, after_statements, marks_of_expression, marks_of_statement, marks_of_statements}
+use Rattle.pipe_model.specs.Language.SpellablePrograms.{statement_count, statement_counts}
+use Rattle.pipe_model.specs.Language.SyntaxTree.{Expression, If, While, Statement, Statements, Empty, Then, statement_of, statements_of}
 
 -- from a place of the list on there is one statement, and then the others
 statements_from : (ss : List Stmt) (i : ℕ) (s : Stmt) → i < length ss → s ≡ get_or ss i s → statements_of (drop i ss) ≡ Then (statement_of s) (statements_of (drop (i + 1) ss))
@@ -22,12 +22,12 @@ none_left ss i h = ap statements_of (drop_all i ss h)
 -- the statement at a place is refused, and so are the statements from there on
 pub block_refused : (scope : Scope) (ss : List Stmt) (i n : ℕ) (s : Stmt) (refusal : CheckFault) (whole : Option Fault) → i < length ss → s ≡ get_or ss i s
     → first_fault n (marks_of_statements scope (statements_of (drop i ss))) ≡ whole
-    → Passes (Err refusal) n (marks_of_statement scope (statement_of s)) → Tells refusal whole
+    → PassesMarks (Err refusal) n (marks_of_statement scope (statement_of s)) → IsFirstFaultOf refusal whole
 block_refused scope ss i n s refusal whole h e is p =
     let rest = statements_of (drop (i + 1) ss) in
-    let all : Passes (Err refusal) n (marks_of_statements scope (Then (statement_of s) rest)) =
+    let all : PassesMarks (Err refusal) n (marks_of_statements scope (Then (statement_of s) rest)) =
     fails_first refusal n (marks_of_statement scope (statement_of s)) (marks_of_statements (after_statement scope (statement_of s)) rest) p in
-    subst (λ fault. Tells refusal fault) (ap (λ t. first_fault n (marks_of_statements scope t)) (sym (statements_from ss i s h e)) ∙ is) all
+    subst (λ fault. IsFirstFaultOf refusal fault) (ap (λ t. first_fault n (marks_of_statements scope t)) (sym (statements_from ss i s h e)) ∙ is) all
 
 -- the statement at a place passes, and the others have the faults, the numbers and the end of the statements from there on
 pub record IsStep (scope next_scope : Scope) (ss : List Stmt) (i n next : ℕ) : Type 0 where
@@ -51,19 +51,19 @@ one_counts (x ∷ ss) zero s h e = let same = ap (λ y. statement_count (stateme
 one_counts (x ∷ ss) (suc i) s h e = let others = one_counts ss i s (omega (arith, h)) e in omega (arith, others)
 
 -- the same for the statements as plain data
-faults_step : (scope : Scope) (s : Statement) (rest : Statements) (n next : ℕ) → Passes (Ok next) n (marks_of_statement scope s)
+faults_step : (scope : Scope) (s : Statement) (rest : Statements) (n next : ℕ) → PassesMarks (Ok next) n (marks_of_statement scope s)
     → first_fault next (marks_of_statements (after_statement scope s) rest) ≡ first_fault n (marks_of_statements scope (Then s rest))
 faults_step scope s rest n next p =
     ap (λ k. first_fault k (marks_of_statements (after_statement scope s) rest)) p.1
     ∙ sym (first_behind n (marks_of_statement scope s) (marks_of_statements (after_statement scope s) rest) p.0)
 
-numbers_step : (scope : Scope) (s : Statement) (rest : Statements) (n next : ℕ) → Passes (Ok next) n (marks_of_statement scope s)
+numbers_step : (scope : Scope) (s : Statement) (rest : Statements) (n next : ℕ) → PassesMarks (Ok next) n (marks_of_statement scope s)
     → next + length (marks_of_statements (after_statement scope s) rest) ≡ n + length (marks_of_statements scope (Then s rest))
 numbers_step scope s rest n next p =
     omega (arith, p.1, length-append (marks_of_statement scope s) (marks_of_statements (after_statement scope s) rest))
 
 pub statement_passed : (scope next_scope : Scope) (ss : List Stmt) (i n next : ℕ) (s : Stmt) → i < length ss → s ≡ get_or ss i s
-    → Passes (Ok next) n (marks_of_statement scope (statement_of s)) → next_scope ≡ after_statement scope (statement_of s)
+    → PassesMarks (Ok next) n (marks_of_statement scope (statement_of s)) → next_scope ≡ after_statement scope (statement_of s)
     → IsStep scope next_scope ss i n next
 statement_passed scope next_scope ss i n next s h e p behind =
     let rest = statements_of (drop (i + 1) ss) in
@@ -88,39 +88,39 @@ block_left outer inner ss is =
 
 -- the test is refused
 pub test_refused : (scope : Scope) (n : ℕ) (e : Expression) (a b : Statements) (whole : Statement) (refusal : CheckFault) → whole ≡ If e a b
-    → Passes (Err refusal) n (marks_of_expression scope e) → Passes (Err refusal) n (marks_of_statement scope whole)
+    → PassesMarks (Err refusal) n (marks_of_expression scope e) → PassesMarks (Err refusal) n (marks_of_statement scope whole)
 test_refused scope n e a b whole refusal is p =
-    subst (λ s. Passes (Err refusal) n (marks_of_statement scope s)) (sym is)
+    subst (λ s. PassesMarks (Err refusal) n (marks_of_statement scope s)) (sym is)
     (fails_first refusal n (marks_of_expression scope e) (marks_of_statements scope a ++ marks_of_statements (after_block scope a) b) p)
 
 -- the first block decides where it is refused
 pub first_refused : (scope : Scope) (n k : ℕ) (e : Expression) (a b : Statements) (whole : Statement) (refusal : CheckFault) → whole ≡ If e a b
-    → Passes (Ok k) n (marks_of_expression scope e) → Passes (Err refusal) k (marks_of_statements scope a) → Passes (Err refusal) n (marks_of_statement scope whole)
+    → PassesMarks (Ok k) n (marks_of_expression scope e) → PassesMarks (Err refusal) k (marks_of_statements scope a) → PassesMarks (Err refusal) n (marks_of_statement scope whole)
 first_refused scope n k e a b whole refusal is p q =
     let blocks = fails_first refusal k (marks_of_statements scope a) (marks_of_statements (after_block scope a) b) q in
-    subst (λ s. Passes (Err refusal) n (marks_of_statement scope s)) (sym is)
+    subst (λ s. PassesMarks (Err refusal) n (marks_of_statement scope s)) (sym is)
     (passes_then (Err refusal) n k (marks_of_expression scope e) (marks_of_statements scope a ++ marks_of_statements (after_block scope a) b) p blocks)
 
 -- and else the second one
 pub second_decides : (scope between : Scope) (n k j : ℕ) (e : Expression) (a b : Statements) (whole : Statement) (answer : Result ℕ CheckFault) → whole ≡ If e a b
-    → between ≡ after_block scope a → Passes (Ok k) n (marks_of_expression scope e) → Passes (Ok j) k (marks_of_statements scope a)
-    → Passes answer j (marks_of_statements between b) → Passes answer n (marks_of_statement scope whole)
+    → between ≡ after_block scope a → PassesMarks (Ok k) n (marks_of_expression scope e) → PassesMarks (Ok j) k (marks_of_statements scope a)
+    → PassesMarks answer j (marks_of_statements between b) → PassesMarks answer n (marks_of_statement scope whole)
 second_decides scope between n k j e a b whole answer is behind p q r =
-    let second : Passes answer j (marks_of_statements (after_block scope a) b) = subst (λ x. Passes answer j (marks_of_statements x b)) behind r in
+    let second : PassesMarks answer j (marks_of_statements (after_block scope a) b) = subst (λ x. PassesMarks answer j (marks_of_statements x b)) behind r in
     let blocks = passes_then answer k j (marks_of_statements scope a) (marks_of_statements (after_block scope a) b) q second in
-    subst (λ s. Passes answer n (marks_of_statement scope s)) (sym is)
+    subst (λ s. PassesMarks answer n (marks_of_statement scope s)) (sym is)
     (passes_then answer n k (marks_of_expression scope e) (marks_of_statements scope a ++ marks_of_statements (after_block scope a) b) p blocks)
 
 -- the numbers of both blocks fit
 pub first_fits : (scope : Scope) (n k : ℕ) (e : Expression) (a b : Statements) (whole : Statement) → whole ≡ If e a b
-    → Fits n (marks_of_statement scope whole) → Passes (Ok k) n (marks_of_expression scope e) → Fits k (marks_of_statements scope a)
+    → Fits n (marks_of_statement scope whole) → PassesMarks (Ok k) n (marks_of_expression scope e) → Fits k (marks_of_statements scope a)
 first_fits scope n k e a b whole is h p =
     let whole_fits : Fits n (marks_of_statement scope (If e a b)) = subst (λ s. Fits n (marks_of_statement scope s)) is h in
     fits_first k (marks_of_statements scope a) (marks_of_statements (after_block scope a) b)
     (fits_then n k (marks_of_expression scope e) (marks_of_statements scope a ++ marks_of_statements (after_block scope a) b) whole_fits p)
 
 pub second_fits : (scope between : Scope) (n k j : ℕ) (e : Expression) (a b : Statements) (whole : Statement) → whole ≡ If e a b → between ≡ after_block scope a
-    → Fits n (marks_of_statement scope whole) → Passes (Ok k) n (marks_of_expression scope e) → Passes (Ok j) k (marks_of_statements scope a)
+    → Fits n (marks_of_statement scope whole) → PassesMarks (Ok k) n (marks_of_expression scope e) → PassesMarks (Ok j) k (marks_of_statements scope a)
     → Fits j (marks_of_statements between b)
 second_fits scope between n k j e a b whole is behind h p q =
     let whole_fits : Fits n (marks_of_statement scope (If e a b)) = subst (λ s. Fits n (marks_of_statement scope s)) is h in
@@ -134,19 +134,19 @@ branch_left scope between after e a b whole is first second = second ∙ ap (λ 
 
 -- the test of a loop is refused
 pub loop_refused : (scope : Scope) (n : ℕ) (e : Expression) (a : Statements) (whole : Statement) (refusal : CheckFault) → whole ≡ While e a
-    → Passes (Err refusal) n (marks_of_expression scope e) → Passes (Err refusal) n (marks_of_statement scope whole)
+    → PassesMarks (Err refusal) n (marks_of_expression scope e) → PassesMarks (Err refusal) n (marks_of_statement scope whole)
 loop_refused scope n e a whole refusal is p =
-    subst (λ s. Passes (Err refusal) n (marks_of_statement scope s)) (sym is)
+    subst (λ s. PassesMarks (Err refusal) n (marks_of_statement scope s)) (sym is)
     (fails_first refusal n (marks_of_expression scope e) (marks_of_statements scope a) p)
 
 -- and else the body decides
 pub body_decides : (scope : Scope) (n k : ℕ) (e : Expression) (a : Statements) (whole : Statement) (answer : Result ℕ CheckFault) → whole ≡ While e a
-    → Passes (Ok k) n (marks_of_expression scope e) → Passes answer k (marks_of_statements scope a) → Passes answer n (marks_of_statement scope whole)
+    → PassesMarks (Ok k) n (marks_of_expression scope e) → PassesMarks answer k (marks_of_statements scope a) → PassesMarks answer n (marks_of_statement scope whole)
 body_decides scope n k e a whole answer is p q =
-    subst (λ s. Passes answer n (marks_of_statement scope s)) (sym is) (passes_then answer n k (marks_of_expression scope e) (marks_of_statements scope a) p q)
+    subst (λ s. PassesMarks answer n (marks_of_statement scope s)) (sym is) (passes_then answer n k (marks_of_expression scope e) (marks_of_statements scope a) p q)
 
 pub body_fits : (scope : Scope) (n k : ℕ) (e : Expression) (a : Statements) (whole : Statement) → whole ≡ While e a
-    → Fits n (marks_of_statement scope whole) → Passes (Ok k) n (marks_of_expression scope e) → Fits k (marks_of_statements scope a)
+    → Fits n (marks_of_statement scope whole) → PassesMarks (Ok k) n (marks_of_expression scope e) → Fits k (marks_of_statements scope a)
 body_fits scope n k e a whole is h p =
     let whole_fits : Fits n (marks_of_statement scope (While e a)) = subst (λ s. Fits n (marks_of_statement scope s)) is h in
     fits_then n k (marks_of_expression scope e) (marks_of_statements scope a) whole_fits p

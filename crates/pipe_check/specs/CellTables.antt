@@ -5,10 +5,10 @@ use Rattle.std.specs.BTreeMap.{get, BTreeMap}
 use Rattle.std.specs.Cmp.Lexicographic.{slice_cmp}
 use Rattle.std.specs.Ordering.{nat_cmp}
 use Rattle.pipe_model.specs.declared.tree.Declaration.{Declaration}
-use Rattle.pipe_model.specs.CheckingRules.{size_in, cell_total}
+use Rattle.pipe_model.specs.Language.CheckingRules.{size_in, cell_total}
 
 -- the table has each declared name with its size, and no other name, and the sizes add up to the total
-pub record IsTable (sizes : BTreeMap (Bor (List ℕ)) (Option ℤ)) (total : ℕ) (cells : List Declaration) : Type 0 where
+pub record IsCellTable (sizes : BTreeMap (Bor (List ℕ)) (Option ℤ)) (total : ℕ) (cells : List Declaration) : Type 0 where
   pub found : (x : Bor (List ℕ)) → get (λ a b. slice_cmp nat_cmp a.now b.now) sizes x ≡ size_in cells x.now
   pub total_is : total ≡ cell_total cells
   pub few : total ≤ 65536

@@ -2,5 +2,5 @@ pub mod Passing
 pub mod CellTables
 pub mod Accepted
 pub mod RuleLaws
-pub mod Examples
 pub mod Samples
+pub mod CheckingExamples

@@ -1,9 +1,9 @@
 -- Small parts of programs. The tests build programs of them, which a source may spell.
 use Rattle.std.specs.Prelude.{◌≡◌, ◌≤◌, ◌+◌, true, length, sum_by, nat_le}
 use Rattle.std.specs.List.{list_all}
-use Rattle.pipe_model.specs.Marks.{Scope, marks_of_statements}
-use Rattle.pipe_model.specs.SpellablePrograms.{expressions_of_statements, has_known_operators, node_count, statement_counts}
-use Rattle.pipe_model.specs.SyntaxTree.{Statements}
+use Rattle.pipe_model.specs.Language.Marks.{Scope, marks_of_statements}
+use Rattle.pipe_model.specs.Language.SpellablePrograms.{expressions_of_statements, has_known_operators, node_count, statement_counts}
+use Rattle.pipe_model.specs.Language.SyntaxTree.{Statements}
 
 -- the statements have known operators and short expressions, and not too many of either
 pub record AreSmall (ss : Statements) : Type 0 where

@@ -1,11 +1,11 @@
 //! The declared cells of a program.
 
 ghost use Rattle.std.specs.Prelude.{◌≡◌, ◌≤◌, ◌<◌, [], None, All, IfOk, IfErr, IfSome, IfNone, OnOk, length};
-ghost use Rattle.pipe_check.specs.Passing.{Tells};
-ghost use Rattle.pipe_model.specs.CheckingRules.{cell_total, first_fault, size_in};
-ghost use Rattle.pipe_model.specs.Marks.{marks_of_cells};
-ghost use Rattle.pipe_model.specs.Programs.{declared_size};
-ghost use Rattle.pipe_model.specs.SpellablePrograms.{HasNoNegativeSize};
+ghost use Rattle.pipe_check.specs.Passing.{IsFirstFaultOf};
+ghost use Rattle.pipe_model.specs.Language.CheckingRules.{cell_total, first_fault, size_in};
+ghost use Rattle.pipe_model.specs.Language.Marks.{marks_of_cells};
+ghost use Rattle.pipe_model.specs.Language.Programs.{declared_size};
+ghost use Rattle.pipe_model.specs.Language.SpellablePrograms.{HasNoNegativeSize};
 ghost use Rattle.pipe_model.specs.declared.tree.Declaration.{Declaration as Declared};
 
 use crate::fault::CheckFault;
@@ -33,11 +33,11 @@ impl<'a> Model for Cells<'a> {
 
     ghost Value = { List Declaration };
 
-    ghost use Rattle.pipe_check.specs.CellTables.{IsTable};
+    ghost use Rattle.pipe_check.specs.CellTables.{IsCellTable};
 
     ghost view = { λ c. c.declared.now };
 
-    ghost invariant = { λ c. IsTable c.sizes c.total c.declared.now };
+    ghost invariant = { λ c. IsCellTable c.sizes c.total c.declared.now };
 }
 
 /// How many cells a declaration has, where they are at most so many.
@@ -61,7 +61,7 @@ impl<'a> Cells<'a> {
         requires few { length declared.now ≤ 4194304 }
         ensures cells { IfOk result (λ cells. cells ≡ declared.now) }
         ensures ok { OnOk result (first_fault 0 (marks_of_cells [] declared.now) ≡ None) }
-        ensures err { IfErr result (λ fault. Tells fault (first_fault 0 (marks_of_cells [] declared.now))) }
+        ensures err { IfErr result (λ fault. IsFirstFaultOf fault (first_fault 0 (marks_of_cells [] declared.now))) }
     {
         let mut sizes = BTreeMap::new(alloc);
         let mut total = 0;

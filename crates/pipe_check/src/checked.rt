@@ -1,10 +1,10 @@
 //! Programs that break no rule.
 
 ghost use Rattle.std.specs.Prelude.{◌≡◌, ◌≤◌, ◌+◌, None};
-ghost use Rattle.pipe_check.specs.Accepted.{IsAccepted};
-ghost use Rattle.pipe_model.specs.CheckingRules.{cell_total, fault_of};
-ghost use Rattle.pipe_model.specs.SpellablePrograms.{IsSpellable};
-ghost use Rattle.pipe_model.specs.SyntaxTree.{tree_of};
+ghost use Rattle.pipe_check.specs.Accepted.{IsChecked};
+ghost use Rattle.pipe_model.specs.Language.CheckingRules.{cell_total, fault_of};
+ghost use Rattle.pipe_model.specs.Language.SpellablePrograms.{IsSpellable};
+ghost use Rattle.pipe_model.specs.Language.SyntaxTree.{tree_of};
 
 use pipe_model::tree::Program;
 use std::marker::Model;
@@ -26,17 +26,17 @@ impl Model for Checked {
 
     ghost coded = { Prim.hlevel (codes, expr.the_row.coded, stmt.the_row.coded) };
 
-    ghost use Rattle.pipe_check.specs.Accepted.{IsAccepted};
+    ghost use Rattle.pipe_check.specs.Accepted.{IsChecked};
 
     ghost view = { λ c. c.program };
 
-    ghost invariant = { λ c. IsAccepted c.program c.cells };
+    ghost invariant = { λ c. IsChecked c.program c.cells };
 }
 
 impl Checked {
     /// The program, which has so many cells and breaks no rule.
     pub(crate) fn new(program: Program, cells: u32) -> Self
-        requires { IsAccepted program cells }
+        requires { IsChecked program cells }
         ensures { result ≡ program }
     {
         Checked { program, cells }

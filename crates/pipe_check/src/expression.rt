@@ -1,8 +1,8 @@
 //! The marks of expressions.
 
-ghost use Rattle.pipe_check.specs.Passing.{Fits, Passes};
-ghost use Rattle.pipe_model.specs.Marks.{marks_of_expression};
-ghost use Rattle.pipe_model.specs.SyntaxTree.{expression_of};
+ghost use Rattle.pipe_check.specs.Passing.{Fits, PassesMarks};
+ghost use Rattle.pipe_model.specs.Language.Marks.{marks_of_expression};
+ghost use Rattle.pipe_model.specs.Language.SyntaxTree.{expression_of};
 
 use crate::fault::CheckFault;
 use crate::scope::Scope;
@@ -11,7 +11,7 @@ use pipe_model::tree::Expr;
 /// The marks of an expression, from the one with this number on: the number behind them, or the first fault.
 pub fn check_expression(scope: &Scope, next: u32, e: &Expr) -> Result<u32, CheckFault>
     requires fits { Fits next (marks_of_expression scope.now (expression_of e.now)) }
-    ensures { Passes result next (marks_of_expression scope.now (expression_of e.now)) }
+    ensures { PassesMarks result next (marks_of_expression scope.now (expression_of e.now)) }
 {
     match e {
         Expr::Number(_) | Expr::More | Expr::Take => Ok(next),

@@ -1,6 +1,6 @@
 //! Laws of the rules, and worked examples. Each function has an empty body, and its contract is the law or the examples.
 
-ghost use Rattle.pipe_check.specs.Examples.{HaveFaults, declarations, ranges, regions, scopes, uses};
+ghost use Rattle.pipe_check.specs.CheckingExamples.{HaveFaults, declarations, ranges, regions, scopes, uses};
 ghost use Rattle.pipe_check.specs.RuleLaws.{FaultlessProgramsBreakNoRule, FaultsAreFirst};
 
 /// A program has no fault exactly where each limit is in its range and no mark breaks a rule.

@@ -1,7 +1,7 @@
 //! The limits of a program.
 
 ghost use Rattle.std.specs.Prelude.{◌≡◌};
-ghost use Rattle.pipe_model.specs.CheckingRules.{is_between, limit_out};
+ghost use Rattle.pipe_model.specs.Language.CheckingRules.{is_between, first_limit_out};
 
 use pipe_model::tree::Limits;
 
@@ -20,8 +20,8 @@ fn is_between(low: i64, high: i64, number: i64) -> bool
 
 /// The first limit that is out of its range: 1 the iterations, 2 the stages, 3 the product of the two, 4 the steps, 5 the emitted
 /// numbers.
-pub fn limit_out(limits: &Limits) -> Option<u32>
-    ensures { result ≡ limit_out limits.now }
+pub fn first_limit_out(limits: &Limits) -> Option<u32>
+    ensures { result ≡ first_limit_out limits.now }
 {
     if !is_between(1, 65_536, limits.iterations) {
         return Some(1);

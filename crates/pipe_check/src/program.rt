@@ -1,18 +1,18 @@
 //! The rules of a whole program.
 
 ghost use Rattle.std.specs.Prelude.{◌≡◌, ◌≤◌, None, IfErr, IfOk, OnOk};
-ghost use Rattle.pipe_check.specs.Passing.{Fits, Passes, Tells};
-ghost use Rattle.pipe_model.specs.CheckingRules.{cell_total, fault_of, first_fault};
-ghost use Rattle.pipe_model.specs.Marks.{marks_of, marks_of_expression, marks_of_statements, opening};
-ghost use Rattle.pipe_model.specs.SpellablePrograms.{IsSpellable};
-ghost use Rattle.pipe_model.specs.SyntaxTree.{expression_of, statements_of, tree_of};
+ghost use Rattle.pipe_check.specs.Passing.{Fits, PassesMarks, IsFirstFaultOf};
+ghost use Rattle.pipe_model.specs.Language.CheckingRules.{cell_total, fault_of, first_fault};
+ghost use Rattle.pipe_model.specs.Language.Marks.{marks_of, marks_of_expression, marks_of_statements, opening};
+ghost use Rattle.pipe_model.specs.Language.SpellablePrograms.{IsSpellable};
+ghost use Rattle.pipe_model.specs.Language.SyntaxTree.{expression_of, statements_of, tree_of};
 ghost use Rattle.pipe_model.specs.declared.region.Region.TheVariants as regions;
 
 use crate::cells::Cells;
 use crate::checked::Checked;
 use crate::expression::check_expression;
 use crate::fault::CheckFault;
-use crate::limits::limit_out;
+use crate::limits::first_limit_out;
 use crate::scope::Scope;
 use crate::statement::check_block;
 use pipe_model::region::Region;
@@ -31,7 +31,7 @@ fn check_region(
     block: &Block,
 ) -> Result<u32, CheckFault>
     requires { Fits next (marks_of_statements (opening region cells.now) (statements_of block.now.statements.items)) }
-    ensures { Passes result next (marks_of_statements (opening region cells.now) (statements_of block.now.statements.items)) }
+    ensures { PassesMarks result next (marks_of_statements (opening region cells.now) (statements_of block.now.statements.items)) }
 {
     check_block(
         alloc,
@@ -44,7 +44,7 @@ fn check_region(
 // the marks of the loop's test
 fn check_test(alloc: Global, cells: &Cells, next: u32, test: &Expr) -> Result<u32, CheckFault>
     requires { Fits next (marks_of_expression (opening regions.Test cells.now) (expression_of test.now)) }
-    ensures { Passes result next (marks_of_expression (opening regions.Test cells.now) (expression_of test.now)) }
+    ensures { PassesMarks result next (marks_of_expression (opening regions.Test cells.now) (expression_of test.now)) }
 {
     check_expression(&Scope::opening(alloc, Region::Test, cells), next, test)
 }
@@ -55,7 +55,7 @@ fn check_marks(alloc: Global, program: &Program) -> Result<u32, CheckFault>
     ensures total { IfOk result (λ total. total ≡ cell_total program.now.cells) }
     ensures few { IfOk result (λ total. total ≤ 65536) }
     ensures ok { OnOk result (first_fault 0 (marks_of (tree_of program.now)) ≡ None) }
-    ensures err { IfErr result (λ fault. Tells fault (first_fault 0 (marks_of (tree_of program.now)))) }
+    ensures err { IfErr result (λ fault. IsFirstFaultOf fault (first_fault 0 (marks_of (tree_of program.now)))) }
 {
     let cells = Cells::of(alloc, program.cells.as_slice())?;
     let next = cells.len() as u32;
@@ -72,9 +72,9 @@ pub fn check(alloc: Global, program: Program) -> Result<Checked, CheckFault>
     requires spellable { IsSpellable (tree_of program) }
     ensures program { IfOk result (λ checked. checked ≡ program) }
     ensures ok { OnOk result (fault_of (tree_of program) ≡ None) }
-    ensures err { IfErr result (λ fault. Tells fault (fault_of (tree_of program))) }
+    ensures err { IfErr result (λ fault. IsFirstFaultOf fault (fault_of (tree_of program))) }
 {
-    if let Some(which) = limit_out(&program.limits) {
+    if let Some(which) = first_limit_out(&program.limits) {
         return Err(CheckFault::LimitOut(which));
     }
     let total = check_marks(alloc, &program)?;

@@ -1,9 +1,9 @@
-//! What is known at a place of a program's text.
+//! What is known mark_at a place of a program's text.
 
 ghost use Rattle.std.specs.Prelude.{◌≡◌, ◌<◌, ◌∷◌, [], OnOk, length, take};
-ghost use Rattle.pipe_check.specs.Passing.{Passes};
-ghost use Rattle.pipe_model.specs.Marks.{DeclaredLocal, Indexed, IterWord, Plain, StageWord, at, opening, with_local};
-ghost use Rattle.pipe_model.specs.CheckingRules.{is_among};
+ghost use Rattle.pipe_check.specs.Passing.{PassesMarks};
+ghost use Rattle.pipe_model.specs.Language.Marks.{DeclaredLocal, Indexed, IterWord, Plain, StageWord, mark_at, opening, after_let};
+ghost use Rattle.pipe_model.specs.Language.CheckingRules.{is_among};
 
 use crate::cells::Cells;
 use crate::fault::CheckFault;
@@ -16,7 +16,7 @@ use std::marker::Model;
 /// The most `let` statements of `init`, of the loop's body and of `final`.
 const MOST_LOCALS: usize = 64;
 
-/// What is known at a place of a program's text: its region, the cells, the locals in scope, and the names of all the `let`
+/// What is known mark_at a place of a program's text: its region, the cells, the locals in scope, and the names of all the `let`
 /// statements of the region so far.
 #[derive(Drop)]
 pub struct Scope<'a, 'b> {
@@ -27,7 +27,7 @@ pub struct Scope<'a, 'b> {
 }
 
 impl<'a, 'b> Model for Scope<'a, 'b> {
-    ghost use Rattle.pipe_model.specs.Marks.{Scope as Known};
+    ghost use Rattle.pipe_model.specs.Language.Marks.{Scope as Known};
 
     ghost Value = { Known };
 
@@ -42,7 +42,7 @@ fn is_among(names: &[Name], name: &Name) -> bool
 }
 
 impl<'a, 'b> Scope<'a, 'b> {
-    /// What is known at the beginning of a region.
+    /// What is known mark_at the beginning of a region.
     pub fn opening(alloc: Global, region: Region, cells: &'a Cells<'b>) -> Self
         ensures { result ≡ opening region cells.now }
     {
@@ -57,7 +57,7 @@ impl<'a, 'b> Scope<'a, 'b> {
     /// The mark of a used name without an index.
     pub fn check_plain(&self, next: u32, name: &Name) -> Result<u32, CheckFault>
         requires { next < 4194304 }
-        ensures { Passes result next (at self.now (Plain name.now) ∷ []) }
+        ensures { PassesMarks result next (mark_at self.now (Plain name.now) ∷ []) }
     {
         if is_among(&self.visible, name) {
             return Ok(next + 1);
@@ -72,7 +72,7 @@ impl<'a, 'b> Scope<'a, 'b> {
     /// The mark of a used name with an index.
     pub fn check_indexed(&self, next: u32, name: &Name) -> Result<u32, CheckFault>
         requires { next < 4194304 }
-        ensures { Passes result next (at self.now (Indexed name.now) ∷ []) }
+        ensures { PassesMarks result next (mark_at self.now (Indexed name.now) ∷ []) }
     {
         if is_among(&self.visible, name) {
             return Err(CheckFault::NotAnArray(next));
@@ -87,7 +87,7 @@ impl<'a, 'b> Scope<'a, 'b> {
     /// The mark of `iter`.
     pub fn check_iter(&self, next: u32) -> Result<u32, CheckFault>
         requires { next < 4194304 }
-        ensures { Passes result next (at self.now IterWord ∷ []) }
+        ensures { PassesMarks result next (mark_at self.now IterWord ∷ []) }
     {
         match self.region {
             Region::Test | Region::Body => Ok(next + 1),
@@ -98,7 +98,7 @@ impl<'a, 'b> Scope<'a, 'b> {
     /// The mark of the word of a stage statement.
     pub fn check_stage(&self, next: u32) -> Result<u32, CheckFault>
         requires { next < 4194304 }
-        ensures { Passes result next (at self.now StageWord ∷ []) }
+        ensures { PassesMarks result next (mark_at self.now StageWord ∷ []) }
     {
         match self.region {
             Region::Body => Ok(next + 1),
@@ -111,7 +111,7 @@ impl<'a, 'b> Scope<'a, 'b> {
     /// The mark of the name that a `let` declares.
     pub fn check_local(&self, next: u32, name: &Name) -> Result<u32, CheckFault>
         requires { next < 4194304 }
-        ensures { Passes result next (at self.now (DeclaredLocal name.now) ∷ []) }
+        ensures { PassesMarks result next (mark_at self.now (DeclaredLocal name.now) ∷ []) }
     {
         if self.cells.size_of(name).is_some() || is_among(&self.lets, name) {
             return Err(CheckFault::Twice(next));
@@ -124,7 +124,7 @@ impl<'a, 'b> Scope<'a, 'b> {
 
     /// Brings a local into scope.
     pub fn declare(&mut self, alloc: Global, name: &Name) -> Result<(), NoMemory>
-        ensures { OnOk result (self.new ≡ with_local self.old name.now) }
+        ensures { OnOk result (self.new ≡ after_let self.old name.now) }
     {
         self.visible.push(Name::new(alloc, name.as_bytes())?)?;
         self.lets.push(Name::new(alloc, name.as_bytes())?)?;

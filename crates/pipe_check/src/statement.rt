@@ -1,9 +1,9 @@
 //! The marks of statements.
 
 ghost use Rattle.std.specs.Prelude.{◌≡◌, OnOk};
-ghost use Rattle.pipe_check.specs.Passing.{Fits, Passes};
-ghost use Rattle.pipe_model.specs.Marks.{after_block, after_statement, marks_of_statement, marks_of_statements};
-ghost use Rattle.pipe_model.specs.SyntaxTree.{Assign, AssignElement, Let, expression_of, stage_statement, statement_of, statements_of};
+ghost use Rattle.pipe_check.specs.Passing.{Fits, PassesMarks};
+ghost use Rattle.pipe_model.specs.Language.Marks.{after_block, after_statement, marks_of_statement, marks_of_statements};
+ghost use Rattle.pipe_model.specs.Language.SyntaxTree.{Assign, AssignElement, Let, expression_of, stage_statement, statement_of, statements_of};
 ghost use Rattle.pipe_model.specs.declared.node.Kind.TheVariants as kinds;
 
 use crate::expression::check_expression;
@@ -22,7 +22,7 @@ fn check_let(
     e: &Expr,
 ) -> Result<u32, CheckFault>
     requires fits { Fits next (marks_of_statement scope.old (Let name.now (expression_of e.now))) }
-    ensures marks { Passes result next (marks_of_statement scope.old (Let name.now (expression_of e.now))) }
+    ensures marks { PassesMarks result next (marks_of_statement scope.old (Let name.now (expression_of e.now))) }
     ensures behind { OnOk result (scope.new ≡ after_statement scope.old (Let name.now (expression_of e.now))) }
 {
     let next = scope.check_local(next, name)?;
@@ -34,7 +34,7 @@ fn check_let(
 // an assignment to a local or a plain cell
 fn check_assign(scope: &Scope, next: u32, name: &Name, e: &Expr) -> Result<u32, CheckFault>
     requires fits { Fits next (marks_of_statement scope.now (Assign name.now (expression_of e.now))) }
-    ensures { Passes result next (marks_of_statement scope.now (Assign name.now (expression_of e.now))) }
+    ensures { PassesMarks result next (marks_of_statement scope.now (Assign name.now (expression_of e.now))) }
 {
     let next = scope.check_plain(next, name)?;
     check_expression(scope, next, e)
@@ -49,7 +49,7 @@ fn check_element(
     e: &Expr,
 ) -> Result<u32, CheckFault>
     requires fits { Fits next (marks_of_statement scope.now (AssignElement name.now (expression_of i.now) (expression_of e.now))) }
-    ensures { Passes result next (marks_of_statement scope.now (AssignElement name.now (expression_of i.now) (expression_of e.now))) }
+    ensures { PassesMarks result next (marks_of_statement scope.now (AssignElement name.now (expression_of i.now) (expression_of e.now))) }
 {
     let next = scope.check_indexed(next, name)?;
     let next = check_expression(scope, next, i)?;
@@ -59,7 +59,7 @@ fn check_element(
 // a stage statement, with or without a number
 fn check_stage(scope: &Scope, next: u32, number: &Option<Expr>) -> Result<u32, CheckFault>
     requires fits { Fits next (marks_of_statement scope.now (stage_statement kinds.Wait number.now)) }
-    ensures { Passes result next (marks_of_statement scope.now (stage_statement kinds.Wait number.now)) }
+    ensures { PassesMarks result next (marks_of_statement scope.now (stage_statement kinds.Wait number.now)) }
 {
     let next = scope.check_stage(next)?;
     match number {
@@ -73,7 +73,7 @@ fn check_stage(scope: &Scope, next: u32, number: &Option<Expr>) -> Result<u32, C
 #[cycle(walk)]
 fn check_statement(alloc: Global, scope: &mut Scope, next: u32, s: &Stmt) -> Result<u32, CheckFault>
     requires fits { Fits next (marks_of_statement scope.old (statement_of s.now)) }
-    ensures marks { Passes result next (marks_of_statement scope.old (statement_of s.now)) }
+    ensures marks { PassesMarks result next (marks_of_statement scope.old (statement_of s.now)) }
     ensures behind { OnOk result (scope.new ≡ after_statement scope.old (statement_of s.now)) }
 {
     match s {
@@ -105,7 +105,7 @@ pub fn check_block(
     block: &Block,
 ) -> Result<u32, CheckFault>
     requires fits { Fits next (marks_of_statements scope.old (statements_of block.now.statements.items)) }
-    ensures marks { Passes result next (marks_of_statements scope.old (statements_of block.now.statements.items)) }
+    ensures marks { PassesMarks result next (marks_of_statements scope.old (statements_of block.now.statements.items)) }
     ensures behind { OnOk result (scope.new ≡ after_block scope.old (statements_of block.now.statements.items)) }
 {
     let visible = scope.visible_len();

@@ -4,8 +4,8 @@
 
 ghost use Rattle.std.specs.Prelude.{◌≡◌, All, IfOk, length};
 ghost use Rattle.pipe_check.specs.Samples.{AreSmall};
-ghost use Rattle.pipe_model.specs.SpellablePrograms.{HasNoNegativeSize, IsSpellable};
-ghost use Rattle.pipe_model.specs.SyntaxTree.{statements_of, tree_of};
+ghost use Rattle.pipe_model.specs.Language.SpellablePrograms.{HasNoNegativeSize, IsSpellable};
+ghost use Rattle.pipe_model.specs.Language.SyntaxTree.{statements_of, tree_of};
 ghost use Rattle.pipe_model.specs.declared.tree.Declaration.{Declaration as Declared};
 
 use crate::fault::CheckFault;

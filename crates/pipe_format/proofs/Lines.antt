@@ -3,8 +3,8 @@ use Rattle.std.proofs.Common.{◌≡◌, ◌∙◌, ap, sym, ℕ, ◌+◌, ◌<�
 use Rattle.std.proofs.lemmas.Bool.Decides.{nat_tests}
 use Rattle.std.proofs.lemmas.List.{append-nil, at_drop_more}
 use Rattle.pipe_model.specs.declared.tree.Stmt.{Stmt}
-use Rattle.pipe_model.specs.CanonicalText.{else_text, expression_text, line, statement_text, statements_text}
-use Rattle.pipe_model.specs.SyntaxTree.{Expression, If, While, Statements, statement_of, statements_of}
+use Rattle.pipe_model.specs.Language.CanonicalText.{else_text, expression_text, line, statement_text, statements_text}
+use Rattle.pipe_model.specs.Language.SyntaxTree.{Expression, If, While, Statements, statement_of, statements_of}
 
 -- what follows from a fact of an answer without error holds of that answer too
 pub on_ok : {A E P Q : Type 0} (r : Result A E) → (P → Q) → OnOk r P → OnOk r Q

@@ -3,8 +3,8 @@ use Rattle.std.proofs.Common.{◌≡◌, ℕ, ◌<◌, List, [], ◌∷◌, ◌+
 use Rattle.std.specs.Fmt.{signed_decimal}
 use Rattle.pipe_model.specs.declared.tree.Limits.{Limits}
 use Rattle.pipe_model.specs.declared.tree.Stmt.{Stmt}
-use Rattle.pipe_model.specs.CanonicalText.{expression_text, limits_text, line, loop_text, part_text, statements_text}
-use Rattle.pipe_model.specs.SyntaxTree.{Expression, Statements, statements_of}
+use Rattle.pipe_model.specs.Language.CanonicalText.{expression_text, limits_text, line, loop_text, part_text, statements_text}
+use Rattle.pipe_model.specs.Language.SyntaxTree.{Expression, Statements, statements_of}
 
 -- the line of limits, field after field
 pub limits_by_parts : (limits : Limits) (before one two three four end : List ℕ)

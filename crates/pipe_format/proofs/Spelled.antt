@@ -1,9 +1,9 @@
 -- The text of a program spells it as sources do.
 use Rattle.std.proofs.Common.{◌≡◌, sym, subst, ℕ, ◌≤◌, List, length}
-use Rattle.pipe_model.specs.CanonicalText.{program_text}
-use Rattle.pipe_model.specs.SourceSpelling.{SourceSpells}
-use Rattle.pipe_model.specs.SyntaxTree.{SyntaxTree}
-use Rattle.pipe_model.proofs.CanonicalSpelling.{canonical_spells}
+use Rattle.pipe_model.specs.Language.CanonicalText.{program_text}
+use Rattle.pipe_model.specs.Language.SourceSpelling.{SourceSpells}
+use Rattle.pipe_model.specs.Language.SyntaxTree.{SyntaxTree}
+use Rattle.grammar_laws.proofs.CanonicalSpelling.{canonical_spells}
 use Rattle.pipe_format.specs.TextLaws.{SpellsAsSources}
 
 pub spells_as_sources : (tree : SyntaxTree) (text : List ℕ) → text ≡ program_text tree → SpellsAsSources tree text

@@ -1,2 +1,2 @@
-pub mod Examples
 pub mod TextLaws
+pub mod FormatExamples

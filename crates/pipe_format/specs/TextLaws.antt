@@ -1,8 +1,8 @@
 -- What the text of a program has to do with sources that spell the program.
 use Rattle.std.specs.Prelude.{◌≡◌, ℕ, ◌≤◌, List, length}
-use Rattle.pipe_model.specs.CanonicalText.{program_text}
-use Rattle.pipe_model.specs.SourceSpelling.{SourceSpells}
-use Rattle.pipe_model.specs.SyntaxTree.{SyntaxTree}
+use Rattle.pipe_model.specs.Language.CanonicalText.{program_text}
+use Rattle.pipe_model.specs.Language.SourceSpelling.{SourceSpells}
+use Rattle.pipe_model.specs.Language.SyntaxTree.{SyntaxTree}
 
 -- the text spells the program, if some source does and the text is not too long for a source
 abbrev pub SpellsAsSources : SyntaxTree → List ℕ → Type 0

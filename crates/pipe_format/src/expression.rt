@@ -1,9 +1,9 @@
 //! The text of expressions.
 
 ghost use Rattle.std.specs.Prelude.{◌≡◌, ◌+◌, ◌++◌, codes, OnOk};
-ghost use Rattle.pipe_model.specs.CanonicalText.{at_level, expression_text, level_in, one_place_text, operator_text, tightest};
-ghost use Rattle.pipe_model.specs.SyntaxTree.{expression_of};
-ghost use Rattle.pipe_model.specs.Grammar.{level_of};
+ghost use Rattle.pipe_model.specs.Language.CanonicalText.{at_level, expression_text, level_in, one_place_text, operator_text, tightest};
+ghost use Rattle.pipe_model.specs.Language.SyntaxTree.{expression_of};
+ghost use Rattle.pipe_model.specs.Language.Grammar.{level_of};
 
 use crate::text::push_number;
 use pipe_model::memory::NoMemory;

@@ -2,9 +2,9 @@
 //! the examples.
 
 ghost use Rattle.std.specs.Prelude.{◌≡◌};
-ghost use Rattle.pipe_format.specs.Examples.{BlocksAreIndented, HaveTexts, bare_loop, bare_loop_text, brackets, operands, sums, sums_text};
+ghost use Rattle.pipe_format.specs.FormatExamples.{BlocksAreIndented, HaveTexts, bare_loop, bare_loop_text, brackets, operands, sums, sums_text};
 ghost use Rattle.pipe_format.specs.TextLaws.{ReadingsHaveTheSameText};
-ghost use Rattle.pipe_model.specs.CanonicalText.{program_text};
+ghost use Rattle.pipe_model.specs.Language.CanonicalText.{program_text};
 
 /// The text of a program that some source spells is the text of the program that is read from it.
 pub fn readings_have_the_same_text()

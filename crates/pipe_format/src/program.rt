@@ -3,9 +3,9 @@
 ghost use Rattle.std.specs.Prelude.{◌≡◌, ◌++◌, IfOk, OnOk};
 ghost use Rattle.std.specs.Fmt.{signed_decimal};
 ghost use Rattle.std.specs.List.{flat_map};
-ghost use Rattle.pipe_model.specs.CanonicalText.{cell_text, limits_text, loop_text, part_text, program_text, size_text};
+ghost use Rattle.pipe_model.specs.Language.CanonicalText.{cell_text, limits_text, loop_text, part_text, program_text, size_text};
 ghost use Rattle.pipe_format.specs.TextLaws.{SpellsAsSources};
-ghost use Rattle.pipe_model.specs.SyntaxTree.{expression_of, statements_of, tree_of};
+ghost use Rattle.pipe_model.specs.Language.SyntaxTree.{expression_of, statements_of, tree_of};
 
 use crate::statement::{push_between, push_block};
 use crate::text::{push_line, push_number};

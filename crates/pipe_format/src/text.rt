@@ -2,7 +2,7 @@
 
 ghost use Rattle.std.specs.Prelude.{◌≡◌, ◌++◌, OnOk, replicate};
 ghost use Rattle.std.specs.Fmt.{signed_decimal};
-ghost use Rattle.pipe_model.specs.CanonicalText.{line};
+ghost use Rattle.pipe_model.specs.Language.CanonicalText.{line};
 
 use pipe_model::memory::NoMemory;
 use std::io::Write;

@@ -8,16 +8,16 @@ use Rattle.std.proofs.lemmas.List.{take-append-drop}
 use Rattle.std.proofs.Math.Seq.{take-append_seam}
 use Rattle.std.proofs.lemmas.Slice.Eq.{bytes_eq-Decides}
 use Rattle.pipe_model.specs.declared.token.Token.{Token}
-use Rattle.pipe_model.specs.Lexis.{is_blank, is_digit, is_letter, is_name_byte, is_sign, number_of}
-use Rattle.pipe_model.specs.Tokens.{begins_comment, HasFault, LexicalFault, IsTooLong}
+use Rattle.pipe_model.specs.Language.Lexis.{is_blank, is_digit, is_letter, is_name_byte, is_sign, number_of}
+use Rattle.pipe_model.specs.Language.Tokens.{begins_comment, HasFault, LexicalFault, IsTooLong}
 use Rattle.op_table.specs.declared.operators.TheConstants.{OPS}
 use Rattle.op_table.specs.declared.table.OpRow.{OpRow}
-use Rattle.op_table.specs.Tables.{text_of, IsBest, IsFront, Outdoes}
+use Rattle.op_table.specs.Tables.{text_of, IsBest, StartsWith, Outdoes}
 use Rattle.op_table.proofs.BestRows.{takes, keeps}
 use Rattle.pipe_lexer.specs.declared.piece.Flaw.{Flaw}
 use Rattle.pipe_lexer.specs.declared.piece.Flaw.TheVariants as flaws
 use Rattle.pipe_lexer.specs.declared.piece.Piece.{Piece}
-use Rattle.pipe_lexer.specs.Law.{IsLexedOrHasFault}
+use Rattle.pipe_lexer.specs.LexingLaw.{IsLexedOrHasFault}
 use Rattle.pipe_lexer.specs.Pieces.{length_of, tokens_of, BeginsPunctuation, IsFlaw, IsPiece, ABlank}
 use Rattle.pipe_lexer.proofs.PieceLaws.{comment_piece, name_flaw, name_piece, number_flaw, number_piece, word_piece, word_place}
 use Rattle.pipe_lexer.proofs.Punctuation.{nothing_stands, operator_piece, sign_piece}
@@ -26,10 +26,10 @@ use Rattle.pipe_lexer.proofs.ScanLaws.{at_end, at_flaw, at_start, past_piece, pi
 -- ---- the longest symbol of a table
 
 -- bytes begin with a text or not
-front_or_not : (text bytes : List ℕ) → IsFront text bytes ⊎ (IsFront text bytes → ⊥)
+front_or_not : (text bytes : List ℕ) → StartsWith text bytes ⊎ (StartsWith text bytes → ⊥)
 front_or_not text bytes = by_test (bytes_eq (take (length text) bytes) text) refl
   where
-    by_test : (b : Bool) → bytes_eq (take (length text) bytes) text ≡ b → IsFront text bytes ⊎ (IsFront text bytes → ⊥)
+    by_test : (b : Bool) → bytes_eq (take (length text) bytes) text ≡ b → StartsWith text bytes ⊎ (StartsWith text bytes → ⊥)
     by_test true e =
         let same = (bytes_eq-Decides (take (length text) bytes) text).0 e in
         inl (drop (length text) bytes, sym (take-append-drop (length text) bytes) ∙ ap (λ x. x ++ drop (length text) bytes) same)
@@ -46,7 +46,7 @@ outdoes_or_not row (Some other) = elim (cases_lt (length (text_of other)) (lengt
 one_more_row : (seen : List OpRow) (bytes : List ℕ) (best : Option OpRow) (row : OpRow) → IsBest seen bytes best → (other : Option OpRow) × IsBest (seen ++ row ∷ []) bytes other
 one_more_row seen bytes best row h = by_both (front_or_not (text_of row) bytes) (outdoes_or_not row best)
   where
-    by_both : IsFront (text_of row) bytes ⊎ (IsFront (text_of row) bytes → ⊥) → Outdoes row best ⊎ (Outdoes row best → ⊥)
+    by_both : StartsWith (text_of row) bytes ⊎ (StartsWith (text_of row) bytes → ⊥) → Outdoes row best ⊎ (Outdoes row best → ⊥)
         → (other : Option OpRow) × IsBest (seen ++ row ∷ []) bytes other
     by_both (inl front) (inl out) = (Some row, takes seen bytes best row h front out)
     by_both (inl front) (inr not_out) = (best, keeps seen bytes best row h (λ front out. not_out out))

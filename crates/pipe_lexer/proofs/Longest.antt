@@ -4,7 +4,7 @@ use Rattle.std.specs.List.{list_all, prefix_len}
 use Rattle.std.proofs.lemmas.List.Folds.{list_all-append}
 use Rattle.pipe_model.specs.declared.symbol.Symbol.{Symbol}
 use Rattle.pipe_model.specs.declared.symbol.Symbol.TheVariants as symbols
-use Rattle.pipe_model.specs.Lexis.{is_letter, is_digit, is_name_byte, number_of, punctuation_symbol, symbol_of, word_symbol, IsLongest}
+use Rattle.pipe_model.specs.Language.Lexis.{is_letter, is_digit, is_name_byte, number_of, punctuation_symbol, symbol_of, word_symbol, IsLongest}
 
 -- a front that passes, of one more that passes
 one_more_passes : (p : ℕ → Bool) (x n : ℕ) (xs : List ℕ) → p x ≡ true → list_all p (take n xs) ≡ true → list_all p (take (1 + n) (x ∷ xs)) ≡ true

@@ -2,7 +2,7 @@
 use Rattle.std.proofs.Common.{◌≡◌, ◌∙◌, ℕ, ◌+◌, ◌-◌, ◌*◌, ◌<◌, ◌≤◌, ◌^◌, List, [], ◌∷◌, length, get_or, take, drop, fold, sym, ap, arith}
 use Rattle.std.proofs.lemmas.List.{take-append-drop}
 use Rattle.std.proofs.lemmas.List.Sums.{fold-append, fold_more}
-use Rattle.pipe_model.specs.Lexis.{number_of}
+use Rattle.pipe_model.specs.Language.Lexis.{number_of}
 
 -- one digit more
 abbrev with_digit : ℕ → ℕ → ℕ

@@ -9,8 +9,8 @@ use Rattle.std.proofs.lemmas.List.Sums.{prefix_len-le-length}
 use Rattle.pipe_model.specs.declared.symbol.Symbol.{Symbol}
 use Rattle.pipe_model.specs.declared.symbol.Symbol.TheVariants as symbols
 use Rattle.pipe_model.specs.declared.token.TokenKind.TheVariants as kinds
-use Rattle.pipe_model.specs.Lexis.{is_letter, is_digit, is_name_byte, number_of, reserved_words, symbol_of, word_or_name, word_symbol, IsLongest}
-use Rattle.pipe_model.specs.Tokens.{begins_comment, is_line_feed, kind_of, BeginsWith, EndsComment, IsKindWithinBounds, IsToken}
+use Rattle.pipe_model.specs.Language.Lexis.{is_letter, is_digit, is_name_byte, number_of, reserved_words, symbol_of, word_or_name, word_symbol, IsLongest}
+use Rattle.pipe_model.specs.Language.Tokens.{begins_comment, is_line_feed, kind_of, BeginsWith, EndsComment, IsKindWithinBounds, IsToken}
 use Rattle.pipe_lexer.specs.declared.piece.Flaw.TheVariants as flaws
 use Rattle.pipe_lexer.specs.declared.piece.Piece.TheVariants as pieces
 use Rattle.pipe_lexer.specs.Pieces.{IsFlaw, IsPiece, AComment, AToken, NameIsLong, NumberIsWide}

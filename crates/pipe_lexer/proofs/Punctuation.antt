@@ -7,11 +7,11 @@ use Rattle.std.proofs.lemmas.List.Elements.{All-contains}
 use Rattle.pipe_model.specs.declared.symbol.Symbol.{Symbol}
 use Rattle.pipe_model.specs.declared.symbol.Symbol.TheVariants as symbols
 use Rattle.pipe_model.specs.declared.token.TokenKind.TheVariants as kinds
-use Rattle.pipe_model.specs.Lexis.{is_sign, operators, operator_or_sign, punctuation_symbol, symbol_of, IsLongest}
-use Rattle.pipe_model.specs.Tokens.{begins_comment, IsToken}
+use Rattle.pipe_model.specs.Language.Lexis.{is_sign, operators, operator_or_sign, punctuation_symbol, symbol_of, IsLongest}
+use Rattle.pipe_model.specs.Language.Tokens.{begins_comment, IsToken}
 use Rattle.op_table.specs.declared.operators.TheConstants.{OPS}
 use Rattle.op_table.specs.declared.table.OpRow.{OpRow}
-use Rattle.op_table.specs.Tables.{text_of, HasLongest, HasNoSymbol, IsFront, IsLongest as IsLongestRow}
+use Rattle.op_table.specs.Tables.{text_of, HasLongest, HasNoSymbol, StartsWith, IsLongestMatch as IsLongestRow}
 use Rattle.op_table.proofs.OperatorSymbols.{at_row, operator_row, row_symbol, IsOperator}
 use Rattle.pipe_lexer.specs.declared.piece.Flaw.TheVariants as flaws
 use Rattle.pipe_lexer.specs.declared.piece.Piece.TheVariants as pieces
@@ -75,14 +75,14 @@ some_more [] n = absurd (n refl)
 some_more (c ∷ more) n = omega arith
 
 -- no row's symbol is a longer front than the longest
-not_longer : (rows : List OpRow) (bytes : List ℕ) (row other : OpRow) → IsLongestRow rows bytes row → Contains rows other → IsFront (text_of other) bytes
+not_longer : (rows : List OpRow) (bytes : List ℕ) (row other : OpRow) → IsLongestRow rows bytes row → Contains rows other → StartsWith (text_of other) bytes
     → length (text_of other) ≤ length (text_of row)
 not_longer rows bytes row other h among front =
-    All-contains (λ other. IsFront (text_of other) bytes → length (text_of other) ≤ length (text_of row)) rows other h.longest among front
+    All-contains (λ other. StartsWith (text_of other) bytes → length (text_of other) ≤ length (text_of row)) rows other h.longest among front
 
 -- no row's symbol is a front where none is
-no_front : (rows : List OpRow) (bytes : List ℕ) (row : OpRow) → HasNoSymbol rows bytes → Contains rows row → IsFront (text_of row) bytes → ⊥
-no_front rows bytes row h among front = All-contains (λ other. IsFront (text_of other) bytes → ⊥) rows row h among front
+no_front : (rows : List OpRow) (bytes : List ℕ) (row : OpRow) → HasNoSymbol rows bytes → Contains rows row → StartsWith (text_of row) bytes → ⊥
+no_front rows bytes row h among front = All-contains (λ other. StartsWith (text_of other) bytes → ⊥) rows row h among front
 
 -- ---- operators
 

@@ -3,7 +3,7 @@ use Rattle.std.proofs.Common.{◌≡◌, ◌∙◌, ap, sym, subst, ℕ, ◌+◌
 use Rattle.std.proofs.lemmas.List.{drop-drop, take-append-drop}
 use Rattle.std.proofs.lemmas.List.Elements.{All-push}
 use Rattle.pipe_model.specs.declared.token.Token.{Token}
-use Rattle.pipe_model.specs.Tokens.{kind_of, token_at, IsLexed, IsReached, IsTokenWithinBounds, HasBadByte, HasLongName, HasWideNumber, Scans, Stops, Blank, Comment, Taken}
+use Rattle.pipe_model.specs.Language.Tokens.{kind_of, token_at, IsLexed, IsReached, IsTokenWithinBounds, HasBadByte, HasLongName, HasWideNumber, Scans, Stops, Blank, Comment, Taken}
 use Rattle.pipe_lexer.specs.declared.piece.Flaw.{Flaw}
 use Rattle.pipe_lexer.specs.declared.piece.Piece.{Piece}
 use Rattle.pipe_lexer.specs.Faults.{fault_at, IsFaultOf}

@@ -1,6 +1,6 @@
 -- Faults as the lexer answers them.
 use Rattle.std.specs.Prelude.{ℕ, List}
-use Rattle.pipe_model.specs.Tokens.{HasFault, BadByte, TooWide, SourceTooLong, NameTooLong}
+use Rattle.pipe_model.specs.Language.Tokens.{HasFault, BadByte, TooWide, SourceTooLong, NameTooLong}
 use Rattle.pipe_lexer.specs.declared.fault.LexFault.{LexFault}
 use Rattle.pipe_lexer.specs.declared.fault.LexFault.TheVariants as faults
 use Rattle.pipe_lexer.specs.declared.piece.Flaw.{Flaw}

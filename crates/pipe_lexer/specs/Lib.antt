@@ -1,3 +1,3 @@
 pub mod Faults
-pub mod Law
 pub mod Pieces
+pub mod LexingLaw

@@ -1,7 +1,7 @@
 -- What stands at the front of bytes, and what may be wrong there.
 use Rattle.std.specs.Prelude.{◌≡◌, ℕ, ◌<◌, ◌≤◌, ◌^◌, pos, true, false, List, [], ◌∷◌, length, take, drop, slice_index_or}
-use Rattle.pipe_model.specs.Lexis.{is_blank, is_digit, is_letter, operators}
-use Rattle.pipe_model.specs.Tokens.{begins_comment, kind_of, BeginsNothing, BeginsWith, IsComment, IsKindWithinBounds, IsToken}
+use Rattle.pipe_model.specs.Language.Lexis.{is_blank, is_digit, is_letter, operators}
+use Rattle.pipe_model.specs.Language.Tokens.{begins_comment, kind_of, BeginsNothing, BeginsWith, IsComment, IsKindWithinBounds, IsToken}
 use Rattle.pipe_model.specs.declared.symbol.Symbol.{Symbol}
 use Rattle.pipe_model.specs.declared.symbol.Symbol.TheVariants as symbols
 use Rattle.pipe_model.specs.declared.token.Token.{Token}

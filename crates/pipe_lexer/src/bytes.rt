@@ -2,8 +2,8 @@
 
 ghost use Rattle.std.specs.List.{prefix_len};
 ghost use Rattle.std.specs.Prelude.{◌≡◌, ◌≤◌, length, not};
-ghost use Rattle.pipe_model.specs.Lexis.{is_blank, is_digit, is_letter, is_name_byte, is_sign};
-ghost use Rattle.pipe_model.specs.Tokens.{begins_comment, is_line_feed};
+ghost use Rattle.pipe_model.specs.Language.Lexis.{is_blank, is_digit, is_letter, is_name_byte, is_sign};
+ghost use Rattle.pipe_model.specs.Language.Tokens.{begins_comment, is_line_feed};
 
 /// Whether the byte is a space, a tab, a carriage return or a line feed.
 pub fn is_blank(b: u8) -> bool

@@ -1,7 +1,7 @@
 //! The values of numbers.
 
 ghost use Rattle.std.specs.Prelude.{◌≡◌, ◌≤◌, ◌^◌, IfNone, IfSome, pos};
-ghost use Rattle.pipe_model.specs.Lexis.{number_of};
+ghost use Rattle.pipe_model.specs.Language.Lexis.{number_of};
 
 /// The number that digits write; `None` where it is above 9223372036854775807.
 pub fn number_value(digits: &[u8]) -> Option<i64>

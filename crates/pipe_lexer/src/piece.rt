@@ -1,7 +1,7 @@
 //! What stands at the front of bytes: a blank, a comment or a token.
 
 ghost use Rattle.std.specs.Prelude.{◌≡◌, ◌∷◌, IfErr, IfOk, true, false};
-ghost use Rattle.pipe_model.specs.Lexis.{is_digit, is_letter};
+ghost use Rattle.pipe_model.specs.Language.Lexis.{is_digit, is_letter};
 ghost use Rattle.pipe_lexer.specs.Pieces.{BeginsPunctuation, IsFlaw, IsPiece, length_of, operator_length};
 
 use crate::bytes::{

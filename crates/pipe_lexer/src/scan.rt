@@ -1,7 +1,7 @@
 //! The tokens of a whole source.
 
 ghost use Rattle.std.specs.Prelude.{◌≡◌, ◌≤◌, ◌++◌, IfErr, IfOk, OnOk};
-ghost use Rattle.pipe_model.specs.Tokens.{IsLexed};
+ghost use Rattle.pipe_model.specs.Language.Tokens.{IsLexed};
 ghost use Rattle.pipe_lexer.specs.Pieces.{length_of, tokens_of};
 ghost use Rattle.pipe_lexer.specs.Faults.{fault_at, IsFaultOf};
 

@@ -2,7 +2,7 @@
 
 ghost use Rattle.std.specs.Prelude.{◌≡◌, ◌<◌, [], IfSome, length, position, slice_index_or};
 ghost use Rattle.std.specs.Str.{bytes_eq};
-ghost use Rattle.pipe_model.specs.Lexis.{reserved_words};
+ghost use Rattle.pipe_model.specs.Language.Lexis.{reserved_words};
 
 const RESERVED_WORDS: [&[u8]; 22] = [
     b"version",

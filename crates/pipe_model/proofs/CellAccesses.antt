@@ -1,6 +1,6 @@
 -- The accesses to a cell among those of a run: which access stands at a place, and at which place an access stands.
-use Rattle.pipe_model.specs.CellRaces.{NotedAccess, access_at, accesses_to, noted_access}
-use Rattle.pipe_model.specs.Races.{Among, Here, Later}
+use Rattle.pipe_model.specs.Races.CellRaces.{NotedAccess, access_at, accesses_to, noted_access}
+use Rattle.pipe_model.specs.Races.DeterminacyRaces.{Among, Here, Later}
 use Rattle.pipe_model.specs.declared.access.CellId.{CellId}
 use Rattle.pipe_model.specs.declared.access.NodeAccess.{NodeAccess}
 use Rattle.pipe_model.proofs.Members.{among_right}

@@ -1,6 +1,6 @@
 -- What is among the elements of a list.
 use Rattle.std.proofs.Common.{List, ◌++◌, [], ◌∷◌, ◌⊎◌, inr, inl, ◌≡◌, refl, ℕ, zero, suc, ◌<◌, length, get_or, arith}
-use Rattle.pipe_model.specs.Races.{Among, Here, Later}
+use Rattle.pipe_model.specs.Races.DeterminacyRaces.{Among, Here, Later}
 
 -- an element of the first list is among both
 pub among_left : {A : Type 0} (x : A) (xs ys : List A) → Among x xs → Among x (xs ++ ys)

@@ -5,7 +5,7 @@ use Rattle.pipe_model.specs.declared.tree.Block.{Block}
 use Rattle.pipe_model.specs.declared.tree.Expr.{Expr}
 use Rattle.pipe_model.specs.declared.tree.Stmt.{Stmt, Row_of-Stmt, end_of-Stmt, more_of-Stmt, items-the_row-Stmt, items_hidden-the_row-Stmt-0}
 use Rattle.pipe_model.specs.declared.tree.Stmt.TheVariants as stmts
-use Rattle.pipe_model.specs.SyntaxTree.{Then, If, While, expression_of, statement_of, statements_in, statements_of}
+use Rattle.pipe_model.specs.Language.SyntaxTree.{Then, If, While, expression_of, statement_of, statements_in, statements_of}
 
 row_statements : {m : _} (row : Row_of-Stmt m) → statements_in row ≡ statements_of (items-the_row-Stmt _ row)
 row_statements end_of-Stmt = refl

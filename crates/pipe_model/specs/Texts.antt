@@ -11,10 +11,10 @@ use Rattle.pipe_model.specs.declared.trap.Trap.TheVariants as traps
 use Rattle.pipe_model.specs.declared.trap.TrapAt.{TrapAt}
 use Rattle.pipe_model.specs.declared.trap.TrapPlace.{TrapPlace}
 use Rattle.pipe_model.specs.declared.trap.TrapPlace.TheVariants as places
-use Rattle.pipe_model.specs.CheckingRules as checking
-use Rattle.pipe_model.specs.SourceRefusals.{Refusal, Lexical, Syntactic, LimitOut, RuleBroken}
-use Rattle.pipe_model.specs.Spelling as grammar
-use Rattle.pipe_model.specs.Tokens.{LexicalFault, BadByte, TooWide, SourceTooLong, NameTooLong}
+use Rattle.pipe_model.specs.Language.CheckingRules as checking
+use Rattle.pipe_model.specs.Language.SourceRefusals.{Refusal, Lexical, Syntactic, LimitOut, RuleBroken}
+use Rattle.pipe_model.specs.Language.Spelling as grammar
+use Rattle.pipe_model.specs.Language.Tokens.{LexicalFault, BadByte, TooWide, SourceTooLong, NameTooLong}
 
 -- one line for each emitted number
 abbrev pub output_lines : List ℤ → List ℕ
@@ -82,13 +82,13 @@ lexical_line SourceTooLong = codes "refused source SourceTooLong\n"
 lexical_line (NameTooLong place) = numbered_line (codes "refused source NameTooLong at ") place
 
 -- the line for a token that breaks a rule of the grammar
-abbrev pub syntax_line : grammar.Rule → ℕ → List ℕ
+abbrev pub syntax_line : grammar.GrammarRule → ℕ → List ℕ
 syntax_line grammar.Expected place = numbered_line (codes "refused source Unexpected at ") place
 syntax_line grammar.Shallow place = numbered_line (codes "refused source TooDeep at ") place
 syntax_line grammar.Short place = numbered_line (codes "refused source TooLong at ") place
 
 -- the line for a mark that breaks a rule of programs
-abbrev pub rule_line : checking.Rule → ℕ → List ℕ
+abbrev pub rule_line : checking.CheckingRule → ℕ → List ℕ
 rule_line checking.Unknown place = numbered_line (codes "refused check Unknown at ") place
 rule_line checking.Twice place = numbered_line (codes "refused check Twice at ") place
 rule_line checking.PipeOutside place = numbered_line (codes "refused check PipeOutside at ") place

@@ -3,8 +3,8 @@ use Rattle.std.proofs.Common.{◌≡◌, ℕ, ◌+◌, ◌-◌, ◌<◌, ◌≤�
 use Rattle.std.specs.List.{count_by}
 use Rattle.std.proofs.lemmas.List.Sums.{count_by-le-length}
 use Rattle.pipe_model.specs.declared.symbol.Symbol.{Symbol}
-use Rattle.pipe_model.specs.Spelling.{is_opening, is_closing, IsShallow}
-use Rattle.pipe_model.proofs.OpenBrackets.{count_one_more, shallow_more, no_symbols_shallow}
+use Rattle.pipe_model.specs.Language.Spelling.{is_opening_bracket, is_closing_bracket, IsShallow}
+use Rattle.grammar_laws.proofs.OpenBrackets.{count_one_more, shallow_more, no_symbols_shallow}
 use Rattle.pipe_parser.specs.Depths.{OpensTooMany}
 
 -- the symbols before the rest are shallow, and so many of them open and close
@@ -12,8 +12,8 @@ pub record Counted (all rest : List Symbol) (opened closed : ℕ) : Type 0 where
   pub before : List Symbol
   pub split : all ≡ before ++ rest
   pub shallow : IsShallow before
-  pub opens : opened ≡ count_by is_opening before
-  pub closes : closed ≡ count_by is_closing before
+  pub opens : opened ≡ count_by is_opening_bracket before
+  pub closes : closed ≡ count_by is_closing_bracket before
 
 -- before all symbols
 pub counted_none : (all : List Symbol) → Counted all all 0 0
@@ -26,11 +26,11 @@ opened_more p before t n m h i = i ∙ ap (λ x. x + cond (p t) 1 0) h ∙ sym (
 
 -- one symbol more
 pub counted_more : (all rest behind : List Symbol) (t : Symbol) (opened closed o c : ℕ) → Counted all rest opened closed → rest ≡ t ∷ behind
-    → o ≡ opened + cond (is_opening t) 1 0 → c ≡ closed + cond (is_closing t) 1 0 → o - c ≤ 64
+    → o ≡ opened + cond (is_opening_bracket t) 1 0 → c ≡ closed + cond (is_closing_bracket t) 1 0 → o - c ≤ 64
     → Counted all behind o c
 counted_more all rest behind t opened closed o c k h i j l =
-    let opens = opened_more is_opening k.before t opened o k.opens i in
-    let closes = opened_more is_closing k.before t closed c k.closes j in
+    let opens = opened_more is_opening_bracket k.before t opened o k.opens i in
+    let closes = opened_more is_closing_bracket k.before t closed c k.closes j in
     record {
       before = k.before ++ t ∷ [];
       split = k.split ∙ ap (λ x. k.before ++ x) h ∙ sym (append_assoc k.before (t ∷ []) behind);
@@ -41,11 +41,11 @@ counted_more all rest behind t opened closed o c k h i j l =
 
 -- the symbol with which too many are open
 pub counted_too_many : (all rest behind : List Symbol) (t : Symbol) (opened closed o c : ℕ) → Counted all rest opened closed → rest ≡ t ∷ behind
-    → o ≡ opened + cond (is_opening t) 1 0 → c ≡ closed + cond (is_closing t) 1 0 → 64 < o - c
+    → o ≡ opened + cond (is_opening_bracket t) 1 0 → c ≡ closed + cond (is_closing_bracket t) 1 0 → 64 < o - c
     → OpensTooMany all (length all - length behind)
 counted_too_many all rest behind t opened closed o c k h i j l =
-    let opens = opened_more is_opening k.before t opened o k.opens i in
-    let closes = opened_more is_closing k.before t closed c k.closes j in
+    let opens = opened_more is_opening_bracket k.before t opened o k.opens i in
+    let closes = opened_more is_closing_bracket k.before t closed c k.closes j in
     let many : length all ≡ length k.before + length rest = ap length k.split ∙ length-append k.before rest in
     record {
       before = k.before;
@@ -66,7 +66,7 @@ counted_all all rest opened closed k h =
 pub counted_within : (all rest : List Symbol) (opened closed : ℕ) → Counted all rest opened closed → (opened + length rest ≤ length all) × (closed + length rest ≤ length all)
 counted_within all rest opened closed k =
     let many : length all ≡ length k.before + length rest = ap length k.split ∙ length-append k.before rest in
-    (omega (arith, many, k.opens, count_by-le-length is_opening k.before), omega (arith, many, k.closes, count_by-le-length is_closing k.before))
+    (omega (arith, many, k.opens, count_by-le-length is_opening_bracket k.before), omega (arith, many, k.closes, count_by-le-length is_closing_bracket k.before))
 
 -- what is counted of one symbol is one at most
 pub one_at_most : (b : Bool) → cond b 1 0 ≤ 1

@@ -2,12 +2,12 @@
 use Rattle.std.proofs.Common.{◌≡◌, ◌≢◌, ℕ, zero, suc, ◌+◌, ◌-◌, List, [], ◌∷◌, ◌++◌, length, take, append_assoc, append-nil, refl, sym, arith, subst, ◌⊎◌, inl, inr}
 use Rattle.std.proofs.lemmas.Bool.{cases_eq, cases_lt}
 use Rattle.pipe_model.specs.declared.symbol.Symbol.{Symbol}
-use Rattle.pipe_model.specs.ProgramMachine.{Outside, Verdict, Accepted, Unexpected, TooLong, judge, program}
-use Rattle.pipe_model.specs.Spelling.{IsShallow, Expected, Shallow, Short, open_brackets}
-use Rattle.pipe_model.proofs.AcceptedPrograms.{accepted_spelled}
-use Rattle.pipe_model.proofs.OpenBrackets.{shallow_more, no_symbols_shallow}
+use Rattle.grammar_laws.specs.ProgramMachine.{Outside, Verdict, Accepted, Unexpected, TooLong, judge, program}
+use Rattle.pipe_model.specs.Language.Spelling.{IsShallow, Expected, Shallow, Short, open_brackets}
+use Rattle.grammar_laws.proofs.AcceptedPrograms.{accepted_spelled}
+use Rattle.grammar_laws.proofs.OpenBrackets.{shallow_more, no_symbols_shallow}
 use Rattle.pipe_parser.specs.Depths.{OpensTooMany}
-use Rattle.pipe_parser.specs.Law.{IsProgramOrFault}
+use Rattle.pipe_parser.specs.ParsingLaw.{IsProgramOrFault}
 use Rattle.pipe_parser.proofs.Parses.{shallow_unexpected, shallow_too_long, cut_unexpected, cut_too_long, cut_too_deep}
 
 -- no symbol opens too many brackets, or a first one does

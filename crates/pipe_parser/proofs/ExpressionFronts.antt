@@ -2,39 +2,39 @@
 use Rattle.std.proofs.Common.{◌≡◌, ℕ, ℤ, suc, List, [], ◌∷◌, ◌++◌, ap, ◌∙◌, ◌<◌, ◌≤◌, arith}
 use Rattle.pipe_model.specs.declared.symbol.Symbol.{Symbol}
 use Rattle.pipe_model.specs.declared.symbol.Symbol.TheVariants as symbols
-use Rattle.pipe_model.specs.SyntaxTree.{Expression, Number, Name, Element, More, Take, Iter, joined_by}
-use Rattle.pipe_model.specs.Grammar.{rank_of}
-use Rattle.pipe_model.specs.Reading.{Reads, ReadsNumeral, ReadsName, ReadsElement, ReadsMore, ReadsTake, ReadsIter, ReadsNegative, ReadsNot, ReadsBracketed, Extends, Joins, NoSign}
-use Rattle.pipe_model.specs.ExpressionMachine.{Want, Sign, Tail, ending}
-use Rattle.pipe_model.proofs.ExpressionPassing.{passes, passes_expression, tail_joins, is_op}
+use Rattle.pipe_model.specs.Language.SyntaxTree.{Expression, Number, Name, Element, More, Take, Iter, binary_expression}
+use Rattle.pipe_model.specs.Language.Grammar.{rank_of}
+use Rattle.grammar_laws.specs.Reading.{Reads, ReadsNumeral, ReadsName, ReadsElement, ReadsMore, ReadsTake, ReadsIter, ReadsNegative, ReadsNot, ReadsBracketed, Extends, Joins, NoSign}
+use Rattle.grammar_laws.specs.ExpressionMachine.{Want, Sign, Tail, ending}
+use Rattle.grammar_laws.proofs.ExpressionPassing.{passes, passes_expression, tail_joins, is_op}
 use Rattle.pipe_parser.specs.declared.fault.ExpressionFault.{ExpressionFault}
 use Rattle.pipe_parser.specs.declared.fault.ExpressionFault.TheVariants as faults
-use Rattle.pipe_parser.specs.ExpressionFaults.{Stops, whole, closed, ReadsUnary}
+use Rattle.pipe_parser.specs.ExpressionFaults.{ExpressionStops, whole, closed, ReadsUnary}
 
 -- ---- faults
 
 -- a fault behind what was passed is the fault of the whole
 pub fault_behind : (wants others : List Want) (ts us : List Symbol)
-    → ((below : List Want) → ending ts (wants ++ below) ≡ ending us (others ++ below)) → (f : ExpressionFault) → Stops others us f
-    → Stops wants ts f
+    → ((below : List Want) → ending ts (wants ++ below) ≡ ending us (others ++ below)) → (f : ExpressionFault) → ExpressionStops others us f
+    → ExpressionStops wants ts f
 fault_behind wants others ts us h faults.NoMemory x = tt
 fault_behind wants others ts us h (faults.Unexpected left) x = record { stuck = λ below. h below ∙ x.stuck below }
 
 -- a fault of what goes on behind an expression of a rank
-pub fault_chained : (rank : ℕ) (a : Expression) (ts mid : List Symbol) → rank ≤ 6 → Reads rank ts a mid → (f : ExpressionFault) → Stops (Tail ∷ []) mid f
-    → Stops whole ts f
+pub fault_chained : (rank : ℕ) (a : Expression) (ts mid : List Symbol) → rank ≤ 6 → Reads rank ts a mid → (f : ExpressionFault) → ExpressionStops (Tail ∷ []) mid f
+    → ExpressionStops whole ts f
 fault_chained rank a ts mid l r = fault_behind whole (Tail ∷ []) ts mid (λ below. passes rank r l below)
 
 -- a fault of the sign that closes an expression
-pub fault_closed : (sign : ℕ) (e : Expression) (ts mid : List Symbol) → Reads 6 ts e mid → (f : ExpressionFault) → Stops (Sign sign ∷ []) mid f
-    → Stops (closed sign) ts f
+pub fault_closed : (sign : ℕ) (e : Expression) (ts mid : List Symbol) → Reads 6 ts e mid → (f : ExpressionFault) → ExpressionStops (Sign sign ∷ []) mid f
+    → ExpressionStops (closed sign) ts f
 fault_closed sign e ts mid r = fault_behind (closed sign) (Sign sign ∷ []) ts mid (λ below. passes_expression r (Sign sign ∷ below))
 
 -- ---- operators that go on
 
 -- an operator and its operand extend an expression, as what is behind them does
 pub joins : (rank code : ℕ) (a b e : Expression) (ts behind mid rest : List Symbol) → ts ≡ symbols.Operator code ∷ behind → rank_of code ≡ suc rank
-    → Reads rank behind b mid → Extends rank (joined_by code a b) mid e rest
+    → Reads rank behind b mid → Extends rank (binary_expression code a b) mid e rest
     → Extends rank a ts e rest
 joins rank code a b e ts behind mid rest h i r g = rw h (Joins code i r g)
 

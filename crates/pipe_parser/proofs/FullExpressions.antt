@@ -3,16 +3,16 @@ use Rattle.std.proofs.Common.{◌≡◌, ℕ, suc, ◌+◌, ◌-◌, ◌<◌, �
 use Rattle.std.proofs.Math.Seq.{drop-append_seam}
 use Rattle.std.proofs.lemmas.List.{length-take-le, nil_from_length, take-append-drop}
 use Rattle.pipe_model.specs.declared.symbol.Symbol.{Symbol}
-use Rattle.pipe_model.specs.ExpressionMachine as expression
-use Rattle.pipe_model.specs.ProgramMachine as machine
-use Rattle.pipe_model.specs.ProgramMachine.{IsRefused, Outside, judge}
-use Rattle.pipe_model.specs.SyntaxTree.{Expression}
-use Rattle.pipe_model.specs.Reading.{Reads, ReadsFull}
-use Rattle.pipe_model.proofs.ExpressionReading.{sound}
-use Rattle.pipe_model.proofs.ExpressionRuns.{stopped, stuck_may_not_end}
-use Rattle.pipe_model.proofs.ExpressionWindows.{reads_more, stuck_more}
-use Rattle.pipe_model.proofs.FullExpressions.{stuck_full, over_full}
-use Rattle.pipe_model.proofs.ProgramFaults.{derived_runs}
+use Rattle.grammar_laws.specs.ExpressionMachine as expression
+use Rattle.grammar_laws.specs.ProgramMachine as machine
+use Rattle.grammar_laws.specs.ProgramMachine.{IsRejected, Outside, judge}
+use Rattle.pipe_model.specs.Language.SyntaxTree.{Expression}
+use Rattle.grammar_laws.specs.Reading.{Reads, ReadsFull}
+use Rattle.grammar_laws.proofs.ExpressionReading.{sound}
+use Rattle.grammar_laws.proofs.ExpressionRuns.{stopped, stuck_may_not_end}
+use Rattle.grammar_laws.proofs.ExpressionWindows.{reads_more, stuck_more}
+use Rattle.grammar_laws.proofs.FullExpressions.{stuck_full, over_full}
+use Rattle.grammar_laws.proofs.ProgramFaults.{derived_runs}
 use Rattle.pipe_parser.specs.ExpressionFaults.{whole}
 
 -- what is wanted where a full expression is
@@ -21,7 +21,7 @@ full = machine.FullExpression ∷ []
 
 -- the machine runs over the whole window, so its last symbol is too many
 over : (ts : List Symbol) (left : List expression.Want) → 256 < length ts → expression.run (take 257 ts) whole ≡ Some left
-    → IsRefused 256 full ts (machine.TooLong (length ts - 257 + 1))
+    → IsRejected 256 full ts (machine.TooLong (length ts - 257 + 1))
 over ts left l r = record {
   refused = λ below.
       let many : suc (length (drop 257 ts)) ≡ length ts - 257 + 1 = omega (arith, length-drop 257 ts, l) in
@@ -32,7 +32,7 @@ over ts left l r = record {
 
 -- an expression that takes the whole window
 pub window_read : (ts rest : List Symbol) (e : Expression) → 256 < length ts → Reads 6 (take 257 ts) e rest → length rest ≡ 0
-    → IsRefused 256 full ts (machine.TooLong (length ts - 257 + 1))
+    → IsRejected 256 full ts (machine.TooLong (length ts - 257 + 1))
 window_read ts rest e l r h =
     let t = sound r in
     let same : take 257 ts ≡ t.taken = t.split ∙ ap (λ x. t.taken ++ x) (nil_from_length rest h) ∙ append-nil t.taken in
@@ -41,7 +41,7 @@ window_read ts rest e l r h =
 
 -- a reader that is stuck behind the whole window
 pub window_stuck : (ts : List Symbol) → 256 < length ts → expression.IsStuck whole (take 257 ts) 0
-    → IsRefused 256 full ts (machine.TooLong (length ts - 257 + 1))
+    → IsRejected 256 full ts (machine.TooLong (length ts - 257 + 1))
 window_stuck ts l s =
     let w = take 257 ts in
     let m = stopped w whole in
@@ -57,12 +57,12 @@ stuck_within ts left s =
     omega (arith, ends.1, ap length m.split, length-append m.before m.rest)
 
 -- a reader that is stuck, within the bound
-pub stuck_short : (ts : List Symbol) (left : ℕ) → length ts ≤ 256 → expression.IsStuck whole ts left → IsRefused 256 full ts (machine.Unexpected left)
+pub stuck_short : (ts : List Symbol) (left : ℕ) → length ts ≤ 256 → expression.IsStuck whole ts left → IsRejected 256 full ts (machine.Unexpected left)
 stuck_short ts left l s = record { refused = λ below. stuck_full 256 ts left below s (omega (arith, l)) }
 
 -- a reader that is stuck in the window
 pub stuck_in_window : (ts : List Symbol) (left : ℕ) → 256 < length ts → 0 < left → expression.IsStuck whole (take 257 ts) left
-    → IsRefused 256 full ts (machine.Unexpected (left + (length ts - 257)))
+    → IsRejected 256 full ts (machine.Unexpected (left + (length ts - 257)))
 stuck_in_window ts left l p s =
     let many : left + length (drop 257 ts) ≡ left + (length ts - 257) = omega (arith, length-drop 257 ts) in
     let all : expression.IsStuck whole ts (left + length (drop 257 ts)) =

@@ -2,15 +2,15 @@
 use Rattle.std.proofs.Common.{◌≡◌, ◌≢◌, ℕ, zero, suc, ◌+◌, ◌-◌, ◌<◌, ◌≤◌, List, [], ◌∷◌, ◌++◌, length, take, append_assoc, append-nil, length-append, refl, sym, ap, ◌∙◌, arith, subst, inl, inr}
 use Rattle.std.proofs.Math.Seq.{take-append_seam}
 use Rattle.pipe_model.specs.declared.symbol.Symbol.{Symbol}
-use Rattle.pipe_model.specs.ProgramMachine.{Outside, Verdict, Accepted, Unexpected, TooLong, judge, program}
-use Rattle.pipe_model.specs.SyntaxTree.{SyntaxTree}
-use Rattle.pipe_model.specs.Reading.{ReadsProgram}
-use Rattle.pipe_model.specs.Spelling.{Spells, IsShallow, FirstFault, Rule, Expected, Shallow, Short}
-use Rattle.pipe_model.proofs.FaultRules.{IsShallowBefore, ComesToLast, first_unexpected, first_unexpected_end, first_too_long, first_too_deep}
-use Rattle.pipe_model.proofs.FirstFaults.{is_unexpected, is_too_long}
-use Rattle.pipe_model.proofs.OpenBrackets.{shallow_before_one, shallow_is_before}
-use Rattle.pipe_model.proofs.ProgramPassing.{accepts_program}
-use Rattle.pipe_model.proofs.ProgramReading.{sound_program}
+use Rattle.grammar_laws.specs.ProgramMachine.{Outside, Verdict, Accepted, Unexpected, TooLong, judge, program}
+use Rattle.pipe_model.specs.Language.SyntaxTree.{SyntaxTree}
+use Rattle.grammar_laws.specs.Reading.{ReadsProgram}
+use Rattle.pipe_model.specs.Language.Spelling.{Spells, IsShallow, FirstFault, GrammarRule, Expected, Shallow, Short}
+use Rattle.grammar_laws.proofs.FaultRules.{IsShallowBefore, ComesToLast, first_unexpected, first_unexpected_end, first_too_long, first_too_deep}
+use Rattle.grammar_laws.proofs.FirstFaults.{is_unexpected, is_too_long}
+use Rattle.grammar_laws.proofs.OpenBrackets.{shallow_before_one, shallow_is_before}
+use Rattle.grammar_laws.proofs.ProgramPassing.{accepts_program}
+use Rattle.grammar_laws.proofs.ProgramReading.{sound_program}
 use Rattle.pipe_parser.specs.Depths.{OpensTooMany}
 
 -- a program that was read of shallow symbols is spelled
@@ -29,11 +29,11 @@ too_long_within ts n v =
     (omega (arith, x.many), omega (arith, x.many, many))
 
 -- a fault of symbols with none behind them
-without_more : {ts : List Symbol} {rule : Rule} {k : ℕ} → FirstFault (ts ++ []) rule k → FirstFault ts rule k
+without_more : {ts : List Symbol} {rule : GrammarRule} {k : ℕ} → FirstFault (ts ++ []) rule k → FirstFault ts rule k
 without_more {ts} {rule} {k} f = subst (λ x. FirstFault x rule k) (append-nil ts) f
 
 -- a fault at the same place
-at_place : {ts : List Symbol} {rule : Rule} {k m : ℕ} → k ≡ m → FirstFault ts rule k → FirstFault ts rule m
+at_place : {ts : List Symbol} {rule : GrammarRule} {k m : ℕ} → k ≡ m → FirstFault ts rule k → FirstFault ts rule m
 at_place {ts} {rule} h f = subst (FirstFault ts rule) h f
 
 -- ---- symbols that never open too many brackets
@@ -74,7 +74,7 @@ cut_shallow : (ts : List Symbol) (k : ℕ) → (o : OpensTooMany ts k) → IsSha
 cut_shallow ts k o = subst IsShallowBefore (sym (cut_is ts k o)) (shallow_before_one o.before o.t o.shallow)
 
 -- a fault of the same symbols
-of_all : {ts us : List Symbol} {rule : Rule} {k : ℕ} → us ≡ ts → FirstFault us rule k → FirstFault ts rule k
+of_all : {ts us : List Symbol} {rule : GrammarRule} {k : ℕ} → us ≡ ts → FirstFault us rule k → FirstFault ts rule k
 of_all {rule = rule} {k = k} h f = subst (λ x. FirstFault x rule k) h f
 
 -- no more of them are left than there are, where the machine does not expect one

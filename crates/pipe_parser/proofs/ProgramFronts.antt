@@ -7,25 +7,25 @@ use Rattle.pipe_model.specs.declared.symbol.Symbol.{Symbol}
 use Rattle.pipe_model.specs.declared.symbol.Symbol.TheVariants as symbols
 use Rattle.pipe_model.specs.declared.tree.Declaration.{Declaration}
 use Rattle.pipe_model.specs.declared.tree.Limits.{Limits}
-use Rattle.pipe_model.specs.ProgramMachine as machine
-use Rattle.pipe_model.specs.ProgramMachine.{Want, Sign, Word, AnyName, AnyNumber, FullExpression, Part, Cells, Size, Value, Natural, Outside, judge, program, IsRefused}
-use Rattle.pipe_model.specs.SyntaxTree.{Expression, Statements}
-use Rattle.pipe_model.specs.Grammar.{declaration}
-use Rattle.pipe_model.specs.Reading.{ReadsPart, ReadsSize, ReadsNoSize, ReadsSizeIs, ReadsValue, ReadsValueIs, ReadsNegativeValue, ReadsCell, ReadsCellIs, ReadsCells, ReadsNoCell, ReadsCellThen, ReadsProgram, ReadsAll, NoSign, NoWord}
-use Rattle.pipe_model.proofs.ProgramPassing.{passes_cells, passes_part, passes_block, passes_cell, passes_size, passes_value}
+use Rattle.grammar_laws.specs.ProgramMachine as machine
+use Rattle.grammar_laws.specs.ProgramMachine.{Want, Sign, Word, AnyName, AnyNumber, FullExpression, Part, Cells, Size, Value, Natural, Outside, judge, program, IsRejected}
+use Rattle.pipe_model.specs.Language.SyntaxTree.{Expression, Statements}
+use Rattle.pipe_model.specs.Language.Grammar.{declaration}
+use Rattle.grammar_laws.specs.Reading.{ReadsPart, ReadsSize, ReadsNoSize, ReadsSizeIs, ReadsValue, ReadsValueIs, ReadsNegativeValue, ReadsCell, ReadsCellIs, ReadsCells, ReadsNoCell, ReadsCellThen, ReadsProgram, ReadsAll, NoSign, NoWord}
+use Rattle.grammar_laws.proofs.ProgramPassing.{passes_cells, passes_part, passes_block, passes_cell, passes_size, passes_value}
 use Rattle.pipe_parser.specs.declared.fault.SyntaxFault.{SyntaxFault}
 use Rattle.pipe_parser.specs.declared.fault.SyntaxFault.TheVariants as faults
 use Rattle.pipe_parser.specs.ProgramReadings.{limit, limits, cell, loop, HasLimits, ReadsLoop}
 use Rattle.pipe_parser.specs.StatementReadings.{block, ReadsTest}
 use Rattle.pipe_parser.specs.SymbolFronts.{NoOperator}
-use Rattle.pipe_parser.specs.SyntaxFaults.{Stops, Refuses}
+use Rattle.pipe_parser.specs.SyntaxFaults.{SyntaxStops, Refuses}
 use Rattle.pipe_parser.proofs.StatementFronts.{fault_behind, fault_before, passes_test}
 
 -- a fault of the first of what has to come behind what was passed
 fault_through : (wants others more : List Want) (ts us : List Symbol)
     → ((below : List Want) → judge 256 ts (Outside (wants ++ below)) ≡ judge 256 us (Outside ((others ++ more) ++ below))) → (f : SyntaxFault)
-    → Stops others us f
-    → Stops wants ts f
+    → SyntaxStops others us f
+    → SyntaxStops wants ts f
 fault_through wants others more ts us h f x = fault_behind wants (others ++ more) ts us h f (fault_before others more us f x)
 
 -- ---- limits
@@ -35,8 +35,8 @@ limit_before word n sign ts = symbols.Word word ∷ symbols.Number n ∷ symbols
 
 -- a fault of the last limit
 pub fault_emits : (i s p : ℤ) (ts a b c d : List Symbol) → ts ≡ symbols.Word 1 ∷ a → a ≡ limit_before 2 i 44 b → b ≡ limit_before 3 s 44 c
-    → c ≡ limit_before 4 p 44 d → (f : SyntaxFault) → Stops (limit 5 59) d f
-    → Stops limits ts f
+    → c ≡ limit_before 4 p 44 d → (f : SyntaxFault) → SyntaxStops (limit 5 59) d f
+    → SyntaxStops limits ts f
 fault_emits i s p ts a b c d h j k l =
     fault_behind limits (limit 5 59) ts d
     (λ below. ap (λ x. judge 256 x (Outside (limits ++ below)))
@@ -64,7 +64,7 @@ value_as_number (symbols.Operator code ∷ ts) below h = let e : (code == 10) �
 value_as_number (symbols.Sign b ∷ ts) below h = refl
 
 -- so its fault is that of a number
-pub fault_value : (ts : List Symbol) → NoOperator 10 ts → (f : SyntaxFault) → Stops (AnyNumber ∷ []) ts f → Stops (Value ∷ []) ts f
+pub fault_value : (ts : List Symbol) → NoOperator 10 ts → (f : SyntaxFault) → SyntaxStops (AnyNumber ∷ []) ts f → SyntaxStops (Value ∷ []) ts f
 fault_value ts h = fault_behind (Value ∷ []) (AnyNumber ∷ []) ts ts (λ below. value_as_number ts below h)
 
 -- a number is read as the value
@@ -94,8 +94,8 @@ passes_name name size ts a b h s below =
 
 -- a fault of the sign before the value
 pub fault_equals : (name : List ℕ) (size : Option ℤ) (ts a b : List Symbol) → ts ≡ symbols.Name name ∷ a → ReadsSize a size b → (f : SyntaxFault)
-    → Stops (Sign 61 ∷ []) b f
-    → Stops cell ts f
+    → SyntaxStops (Sign 61 ∷ []) b f
+    → SyntaxStops cell ts f
 fault_equals name size ts a b h s = fault_through cell (Sign 61 ∷ []) (Value ∷ Sign 59 ∷ []) ts b (λ below. passes_name name size ts a b h s below)
 
 -- and so is that sign
@@ -106,8 +106,8 @@ passes_equals name size ts a b c h s i below =
 
 -- a fault of the sign behind the value
 pub fault_cell_end : (name : List ℕ) (size : Option ℤ) (value : ℤ) (ts a b c d : List Symbol) → ts ≡ symbols.Name name ∷ a → ReadsSize a size b
-    → b ≡ symbols.Sign 61 ∷ c → ReadsValue c value d → (f : SyntaxFault) → Stops (Sign 59 ∷ []) d f
-    → Stops cell ts f
+    → b ≡ symbols.Sign 61 ∷ c → ReadsValue c value d → (f : SyntaxFault) → SyntaxStops (Sign 59 ∷ []) d f
+    → SyntaxStops cell ts f
 fault_cell_end name size value ts a b c d h s i v =
     fault_behind cell (Sign 59 ∷ []) ts d (λ below. passes_equals name size ts a b c h s i below ∙ passes_value 256 v (Sign 59 ∷ below))
 
@@ -134,16 +134,16 @@ cells_read all rest found f h = subst (λ x. ReadsCells all x rest) (append-nil 
 -- a fault of a declaration is one of the declarations
 pub fault_cell : (all rest declared : List Symbol)
     → ((below : List Want) → judge 256 all (Outside (Cells ∷ below)) ≡ judge 256 rest (Outside (Cells ∷ below))) → rest ≡ symbols.Word 6 ∷ declared
-    → (f : SyntaxFault) → Stops cell declared f
-    → Stops (Cells ∷ []) all f
+    → (f : SyntaxFault) → SyntaxStops cell declared f
+    → SyntaxStops (Cells ∷ []) all f
 fault_cell all rest declared p h =
     fault_through (Cells ∷ []) cell (Cells ∷ []) all declared (λ below. p below ∙ ap (λ x. judge 256 x (Outside (Cells ∷ below))) h)
 
 -- ---- the loop
 -- a fault of the loop's body
 pub fault_loop_body : (e : Expression) (ts behind mid : List Symbol) → ts ≡ symbols.Word 8 ∷ behind → ReadsTest behind e mid → (f : SyntaxFault)
-    → Stops block mid f
-    → Stops loop ts f
+    → SyntaxStops block mid f
+    → SyntaxStops loop ts f
 fault_loop_body e ts behind mid h t =
     fault_behind loop block ts mid (λ below. ap (λ x. judge 256 x (Outside (loop ++ below))) h ∙ passes_test e behind mid t (block ++ below))
 
@@ -165,14 +165,14 @@ from_cells = Cells ∷ Part 7 ∷ from_loop
 
 -- a fault behind what was passed of a program
 refuses_behind : (wants below : List Want) (ts us : List Symbol) → judge 256 ts (Outside program) ≡ judge 256 us (Outside (wants ++ below))
-    → (f : SyntaxFault) → Stops wants us f
+    → (f : SyntaxFault) → SyntaxStops wants us f
     → Refuses ts f
 refuses_behind wants below ts us h (faults.Unexpected left) x = h ∙ x.refused below
 refuses_behind wants below ts us h (faults.TooLong left) x = h ∙ x.refused below
 refuses_behind wants below ts us h faults.NoMemory x = tt
 
 -- a fault of the limits
-pub refuses_limits : (ts : List Symbol) (f : SyntaxFault) → Stops limits ts f → Refuses ts f
+pub refuses_limits : (ts : List Symbol) (f : SyntaxFault) → SyntaxStops limits ts f → Refuses ts f
 refuses_limits ts = refuses_behind limits from_cells ts ts refl
 
 -- the limits are passed
@@ -180,7 +180,7 @@ behind_limits : (l : Limits) (ts a : List Symbol) → HasLimits ts l a → judge
 behind_limits l ts a h = ap (λ x. judge 256 x (Outside program)) h
 
 -- a fault of the declarations
-pub refuses_cells : (l : Limits) (ts a : List Symbol) → HasLimits ts l a → (f : SyntaxFault) → Stops (Cells ∷ []) a f → Refuses ts f
+pub refuses_cells : (l : Limits) (ts a : List Symbol) → HasLimits ts l a → (f : SyntaxFault) → SyntaxStops (Cells ∷ []) a f → Refuses ts f
 refuses_cells l ts a h = refuses_behind (Cells ∷ []) (Part 7 ∷ from_loop) ts a (behind_limits l ts a h)
 
 -- the declarations are passed
@@ -190,7 +190,7 @@ behind_cells l ds ts a b h c = behind_limits l ts a h ∙ passes_cells 256 c (Pa
 
 -- a fault of the first part
 pub refuses_init : (l : Limits) (ds : List Declaration) (ts a b : List Symbol) → HasLimits ts l a → ReadsCells a ds b → (f : SyntaxFault)
-    → Stops (Part 7 ∷ []) b f
+    → SyntaxStops (Part 7 ∷ []) b f
     → Refuses ts f
 refuses_init l ds ts a b h c = refuses_behind (Part 7 ∷ []) from_loop ts b (behind_cells l ds ts a b h c)
 
@@ -201,7 +201,7 @@ behind_init l ds init ts a b c h r p = behind_cells l ds ts a b h r ∙ passes_p
 
 -- a fault of the loop
 pub refuses_loop : (l : Limits) (ds : List Declaration) (init : Statements) (ts a b c : List Symbol) → HasLimits ts l a → ReadsCells a ds b
-    → ReadsPart 256 7 b init c → (f : SyntaxFault) → Stops loop c f
+    → ReadsPart 256 7 b init c → (f : SyntaxFault) → SyntaxStops loop c f
     → Refuses ts f
 refuses_loop l ds init ts a b c h r p = refuses_behind loop (Part 11 ∷ []) ts c (behind_init l ds init ts a b c h r p)
 
@@ -212,7 +212,7 @@ behind_loop l ds init body e ts a b c d h r p q = behind_init l ds init ts a b c
 
 -- a fault of the last part
 pub refuses_last : (l : Limits) (ds : List Declaration) (init body : Statements) (e : Expression) (ts a b c d : List Symbol) → HasLimits ts l a
-    → ReadsCells a ds b → ReadsPart 256 7 b init c → ReadsLoop c e body d → (f : SyntaxFault) → Stops (Part 11 ∷ []) d f
+    → ReadsCells a ds b → ReadsPart 256 7 b init c → ReadsLoop c e body d → (f : SyntaxFault) → SyntaxStops (Part 11 ∷ []) d f
     → Refuses ts f
 refuses_last l ds init body e ts a b c d h r p q = refuses_behind (Part 11 ∷ []) [] ts d (behind_loop l ds init body e ts a b c d h r p q)
 

@@ -5,16 +5,16 @@ use Rattle.pipe_model.specs.declared.symbol.Symbol.{Symbol}
 use Rattle.pipe_model.specs.declared.symbol.Symbol.TheVariants as symbols
 use Rattle.pipe_model.specs.declared.tree.Expr.{Expr}
 use Rattle.pipe_model.specs.declared.tree.Stmt.{Stmt}
-use Rattle.pipe_model.specs.ProgramMachine as machine
-use Rattle.pipe_model.specs.ProgramMachine.{Want, Sign, FullExpression, Part, Outside, judge}
-use Rattle.pipe_model.specs.SyntaxTree.{Expression, Statements, Empty, Then, Let, Assign, AssignElement, Emit, If, While, statement_of, statements_of, stage_statement}
-use Rattle.pipe_model.specs.Reading.{ReadsFull, ReadsStatement, ReadsLet, ReadsAssign, ReadsAssignElement, ReadsEmit, ReadsIf, ReadsWhile, ReadsWait, ReadsWaitNext, ReadsContinue, ReadsContinueNext, ReadsStatements, ReadsClose, ReadsBlock, ReadsBraces, ReadsPart, ReadsNoPart, ReadsPartIs, NoSign, NoWord}
-use Rattle.pipe_model.proofs.FullExpressions.{passes_full, stage_number, passes_stage_number}
-use Rattle.pipe_model.proofs.ProgramPassing.{passes_block}
+use Rattle.grammar_laws.specs.ProgramMachine as machine
+use Rattle.grammar_laws.specs.ProgramMachine.{Want, Sign, FullExpression, Part, Outside, judge}
+use Rattle.pipe_model.specs.Language.SyntaxTree.{Expression, Statements, Empty, Then, Let, Assign, AssignElement, Emit, If, While, statement_of, statements_of, stage_statement}
+use Rattle.grammar_laws.specs.Reading.{ReadsFull, ReadsStatement, ReadsLet, ReadsAssign, ReadsAssignElement, ReadsEmit, ReadsIf, ReadsWhile, ReadsWait, ReadsWaitNext, ReadsContinue, ReadsContinueNext, ReadsStatements, ReadsClose, ReadsBlock, ReadsBraces, ReadsPart, ReadsNoPart, ReadsPartIs, NoSign, NoWord}
+use Rattle.grammar_laws.proofs.FullExpressions.{passes_full, stage_number, passes_stage_number}
+use Rattle.grammar_laws.proofs.ProgramPassing.{passes_block}
 use Rattle.pipe_parser.specs.declared.fault.SyntaxFault.{SyntaxFault}
 use Rattle.pipe_parser.specs.declared.fault.SyntaxFault.TheVariants as faults
 use Rattle.pipe_parser.specs.StatementReadings.{element, stage, block, repetition, choice, ReadsTest, ReadsStage}
-use Rattle.pipe_parser.specs.SyntaxFaults.{Stops}
+use Rattle.pipe_parser.specs.SyntaxFaults.{SyntaxStops}
 
 -- ---- statements one after the other, as the loop of a block reads them
 
@@ -46,40 +46,40 @@ block_read ts all rest behind found h f e =
 
 -- a fault behind what was passed is the fault of the whole
 pub fault_behind : (wants others : List Want) (ts us : List Symbol)
-    → ((below : List Want) → judge 256 ts (Outside (wants ++ below)) ≡ judge 256 us (Outside (others ++ below))) → (f : SyntaxFault) → Stops others us f
-    → Stops wants ts f
+    → ((below : List Want) → judge 256 ts (Outside (wants ++ below)) ≡ judge 256 us (Outside (others ++ below))) → (f : SyntaxFault) → SyntaxStops others us f
+    → SyntaxStops wants ts f
 fault_behind wants others ts us h (faults.Unexpected left) x = record { refused = λ below. h below ∙ x.refused below }
 fault_behind wants others ts us h (faults.TooLong left) x = record { refused = λ below. h below ∙ x.refused below }
 fault_behind wants others ts us h faults.NoMemory x = tt
 
 -- what is refused in front is refused before more that has to come
-pub fault_before : (wants more : List Want) (ts : List Symbol) (f : SyntaxFault) → Stops wants ts f → Stops (wants ++ more) ts f
+pub fault_before : (wants more : List Want) (ts : List Symbol) (f : SyntaxFault) → SyntaxStops wants ts f → SyntaxStops (wants ++ more) ts f
 fault_before wants more ts =
     let same = λ (below : List Want). ap (λ x. judge 256 ts (Outside x)) (append_assoc wants more below) in
     λ f x. by_cases same f x
   where
     by_cases : ((below : List Want) → judge 256 ts (Outside ((wants ++ more) ++ below)) ≡ judge 256 ts (Outside (wants ++ (more ++ below))))
-        → (f : SyntaxFault) → Stops wants ts f → Stops (wants ++ more) ts f
+        → (f : SyntaxFault) → SyntaxStops wants ts f → SyntaxStops (wants ++ more) ts f
     by_cases same (faults.Unexpected left) x = record { refused = λ below. same below ∙ x.refused (more ++ below) }
     by_cases same (faults.TooLong left) x = record { refused = λ below. same below ∙ x.refused (more ++ below) }
     by_cases same faults.NoMemory x = tt
 
 -- behind a full expression
-pub fault_full : (others : List Want) (e : Expression) (ts mid : List Symbol) → ReadsFull 256 ts e mid → (f : SyntaxFault) → Stops others mid f
-    → Stops (FullExpression ∷ others) ts f
+pub fault_full : (others : List Want) (e : Expression) (ts mid : List Symbol) → ReadsFull 256 ts e mid → (f : SyntaxFault) → SyntaxStops others mid f
+    → SyntaxStops (FullExpression ∷ others) ts f
 fault_full others e ts mid r = fault_behind (FullExpression ∷ others) others ts mid (λ below. passes_full r (others ++ below))
 
 -- a fault of the sign behind an index
-pub fault_index : (index : Expression) (ts mid : List Symbol) → ReadsFull 256 ts index (symbols.Sign 93 ∷ mid) → (f : SyntaxFault) → Stops (Sign 61 ∷ []) mid f
-    → Stops element ts f
+pub fault_index : (index : Expression) (ts mid : List Symbol) → ReadsFull 256 ts index (symbols.Sign 93 ∷ mid) → (f : SyntaxFault) → SyntaxStops (Sign 61 ∷ []) mid f
+    → SyntaxStops element ts f
 fault_index index ts mid r f x =
     fault_behind element (Sign 61 ∷ FullExpression ∷ Sign 59 ∷ []) ts mid (λ below. passes_full r (Sign 93 ∷ Sign 61 ∷ FullExpression ∷ Sign 59 ∷ below)) f
     (fault_before (Sign 61 ∷ []) (FullExpression ∷ Sign 59 ∷ []) mid f x)
 
 -- a fault of the value that an element is assigned
 pub fault_assigned : (index : Expression) (ts mid inside : List Symbol) → ReadsFull 256 ts index (symbols.Sign 93 ∷ mid) → mid ≡ symbols.Sign 61 ∷ inside
-    → (f : SyntaxFault) → Stops (FullExpression ∷ Sign 59 ∷ []) inside f
-    → Stops element ts f
+    → (f : SyntaxFault) → SyntaxStops (FullExpression ∷ Sign 59 ∷ []) inside f
+    → SyntaxStops element ts f
 fault_assigned index ts mid inside r h =
     fault_behind element (FullExpression ∷ Sign 59 ∷ []) ts inside
     (λ below. passes_full r (Sign 93 ∷ Sign 61 ∷ FullExpression ∷ Sign 59 ∷ below)
@@ -87,8 +87,8 @@ fault_assigned index ts mid inside r h =
 
 -- a fault of a stage number
 pub fault_number : (ts inside : List Symbol) → ts ≡ symbols.Sign 40 ∷ inside → NoSign 41 inside → (f : SyntaxFault)
-    → Stops (FullExpression ∷ Sign 41 ∷ []) inside f
-    → Stops stage ts f
+    → SyntaxStops (FullExpression ∷ Sign 41 ∷ []) inside f
+    → SyntaxStops stage ts f
 fault_number ts inside h n f x =
     fault_behind stage (FullExpression ∷ Sign 41 ∷ Sign 59 ∷ []) ts inside
     (λ below. ap (λ y. judge 256 y (Outside (stage ++ below))) h ∙ stage_number 256 inside (Sign 59 ∷ below) n) f
@@ -96,8 +96,8 @@ fault_number ts inside h n f x =
 
 -- a fault of what stands behind it
 pub fault_behind_number : (e : Expression) (ts inside mid : List Symbol) → ts ≡ symbols.Sign 40 ∷ inside → ReadsFull 256 inside e (symbols.Sign 41 ∷ mid)
-    → (f : SyntaxFault) → Stops (Sign 59 ∷ []) mid f
-    → Stops stage ts f
+    → (f : SyntaxFault) → SyntaxStops (Sign 59 ∷ []) mid f
+    → SyntaxStops stage ts f
 fault_behind_number e ts inside mid h r =
     fault_behind stage (Sign 59 ∷ []) ts mid
     (λ below. ap (λ y. judge 256 y (Outside (stage ++ below))) h ∙ passes_stage_number r (Sign 59 ∷ below))
@@ -109,17 +109,17 @@ passes_test e ts mid t below =
     ap (λ x. judge 256 x (Outside (Sign 40 ∷ FullExpression ∷ Sign 41 ∷ below))) t.opens ∙ passes_full t.reads (Sign 41 ∷ below)
 
 -- a fault of the body of a `while`
-pub fault_body : (e : Expression) (ts mid : List Symbol) → ReadsTest ts e mid → (f : SyntaxFault) → Stops block mid f → Stops repetition ts f
+pub fault_body : (e : Expression) (ts mid : List Symbol) → ReadsTest ts e mid → (f : SyntaxFault) → SyntaxStops block mid f → SyntaxStops repetition ts f
 fault_body e ts mid t = fault_behind repetition block ts mid (λ below. passes_test e ts mid t (block ++ below))
 
 -- a fault of the first block of an `if`
-pub fault_then : (e : Expression) (ts mid : List Symbol) → ReadsTest ts e mid → (f : SyntaxFault) → Stops block mid f → Stops choice ts f
+pub fault_then : (e : Expression) (ts mid : List Symbol) → ReadsTest ts e mid → (f : SyntaxFault) → SyntaxStops block mid f → SyntaxStops choice ts f
 fault_then e ts mid t f x = fault_before repetition (Part 14 ∷ []) ts f (fault_body e ts mid t f x)
 
 -- a fault of its `else`
 pub fault_else : (e : Expression) (a : Statements) (ts mid behind : List Symbol) → ReadsTest ts e mid → ReadsBlock 256 mid a behind → (f : SyntaxFault)
-    → Stops (Part 14 ∷ []) behind f
-    → Stops choice ts f
+    → SyntaxStops (Part 14 ∷ []) behind f
+    → SyntaxStops choice ts f
 fault_else e a ts mid behind t b =
     fault_behind choice (Part 14 ∷ []) ts behind
     (λ below. passes_test e ts mid t (Sign 123 ∷ machine.Statements ∷ Sign 125 ∷ Part 14 ∷ below) ∙ passes_block b (Part 14 ∷ below))

@@ -1,7 +1,7 @@
 -- The first symbol with which too many brackets are open.
 use Rattle.std.specs.Prelude.{◌≡◌, ◌+◌, ◌<◌, ℕ, List, [], ◌∷◌, ◌++◌, length}
 use Rattle.pipe_model.specs.declared.symbol.Symbol.{Symbol}
-use Rattle.pipe_model.specs.Spelling.{IsShallow, open_brackets}
+use Rattle.pipe_model.specs.Language.Spelling.{IsShallow, open_brackets}
 
 -- the first symbol with which more than 64 brackets are open is the last of so many
 pub record OpensTooMany (ts : List Symbol) (k : ℕ) : Type 0 where

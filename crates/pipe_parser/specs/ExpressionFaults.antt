@@ -1,16 +1,16 @@
 -- What the readers of expressions say of symbols.
 use Rattle.std.specs.Prelude.{◌≡◌, ℕ, List, [], ◌∷◌}
 use Rattle.pipe_model.specs.declared.symbol.Symbol.{Symbol}
-use Rattle.pipe_model.specs.ExpressionMachine.{Want, Sign, Operand, Tail, IsStuck}
-use Rattle.pipe_model.specs.SyntaxTree.{Expression, Unary}
-use Rattle.pipe_model.specs.Reading.{Reads}
+use Rattle.grammar_laws.specs.ExpressionMachine.{Want, Sign, Operand, Tail, IsStuck}
+use Rattle.pipe_model.specs.Language.SyntaxTree.{Expression, Unary}
+use Rattle.grammar_laws.specs.Reading.{Reads}
 use Rattle.pipe_parser.specs.declared.fault.ExpressionFault.{ExpressionFault}
 use Rattle.pipe_parser.specs.declared.fault.ExpressionFault.TheVariants as faults
 
 -- the fault of reading what is wanted from the symbols
-abbrev pub Stops : List Want → List Symbol → ExpressionFault → Type 0
-Stops wants ts (faults.Unexpected left) = IsStuck wants ts left
-Stops wants ts faults.NoMemory = Unit {0}
+abbrev pub ExpressionStops : List Want → List Symbol → ExpressionFault → Type 0
+ExpressionStops wants ts (faults.Unexpected left) = IsStuck wants ts left
+ExpressionStops wants ts faults.NoMemory = Unit {0}
 
 -- what an expression is, and what may go on behind one
 abbrev pub whole : List Want

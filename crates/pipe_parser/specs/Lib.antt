@@ -5,4 +5,4 @@ pub mod SymbolFronts
 pub mod ProgramReadings
 pub mod Depths
 pub mod Parses
-pub mod Law
+pub mod ParsingLaw

@@ -2,8 +2,8 @@
 use Rattle.std.specs.Prelude.{◌≡◌, ℕ, List}
 use Rattle.pipe_model.specs.declared.symbol.Symbol.{Symbol}
 use Rattle.pipe_model.specs.declared.token.Token.{Token}
-use Rattle.pipe_model.specs.SourceRefusals.{BreaksAt, fault_place}
-use Rattle.pipe_model.specs.Spelling.{FirstFault, Expected, Shallow, Short}
+use Rattle.pipe_model.specs.Language.SourceRefusals.{BreaksAt, fault_place}
+use Rattle.pipe_model.specs.Language.Spelling.{FirstFault, Expected, Shallow, Short}
 use Rattle.pipe_parser.specs.declared.parse.ParseFault.{ParseFault}
 use Rattle.pipe_parser.specs.declared.parse.ParseFault.TheVariants as faults
 use Rattle.pipe_parser.specs.declared.parse.Refusal.{Refusal}

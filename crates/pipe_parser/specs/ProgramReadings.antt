@@ -2,11 +2,11 @@
 use Rattle.std.specs.Prelude.{◌≡◌, ◌++◌, ℕ, List, [], ◌∷◌}
 use Rattle.pipe_model.specs.declared.symbol.Symbol.{Symbol}
 use Rattle.pipe_model.specs.declared.tree.Limits.{Limits}
-use Rattle.pipe_model.specs.ProgramMachine.{Want, Sign, Word, AnyName, AnyNumber, FullExpression, Statements, Size, Value}
-use Rattle.pipe_model.specs.SyntaxTree as tree
-use Rattle.pipe_model.specs.Grammar.{flat, limits_before}
-use Rattle.pipe_model.specs.Reading.{ReadsBlock}
-use Rattle.pipe_model.specs.Words.{word_pipe_while}
+use Rattle.grammar_laws.specs.ProgramMachine.{Want, Sign, Word, AnyName, AnyNumber, FullExpression, Statements, Size, Value}
+use Rattle.pipe_model.specs.Language.SyntaxTree as tree
+use Rattle.pipe_model.specs.Language.Grammar.{flat, limits_before}
+use Rattle.grammar_laws.specs.Reading.{ReadsBlock}
+use Rattle.pipe_model.specs.Language.Words.{word_pipe_while}
 use Rattle.pipe_parser.specs.StatementReadings.{ReadsTest}
 
 -- what a limit is

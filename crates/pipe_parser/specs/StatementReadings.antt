@@ -2,10 +2,10 @@
 use Rattle.std.specs.Prelude.{◌≡◌, List, [], ◌∷◌, Option, Some, None}
 use Rattle.pipe_model.specs.declared.symbol.Symbol.{Symbol}
 use Rattle.pipe_model.specs.declared.tree.Expr.{Expr}
-use Rattle.pipe_model.specs.ProgramMachine.{Want, Sign, AnyName, FullExpression, StageNumber, Statements, Part}
-use Rattle.pipe_model.specs.SyntaxTree.{Expression, expression_of}
-use Rattle.pipe_model.specs.Reading.{ReadsFull}
-use Rattle.pipe_model.specs.Words.{open_round, close_round, semicolon}
+use Rattle.grammar_laws.specs.ProgramMachine.{Want, Sign, AnyName, FullExpression, StageNumber, Statements, Part}
+use Rattle.pipe_model.specs.Language.SyntaxTree.{Expression, expression_of}
+use Rattle.grammar_laws.specs.Reading.{ReadsFull}
+use Rattle.pipe_model.specs.Language.Words.{open_round, close_round, semicolon}
 
 -- what a test is
 abbrev pub test : List Want

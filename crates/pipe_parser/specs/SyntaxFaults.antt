@@ -1,16 +1,16 @@
 -- What the readers of statements and programs say of symbols.
 use Rattle.std.specs.Prelude.{◌≡◌, List}
 use Rattle.pipe_model.specs.declared.symbol.Symbol.{Symbol}
-use Rattle.pipe_model.specs.ProgramMachine as machine
-use Rattle.pipe_model.specs.ProgramMachine.{Want, IsRefused, Outside, judge, program}
+use Rattle.grammar_laws.specs.ProgramMachine as machine
+use Rattle.grammar_laws.specs.ProgramMachine.{Want, IsRejected, Outside, judge, program}
 use Rattle.pipe_parser.specs.declared.fault.SyntaxFault.{SyntaxFault}
 use Rattle.pipe_parser.specs.declared.fault.SyntaxFault.TheVariants as faults
 
 -- the fault of reading what is wanted from the symbols
-abbrev pub Stops : List Want → List Symbol → SyntaxFault → Type 0
-Stops wants ts (faults.Unexpected left) = IsRefused 256 wants ts (machine.Unexpected left)
-Stops wants ts (faults.TooLong left) = IsRefused 256 wants ts (machine.TooLong left)
-Stops wants ts faults.NoMemory = Unit {0}
+abbrev pub SyntaxStops : List Want → List Symbol → SyntaxFault → Type 0
+SyntaxStops wants ts (faults.Unexpected left) = IsRejected 256 wants ts (machine.Unexpected left)
+SyntaxStops wants ts (faults.TooLong left) = IsRejected 256 wants ts (machine.TooLong left)
+SyntaxStops wants ts faults.NoMemory = Unit {0}
 
 -- the fault of reading a program from all of the symbols
 abbrev pub Refuses : List Symbol → SyntaxFault → Type 0

@@ -1,8 +1,8 @@
 //! How many brackets are open.
 
 ghost use Rattle.std.specs.Prelude.{◌≡◌, IfNone, IfSome, List, cond, ℕ};
-ghost use Rattle.pipe_model.specs.Tokens.{symbol_as};
-ghost use Rattle.pipe_model.specs.Spelling.{is_opening, is_closing, IsShallow};
+ghost use Rattle.pipe_model.specs.Language.Tokens.{symbol_as};
+ghost use Rattle.pipe_model.specs.Language.Spelling.{is_opening_bracket, is_closing_bracket, IsShallow};
 ghost use Rattle.pipe_parser.specs.Depths.{OpensTooMany};
 
 use crate::symbols::Symbols;
@@ -12,8 +12,8 @@ use pipe_model::token::TokenKind;
 const DEEPEST: usize = 64;
 
 /// Whether this is `(`, `[` or `{`.
-fn is_opening(kind: TokenKind) -> bool
-    ensures { (text : List ℕ) → result ≡ is_opening (symbol_as kind text) }
+fn is_opening_bracket(kind: TokenKind) -> bool
+    ensures { (text : List ℕ) → result ≡ is_opening_bracket (symbol_as kind text) }
 {
     match kind {
         TokenKind::Sign(b) => matches!(b, b'(' | b'[' | b'{'),
@@ -22,8 +22,8 @@ fn is_opening(kind: TokenKind) -> bool
 }
 
 /// Whether this is `)`, `]` or `}`.
-fn is_closing(kind: TokenKind) -> bool
-    ensures { (text : List ℕ) → result ≡ is_closing (symbol_as kind text) }
+fn is_closing_bracket(kind: TokenKind) -> bool
+    ensures { (text : List ℕ) → result ≡ is_closing_bracket (symbol_as kind text) }
 {
     match kind {
         TokenKind::Sign(b) => matches!(b, b')' | b']' | b'}'),
@@ -49,8 +49,8 @@ pub fn first_too_deep(symbols: &Symbols) -> Option<usize>
     let mut closed: usize = 0;
     let mut rest = symbols.behind(0);
     while let Some(first) = rest.first() {
-        opened += one_where(is_opening(first.kind));
-        closed += one_where(is_closing(first.kind));
+        opened += one_where(is_opening_bracket(first.kind));
+        closed += one_where(is_closing_bracket(first.kind));
         if DEEPEST < opened.saturating_sub(closed) {
             return Some(all - first.behind.len());
         }

@@ -2,11 +2,11 @@
 
 ghost use Rattle.std.specs.Prelude.{◌≡◌, ◌∷◌, [], ◌<◌, ◌≤◌, ◌≢◌, IfOk, IfErr, IfSome, IfNone, length};
 ghost use Rattle.pipe_model.specs.declared.symbol.Symbol.TheVariants as terminals;
-ghost use Rattle.pipe_model.specs.ExpressionMachine.{Sign, Operand, Index, Tail};
-ghost use Rattle.pipe_model.specs.SyntaxTree.{expression_of};
-ghost use Rattle.pipe_model.specs.Grammar.{rank_of};
-ghost use Rattle.pipe_model.specs.Reading.{Reads, Extends, next_rank};
-ghost use Rattle.pipe_parser.specs.ExpressionFaults.{Stops, whole, closed, ReadsUnary};
+ghost use Rattle.grammar_laws.specs.ExpressionMachine.{Sign, Operand, Index, Tail};
+ghost use Rattle.pipe_model.specs.Language.SyntaxTree.{expression_of};
+ghost use Rattle.pipe_model.specs.Language.Grammar.{rank_of};
+ghost use Rattle.grammar_laws.specs.Reading.{Reads, Extends, next_rank};
+ghost use Rattle.pipe_parser.specs.ExpressionFaults.{ExpressionStops, whole, closed, ReadsUnary};
 
 use crate::fault::ExpressionFault;
 use crate::symbols::Symbols;
@@ -66,7 +66,7 @@ fn boxed(alloc: Global, e: Expr) -> Result<Box<Expr>, AllocError>
 /// What stands behind a sign that has to come.
 fn expect_sign<'a>(symbols: &Symbols<'a>, sign: u8) -> Result<Symbols<'a>, ExpressionFault>
     ensures ok { IfOk result (λ behind. symbols.now ≡ terminals.Sign sign ∷ behind) }
-    ensures err { IfErr result (λ fault. Stops (Sign sign ∷ []) symbols.now fault) }
+    ensures err { IfErr result (λ fault. ExpressionStops (Sign sign ∷ []) symbols.now fault) }
 {
     match symbols.after_sign(sign) {
         Some(behind) => Ok(behind),
@@ -77,7 +77,7 @@ fn expect_sign<'a>(symbols: &Symbols<'a>, sign: u8) -> Result<Symbols<'a>, Expre
 /// Reads the brackets of a call behind its word.
 fn read_call<'a>(e: Expr, symbols: &Symbols<'a>) -> Read<'a, Expr>
     ensures ok { IfOk result (λ r. (symbols.now ≡ terminals.Sign 40 ∷ terminals.Sign 41 ∷ r.1) × (r.0 ≡ e)) }
-    ensures err { IfErr result (λ fault. Stops (Sign 40 ∷ Sign 41 ∷ []) symbols.now fault) }
+    ensures err { IfErr result (λ fault. ExpressionStops (Sign 40 ∷ Sign 41 ∷ []) symbols.now fault) }
 {
     let rest = expect_sign(symbols, b'(')?;
     let rest = expect_sign(&rest, b')')?;
@@ -88,7 +88,7 @@ fn read_call<'a>(e: Expr, symbols: &Symbols<'a>) -> Read<'a, Expr>
 #[cycle(expression)]
 fn read_operand<'a>(alloc: Global, symbols: &Symbols<'a>) -> Read<'a, Expr>
     ensures ok { IfOk result (λ r. Reads 0 symbols.now (expression_of r.0) r.1) }
-    ensures err { IfErr result (λ fault. Stops (Operand ∷ []) symbols.now fault) }
+    ensures err { IfErr result (λ fault. ExpressionStops (Operand ∷ []) symbols.now fault) }
     ensures shorter { IfOk result (λ r. length r.1 < length symbols.now) }
 {
     let Some(first) = symbols.first() else {
@@ -111,7 +111,7 @@ fn read_operand<'a>(alloc: Global, symbols: &Symbols<'a>) -> Read<'a, Expr>
 #[cycle(expression)]
 fn read_closed<'a>(alloc: Global, sign: u8, symbols: &Symbols<'a>) -> Read<'a, Expr>
     ensures ok { IfOk result (λ r. Reads 6 symbols.now (expression_of r.0) (terminals.Sign sign ∷ r.1)) }
-    ensures err { IfErr result (λ fault. Stops (closed sign) symbols.now fault) }
+    ensures err { IfErr result (λ fault. ExpressionStops (closed sign) symbols.now fault) }
     ensures shorter { IfOk result (λ r. length r.1 < length symbols.now) }
 {
     let (e, rest) = read_expression(alloc, LOOSEST, symbols)?;
@@ -123,7 +123,7 @@ fn read_closed<'a>(alloc: Global, sign: u8, symbols: &Symbols<'a>) -> Read<'a, E
 #[cycle(expression)]
 fn read_named<'a>(alloc: Global, name: &[u8], symbols: Symbols<'a>) -> Read<'a, Expr>
     ensures ok { IfOk result (λ r. Reads 0 (terminals.Name name.now ∷ symbols.entry) (expression_of r.0) r.1) }
-    ensures err { IfErr result (λ fault. Stops (Index ∷ []) symbols.entry fault) }
+    ensures err { IfErr result (λ fault. ExpressionStops (Index ∷ []) symbols.entry fault) }
     ensures shorter { IfOk result (λ r. length r.1 ≤ length symbols.entry) }
 {
     let name = Name::new(alloc, name)?;
@@ -140,7 +140,7 @@ fn read_named<'a>(alloc: Global, name: &[u8], symbols: Symbols<'a>) -> Read<'a, 
 #[cycle(expression)]
 fn read_unary<'a>(alloc: Global, code: u8, symbols: &Symbols<'a>) -> Read<'a, Expr>
     ensures ok { IfOk result (λ r. ReadsUnary code symbols.now (expression_of r.0) r.1) }
-    ensures err { IfErr result (λ fault. Stops (Operand ∷ []) symbols.now fault) }
+    ensures err { IfErr result (λ fault. ExpressionStops (Operand ∷ []) symbols.now fault) }
     ensures shorter { IfOk result (λ r. length r.1 < length symbols.now) }
 {
     let (e, rest) = read_operand(alloc, symbols)?;
@@ -152,7 +152,7 @@ fn read_unary<'a>(alloc: Global, code: u8, symbols: &Symbols<'a>) -> Read<'a, Ex
 pub fn read_expression<'a>(alloc: Global, rank: u8, symbols: &Symbols<'a>) -> Read<'a, Expr>
     requires { rank ≤ 6 }
     ensures ok { IfOk result (λ r. Reads rank symbols.now (expression_of r.0) r.1) }
-    ensures err { IfErr result (λ fault. Stops whole symbols.now fault) }
+    ensures err { IfErr result (λ fault. ExpressionStops whole symbols.now fault) }
     ensures shorter { IfOk result (λ r. length r.1 < length symbols.now) }
 {
     if rank == 0 {
@@ -166,7 +166,7 @@ pub fn read_expression<'a>(alloc: Global, rank: u8, symbols: &Symbols<'a>) -> Re
 #[cycle(expression)]
 fn first_operand<'a>(alloc: Global, symbols: &Symbols<'a>) -> Read<'a, Expr>
     ensures ok { IfOk result (λ r. Reads 0 symbols.now (expression_of r.0) r.1) }
-    ensures err { IfErr result (λ fault. Stops whole symbols.now fault) }
+    ensures err { IfErr result (λ fault. ExpressionStops whole symbols.now fault) }
     ensures shorter { IfOk result (λ r. length r.1 < length symbols.now) }
 {
     let (e, rest) = read_operand(alloc, symbols)?;
@@ -178,7 +178,7 @@ fn first_operand<'a>(alloc: Global, symbols: &Symbols<'a>) -> Read<'a, Expr>
 fn extend<'a>(alloc: Global, rank: u8, first: Expr, symbols: Symbols<'a>) -> Read<'a, Expr>
     requires { rank < 6 }
     ensures ok { IfOk result (λ r. Extends rank (expression_of first) symbols.entry (expression_of r.0) r.1) }
-    ensures err { IfErr result (λ fault. Stops (Tail ∷ []) symbols.entry fault) }
+    ensures err { IfErr result (λ fault. ExpressionStops (Tail ∷ []) symbols.entry fault) }
     ensures shorter { IfOk result (λ r. length r.1 ≤ length symbols.entry) }
 {
     let mut joined = first;

@@ -1,10 +1,10 @@
 //! Full expressions: those that are no part of another.
 
 ghost use Rattle.std.specs.Prelude.{◌<◌, [], ◌∷◌, IfOk, IfErr, length};
-ghost use Rattle.pipe_model.specs.ProgramMachine as machine;
-ghost use Rattle.pipe_model.specs.SyntaxTree.{expression_of};
-ghost use Rattle.pipe_model.specs.Reading.{ReadsFull};
-ghost use Rattle.pipe_parser.specs.SyntaxFaults.{Stops};
+ghost use Rattle.grammar_laws.specs.ProgramMachine as machine;
+ghost use Rattle.pipe_model.specs.Language.SyntaxTree.{expression_of};
+ghost use Rattle.grammar_laws.specs.Reading.{ReadsFull};
+ghost use Rattle.pipe_parser.specs.SyntaxFaults.{SyntaxStops};
 
 use crate::expression::{LOOSEST, read_expression};
 use crate::fault::{ExpressionFault, SyntaxFault};
@@ -22,7 +22,7 @@ const LONGEST: usize = 256;
 /// that, however long the source is.
 pub fn read_full<'a>(alloc: Global, symbols: &Symbols<'a>) -> Parsed<'a, Expr>
     ensures ok { IfOk result (λ r. ReadsFull 256 symbols.now (expression_of r.0) r.1) }
-    ensures err { IfErr result (λ fault. Stops (machine.FullExpression ∷ []) symbols.now fault) }
+    ensures err { IfErr result (λ fault. SyntaxStops (machine.FullExpression ∷ []) symbols.now fault) }
     ensures shorter { IfOk result (λ r. length r.1 < length symbols.now) }
 {
     if LONGEST < symbols.len() {
@@ -39,7 +39,7 @@ pub fn read_full<'a>(alloc: Global, symbols: &Symbols<'a>) -> Parsed<'a, Expr>
 fn read_in_window<'a>(alloc: Global, symbols: &Symbols<'a>) -> Parsed<'a, Expr>
     requires { 256 < length symbols.now }
     ensures ok { IfOk result (λ r. ReadsFull 256 symbols.now (expression_of r.0) r.1) }
-    ensures err { IfErr result (λ fault. Stops (machine.FullExpression ∷ []) symbols.now fault) }
+    ensures err { IfErr result (λ fault. SyntaxStops (machine.FullExpression ∷ []) symbols.now fault) }
     ensures shorter { IfOk result (λ r. length r.1 < length symbols.now) }
 {
     let more = symbols.len() - (LONGEST + 1);

@@ -1,11 +1,11 @@
 //! Programs of the whole language, parsed from the tokens of their source.
 
 ghost use Rattle.std.specs.Prelude.{◌≡◌, ◌<◌, IfErr, IfOk, length};
-ghost use Rattle.pipe_model.specs.MarkPlaces.{is_mark, mark_places};
-ghost use Rattle.pipe_model.specs.SourceRefusals.{fault_place};
-ghost use Rattle.pipe_model.specs.SyntaxTree.{tree_of};
-ghost use Rattle.pipe_model.specs.Tokens.{IsLexed, symbols_in};
-ghost use Rattle.pipe_model.specs.Spelling.{IsShallow, Spells};
+ghost use Rattle.pipe_model.specs.Language.MarkPlaces.{is_mark, mark_places};
+ghost use Rattle.pipe_model.specs.Language.SourceRefusals.{fault_place};
+ghost use Rattle.pipe_model.specs.Language.SyntaxTree.{tree_of};
+ghost use Rattle.pipe_model.specs.Language.Tokens.{IsLexed, symbols_in};
+ghost use Rattle.pipe_model.specs.Language.Spelling.{IsShallow, Spells};
 ghost use Rattle.pipe_parser.specs.Depths.{OpensTooMany};
 ghost use Rattle.pipe_parser.specs.Parses.{IsRefusal, IsFault, IsFaultAt};
 ghost use Rattle.pipe_parser.specs.declared.parse.ParseFault.TheVariants as faults;

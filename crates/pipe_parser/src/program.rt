@@ -1,12 +1,12 @@
 //! Limits, cells and whole programs from symbols.
 
 ghost use Rattle.std.specs.Prelude.{◌≡◌, ◌<◌, [], ◌∷◌, IfOk, IfErr, length};
-ghost use Rattle.pipe_model.specs.ProgramMachine.{Sign, Word, AnyNumber, Cells, Size, Value};
-ghost use Rattle.pipe_model.specs.SyntaxTree.{expression_of, statements_of, tree_of};
-ghost use Rattle.pipe_model.specs.Reading.{ReadsSize, ReadsValue, ReadsCell, ReadsCells, ReadsProgram};
+ghost use Rattle.grammar_laws.specs.ProgramMachine.{Sign, Word, AnyNumber, Cells, Size, Value};
+ghost use Rattle.pipe_model.specs.Language.SyntaxTree.{expression_of, statements_of, tree_of};
+ghost use Rattle.grammar_laws.specs.Reading.{ReadsSize, ReadsValue, ReadsCell, ReadsCells, ReadsProgram};
 ghost use Rattle.pipe_model.specs.declared.symbol.Symbol.TheVariants as terminals;
 ghost use Rattle.pipe_parser.specs.ProgramReadings.{limit, limits, cell, loop, HasLimits, ReadsLoop};
-ghost use Rattle.pipe_parser.specs.SyntaxFaults.{Stops, Refuses};
+ghost use Rattle.pipe_parser.specs.SyntaxFaults.{SyntaxStops, Refuses};
 
 use crate::fault::SyntaxFault;
 use crate::full_expression::Parsed;
@@ -41,7 +41,7 @@ const MINUS: u8 = 10;
 /// What stands behind a word that has to come.
 fn expect_word<'a>(symbols: &Symbols<'a>, word: u8) -> Result<Symbols<'a>, SyntaxFault>
     ensures ok { IfOk result (λ behind. symbols.now ≡ terminals.Word word ∷ behind) }
-    ensures err { IfErr result (λ fault. Stops (Word word ∷ []) symbols.now fault) }
+    ensures err { IfErr result (λ fault. SyntaxStops (Word word ∷ []) symbols.now fault) }
 {
     match symbols.after_word(word) {
         Some(behind) => Ok(behind),
@@ -52,7 +52,7 @@ fn expect_word<'a>(symbols: &Symbols<'a>, word: u8) -> Result<Symbols<'a>, Synta
 /// A number that has to come, and what stands behind it.
 fn expect_number<'a>(symbols: &Symbols<'a>) -> Parsed<'a, i64>
     ensures ok { IfOk result (λ r. symbols.now ≡ terminals.Number r.0 ∷ r.1) }
-    ensures err { IfErr result (λ fault. Stops (AnyNumber ∷ []) symbols.now fault) }
+    ensures err { IfErr result (λ fault. SyntaxStops (AnyNumber ∷ []) symbols.now fault) }
 {
     match symbols.after_number() {
         Some((number, behind)) => Ok((number, behind)),
@@ -63,7 +63,7 @@ fn expect_number<'a>(symbols: &Symbols<'a>) -> Parsed<'a, i64>
 /// Reads a limit: its word, a number, and the sign behind it.
 fn read_limit<'a>(symbols: &Symbols<'a>, word: u8, sign: u8) -> Parsed<'a, i64>
     ensures ok { IfOk result (λ r. symbols.now ≡ terminals.Word word ∷ terminals.Number r.0 ∷ terminals.Sign sign ∷ r.1) }
-    ensures err { IfErr result (λ fault. Stops (limit word sign) symbols.now fault) }
+    ensures err { IfErr result (λ fault. SyntaxStops (limit word sign) symbols.now fault) }
 {
     let behind = expect_word(symbols, word)?;
     let (number, rest) = expect_number(&behind)?;
@@ -74,7 +74,7 @@ fn read_limit<'a>(symbols: &Symbols<'a>, word: u8, sign: u8) -> Parsed<'a, i64>
 /// Reads the line of limits.
 fn read_limits<'a>(symbols: &Symbols<'a>) -> Parsed<'a, Limits>
     ensures ok { IfOk result (λ r. HasLimits symbols.now r.0 r.1) }
-    ensures err { IfErr result (λ fault. Stops limits symbols.now fault) }
+    ensures err { IfErr result (λ fault. SyntaxStops limits symbols.now fault) }
 {
     let first = expect_word(symbols, LIMITS)?;
     let (iterations, second) = read_limit(&first, ITERATIONS, b',')?;
@@ -95,7 +95,7 @@ fn read_limits<'a>(symbols: &Symbols<'a>) -> Parsed<'a, Limits>
 /// Reads the size of an array, which may be missing.
 fn read_size<'a>(symbols: Symbols<'a>) -> Parsed<'a, Option<i64>>
     ensures ok { IfOk result (λ r. ReadsSize symbols.entry r.0 r.1) }
-    ensures err { IfErr result (λ fault. Stops (Size ∷ []) symbols.entry fault) }
+    ensures err { IfErr result (λ fault. SyntaxStops (Size ∷ []) symbols.entry fault) }
 {
     let Some(inside) = symbols.after_sign(b'[') else {
         return Ok((None, symbols));
@@ -108,7 +108,7 @@ fn read_size<'a>(symbols: Symbols<'a>) -> Parsed<'a, Option<i64>>
 /// Reads a declared value: a number, which may have a `-` before it.
 fn read_value<'a>(symbols: &Symbols<'a>) -> Parsed<'a, i64>
     ensures ok { IfOk result (λ r. ReadsValue symbols.now r.0 r.1) }
-    ensures err { IfErr result (λ fault. Stops (Value ∷ []) symbols.now fault) }
+    ensures err { IfErr result (λ fault. SyntaxStops (Value ∷ []) symbols.now fault) }
 {
     let Some(behind) = symbols.after_operator(MINUS) else {
         return expect_number(symbols);
@@ -125,7 +125,7 @@ fn read_value<'a>(symbols: &Symbols<'a>) -> Parsed<'a, i64>
 /// Reads the declaration of a cell, behind its word.
 fn read_cell<'a>(alloc: Global, symbols: &Symbols<'a>) -> Parsed<'a, Declaration>
     ensures ok { IfOk result (λ r. ReadsCell symbols.now r.0 r.1) }
-    ensures err { IfErr result (λ fault. Stops cell symbols.now fault) }
+    ensures err { IfErr result (λ fault. SyntaxStops cell symbols.now fault) }
     ensures shorter { IfOk result (λ r. length r.1 < length symbols.now) }
 {
     let Some((name, first)) = symbols.after_name() else {
@@ -142,7 +142,7 @@ fn read_cell<'a>(alloc: Global, symbols: &Symbols<'a>) -> Parsed<'a, Declaration
 /// Reads declarations, as long as their word stands at the front.
 fn read_cells<'a>(alloc: Global, symbols: Symbols<'a>) -> Parsed<'a, Declarations>
     ensures ok { IfOk result (λ r. ReadsCells symbols.entry r.0 r.1) }
-    ensures err { IfErr result (λ fault. Stops (Cells ∷ []) symbols.entry fault) }
+    ensures err { IfErr result (λ fault. SyntaxStops (Cells ∷ []) symbols.entry fault) }
 {
     let mut cells = Declarations::new(alloc);
     let mut rest = symbols;
@@ -160,7 +160,7 @@ fn read_loop<'a>(
     symbols: &Symbols<'a>,
 ) -> Result<(Expr, Block, Symbols<'a>), SyntaxFault>
     ensures ok { IfOk result (λ r. ReadsLoop symbols.now (expression_of r.0) (statements_of r.1.statements.items) r.2) }
-    ensures err { IfErr result (λ fault. Stops loop symbols.now fault) }
+    ensures err { IfErr result (λ fault. SyntaxStops loop symbols.now fault) }
 {
     let behind = expect_word(symbols, PIPE_WHILE)?;
     let (test, inside) = read_test(alloc, &behind)?;

@@ -1,14 +1,14 @@
 //! Statements and blocks from symbols.
 
 ghost use Rattle.std.specs.Prelude.{◌≡◌, ◌<◌, ◌≤◌, [], ◌∷◌, IfOk, IfErr, length};
-ghost use Rattle.pipe_model.specs.ProgramMachine as machine;
-ghost use Rattle.pipe_model.specs.ProgramMachine.{Sign, FullExpression, Target, Part};
-ghost use Rattle.pipe_model.specs.SyntaxTree.{expression_of, statement_of, statements_of};
-ghost use Rattle.pipe_model.specs.Reading.{ReadsFull, ReadsStatement, ReadsBlock, ReadsPart, NoSign};
-ghost use Rattle.pipe_model.specs.Words.{word_let, word_emit, word_if, word_while};
+ghost use Rattle.grammar_laws.specs.ProgramMachine as machine;
+ghost use Rattle.grammar_laws.specs.ProgramMachine.{Sign, FullExpression, Target, Part};
+ghost use Rattle.pipe_model.specs.Language.SyntaxTree.{expression_of, statement_of, statements_of};
+ghost use Rattle.grammar_laws.specs.Reading.{ReadsFull, ReadsStatement, ReadsBlock, ReadsPart, NoSign};
+ghost use Rattle.pipe_model.specs.Language.Words.{word_let, word_emit, word_if, word_while};
 ghost use Rattle.pipe_model.specs.declared.symbol.Symbol.TheVariants as terminals;
 ghost use Rattle.pipe_parser.specs.StatementReadings.{test, binding, element, stage, block, repetition, choice, ReadsTest, ReadsStage};
-ghost use Rattle.pipe_parser.specs.SyntaxFaults.{Stops};
+ghost use Rattle.pipe_parser.specs.SyntaxFaults.{SyntaxStops};
 
 use crate::fault::SyntaxFault;
 use crate::full_expression::{Parsed, read_full};
@@ -24,7 +24,7 @@ const ELSE: u8 = 14;
 /// What stands behind a sign that has to come.
 pub fn expect_sign<'a>(symbols: &Symbols<'a>, sign: u8) -> Result<Symbols<'a>, SyntaxFault>
     ensures ok { IfOk result (λ behind. symbols.now ≡ terminals.Sign sign ∷ behind) }
-    ensures err { IfErr result (λ fault. Stops (Sign sign ∷ []) symbols.now fault) }
+    ensures err { IfErr result (λ fault. SyntaxStops (Sign sign ∷ []) symbols.now fault) }
 {
     match symbols.after_sign(sign) {
         Some(behind) => Ok(behind),
@@ -35,7 +35,7 @@ pub fn expect_sign<'a>(symbols: &Symbols<'a>, sign: u8) -> Result<Symbols<'a>, S
 /// Reads a full expression and the sign that closes it.
 fn read_until<'a>(alloc: Global, sign: u8, symbols: &Symbols<'a>) -> Parsed<'a, Expr>
     ensures ok { IfOk result (λ r. ReadsFull 256 symbols.now (expression_of r.0) (terminals.Sign sign ∷ r.1)) }
-    ensures err { IfErr result (λ fault. Stops (FullExpression ∷ Sign sign ∷ []) symbols.now fault) }
+    ensures err { IfErr result (λ fault. SyntaxStops (FullExpression ∷ Sign sign ∷ []) symbols.now fault) }
     ensures shorter { IfOk result (λ r. length r.1 < length symbols.now) }
 {
     let (e, rest) = read_full(alloc, symbols)?;
@@ -46,7 +46,7 @@ fn read_until<'a>(alloc: Global, sign: u8, symbols: &Symbols<'a>) -> Parsed<'a, 
 /// Reads a test in brackets.
 pub fn read_test<'a>(alloc: Global, symbols: &Symbols<'a>) -> Parsed<'a, Expr>
     ensures ok { IfOk result (λ r. ReadsTest symbols.now (expression_of r.0) r.1) }
-    ensures err { IfErr result (λ fault. Stops test symbols.now fault) }
+    ensures err { IfErr result (λ fault. SyntaxStops test symbols.now fault) }
     ensures shorter { IfOk result (λ r. length r.1 < length symbols.now) }
 {
     let inside = expect_sign(symbols, b'(')?;
@@ -57,7 +57,7 @@ pub fn read_test<'a>(alloc: Global, symbols: &Symbols<'a>) -> Parsed<'a, Expr>
 /// Reads a `let`, behind its word.
 fn read_let<'a>(alloc: Global, symbols: &Symbols<'a>) -> Parsed<'a, Stmt>
     ensures ok { IfOk result (λ r. ReadsStatement 256 (word_let ∷ symbols.now) (statement_of r.0) r.1) }
-    ensures err { IfErr result (λ fault. Stops binding symbols.now fault) }
+    ensures err { IfErr result (λ fault. SyntaxStops binding symbols.now fault) }
     ensures shorter { IfOk result (λ r. length r.1 < length symbols.now) }
 {
     let Some((name, behind)) = symbols.after_name() else {
@@ -72,7 +72,7 @@ fn read_let<'a>(alloc: Global, symbols: &Symbols<'a>) -> Parsed<'a, Stmt>
 /// Reads an assignment to an element, behind its opening bracket.
 fn read_element<'a>(alloc: Global, name: &[u8], symbols: &Symbols<'a>) -> Parsed<'a, Stmt>
     ensures ok { IfOk result (λ r. ReadsStatement 256 (terminals.Name name.now ∷ terminals.Sign 91 ∷ symbols.now) (statement_of r.0) r.1) }
-    ensures err { IfErr result (λ fault. Stops element symbols.now fault) }
+    ensures err { IfErr result (λ fault. SyntaxStops element symbols.now fault) }
     ensures shorter { IfOk result (λ r. length r.1 < length symbols.now) }
 {
     let (index, rest) = read_until(alloc, b']', symbols)?;
@@ -85,7 +85,7 @@ fn read_element<'a>(alloc: Global, name: &[u8], symbols: &Symbols<'a>) -> Parsed
 /// Reads an assignment, behind its name.
 fn read_assignment<'a>(alloc: Global, name: &[u8], symbols: &Symbols<'a>) -> Parsed<'a, Stmt>
     ensures ok { IfOk result (λ r. ReadsStatement 256 (terminals.Name name.now ∷ symbols.now) (statement_of r.0) r.1) }
-    ensures err { IfErr result (λ fault. Stops (Target ∷ []) symbols.now fault) }
+    ensures err { IfErr result (λ fault. SyntaxStops (Target ∷ []) symbols.now fault) }
     ensures shorter { IfOk result (λ r. length r.1 < length symbols.now) }
 {
     if let Some(inside) = symbols.after_sign(b'[') {
@@ -102,7 +102,7 @@ fn read_assignment<'a>(alloc: Global, name: &[u8], symbols: &Symbols<'a>) -> Par
 /// Reads an `emit`, behind its word.
 fn read_emit<'a>(alloc: Global, symbols: &Symbols<'a>) -> Parsed<'a, Stmt>
     ensures ok { IfOk result (λ r. ReadsStatement 256 (word_emit ∷ symbols.now) (statement_of r.0) r.1) }
-    ensures err { IfErr result (λ fault. Stops (FullExpression ∷ Sign 59 ∷ []) symbols.now fault) }
+    ensures err { IfErr result (λ fault. SyntaxStops (FullExpression ∷ Sign 59 ∷ []) symbols.now fault) }
     ensures shorter { IfOk result (λ r. length r.1 < length symbols.now) }
 {
     let (e, rest) = read_until(alloc, b';', symbols)?;
@@ -112,7 +112,7 @@ fn read_emit<'a>(alloc: Global, symbols: &Symbols<'a>) -> Parsed<'a, Stmt>
 /// Reads the brackets of a stage statement, with a stage number or without, and the semicolon behind them.
 fn read_stage<'a>(alloc: Global, symbols: &Symbols<'a>) -> Parsed<'a, Option<Expr>>
     ensures ok { IfOk result (λ r. ReadsStage symbols.now r.0 r.1) }
-    ensures err { IfErr result (λ fault. Stops stage symbols.now fault) }
+    ensures err { IfErr result (λ fault. SyntaxStops stage symbols.now fault) }
     ensures shorter { IfOk result (λ r. length r.1 < length symbols.now) }
 {
     let inside = expect_sign(symbols, b'(')?;
@@ -130,7 +130,7 @@ fn read_stage<'a>(alloc: Global, symbols: &Symbols<'a>) -> Parsed<'a, Option<Exp
 fn read_statement<'a>(alloc: Global, symbols: &Symbols<'a>) -> Parsed<'a, Stmt>
     requires { NoSign 125 symbols.now }
     ensures ok { IfOk result (λ r. ReadsStatement 256 symbols.now (statement_of r.0) r.1) }
-    ensures err { IfErr result (λ fault. Stops (machine.Statements ∷ Sign 125 ∷ []) symbols.now fault) }
+    ensures err { IfErr result (λ fault. SyntaxStops (machine.Statements ∷ Sign 125 ∷ []) symbols.now fault) }
     ensures shorter { IfOk result (λ r. length r.1 < length symbols.now) }
 {
     let Some(first) = symbols.first() else {
@@ -158,7 +158,7 @@ fn read_statement<'a>(alloc: Global, symbols: &Symbols<'a>) -> Parsed<'a, Stmt>
 #[cycle(block)]
 fn read_if<'a>(alloc: Global, symbols: &Symbols<'a>) -> Parsed<'a, Stmt>
     ensures ok { IfOk result (λ r. ReadsStatement 256 (word_if ∷ symbols.now) (statement_of r.0) r.1) }
-    ensures err { IfErr result (λ fault. Stops choice symbols.now fault) }
+    ensures err { IfErr result (λ fault. SyntaxStops choice symbols.now fault) }
     ensures shorter { IfOk result (λ r. length r.1 < length symbols.now) }
 {
     let (e, rest) = read_test(alloc, symbols)?;
@@ -171,7 +171,7 @@ fn read_if<'a>(alloc: Global, symbols: &Symbols<'a>) -> Parsed<'a, Stmt>
 #[cycle(block)]
 fn read_while<'a>(alloc: Global, symbols: &Symbols<'a>) -> Parsed<'a, Stmt>
     ensures ok { IfOk result (λ r. ReadsStatement 256 (word_while ∷ symbols.now) (statement_of r.0) r.1) }
-    ensures err { IfErr result (λ fault. Stops repetition symbols.now fault) }
+    ensures err { IfErr result (λ fault. SyntaxStops repetition symbols.now fault) }
     ensures shorter { IfOk result (λ r. length r.1 < length symbols.now) }
 {
     let (e, rest) = read_test(alloc, symbols)?;
@@ -183,7 +183,7 @@ fn read_while<'a>(alloc: Global, symbols: &Symbols<'a>) -> Parsed<'a, Stmt>
 #[cycle(block)]
 pub fn read_part<'a>(alloc: Global, word: u8, symbols: Symbols<'a>) -> Parsed<'a, Block>
     ensures ok { IfOk result (λ r. ReadsPart 256 word symbols.entry (statements_of r.0.statements.items) r.1) }
-    ensures err { IfErr result (λ fault. Stops (Part word ∷ []) symbols.entry fault) }
+    ensures err { IfErr result (λ fault. SyntaxStops (Part word ∷ []) symbols.entry fault) }
     ensures shorter { IfOk result (λ r. length r.1 ≤ length symbols.entry) }
 {
     match symbols.after_word(word) {
@@ -201,7 +201,7 @@ pub fn read_part<'a>(alloc: Global, word: u8, symbols: Symbols<'a>) -> Parsed<'a
 #[cycle(block)]
 pub fn read_block<'a>(alloc: Global, symbols: &Symbols<'a>) -> Parsed<'a, Block>
     ensures ok { IfOk result (λ r. ReadsBlock 256 symbols.now (statements_of r.0.statements.items) r.1) }
-    ensures err { IfErr result (λ fault. Stops block symbols.now fault) }
+    ensures err { IfErr result (λ fault. SyntaxStops block symbols.now fault) }
     ensures shorter { IfOk result (λ r. length r.1 < length symbols.now) }
 {
     let mut rest = expect_sign(symbols, b'{')?;

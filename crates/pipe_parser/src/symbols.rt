@@ -1,8 +1,8 @@
 //! Symbols of a source: its tokens, as the grammar speaks of them.
 
 ghost use Rattle.std.specs.Prelude.{◌≡◌, ◌∷◌, [], IfSome, IfNone, drop, length, take};
-ghost use Rattle.pipe_model.specs.Tokens.{symbol_as, symbols_in, text_in};
-ghost use Rattle.pipe_model.specs.Reading.{NoSign, NoWord};
+ghost use Rattle.pipe_model.specs.Language.Tokens.{symbol_as, symbols_in, text_in};
+ghost use Rattle.grammar_laws.specs.Reading.{NoSign, NoWord};
 ghost use Rattle.pipe_model.specs.declared.symbol.Symbol.TheVariants.{Name, Number, Operator, Sign, Word};
 ghost use Rattle.pipe_parser.specs.SymbolFronts.{NoName, NoNumber, NoOperator};
 
@@ -18,7 +18,7 @@ pub struct Symbols<'a> {
 
 impl<'a> Model for Symbols<'a> {
     ghost use Rattle.std.specs.Prelude.{List};
-    ghost use Rattle.pipe_model.specs.Tokens.{symbols_in};
+    ghost use Rattle.pipe_model.specs.Language.Tokens.{symbols_in};
     ghost use Rattle.pipe_model.specs.declared.symbol.Symbol.{Symbol};
 
     ghost Value = { List Symbol };

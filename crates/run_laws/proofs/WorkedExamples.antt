@@ -4,12 +4,12 @@ use Rattle.std.specs.declared.option.Option.TheVariants.{Some}
 use Rattle.std.proofs.lemmas.Int.{ints}
 use Rattle.pipe_model.specs.declared.node.NodeId.{NodeId}
 use Rattle.pipe_model.specs.declared.node.Kind.TheVariants.{Zero}
-use Rattle.pipe_model.specs.Columns.{node_at, nodes_at, AreColumns}
-use Rattle.pipe_model.specs.Dag.{IsLastUpTo, CrossEdge, HeadCross, WaitCross, AcrossEdge, ByEdge}
-use Rattle.pipe_model.specs.LeftParent.{last_up_to}
-use Rattle.run_laws.specs.Examples.{skipping_columns, redundant_columns, WaitsForTheStageBefore, SkippingStagesAreParallel}
-use Rattle.run_laws.specs.Examples.{RedundantEdgeHasNoParent, WaitsUntilPassed, ListsOfWaitingColumns, ParallelReadIsFound}
-use Rattle.run_laws.specs.Examples.{OrderedReadIsNoRace, SerialEventsOfTwoIterations}
+use Rattle.pipe_model.specs.Races.Columns.{node_at, nodes_at, AreColumns}
+use Rattle.pipe_model.specs.Races.Dag.{IsLastUpTo, CrossEdge, HeadCross, WaitCross, AcrossEdge, ByEdge}
+use Rattle.pipe_model.specs.Orders.LeftParent.{last_up_to}
+use Rattle.run_laws.specs.RunExamples.{skipping_columns, redundant_columns, WaitsForTheStageBefore, SkippingStagesAreParallel}
+use Rattle.run_laws.specs.RunExamples.{RedundantEdgeHasNoParent, WaitsUntilPassed, ListsOfWaitingColumns, ParallelReadIsFound}
+use Rattle.run_laws.specs.RunExamples.{OrderedReadIsNoRace, SerialEventsOfTwoIterations}
 use Rattle.run_laws.proofs.ListOrders.JoinedPlaces.{last_up_to_is}
 use Rattle.run_laws.proofs.ListOrders.PrecedingPlaces.{below_path}
 

@@ -1,10 +1,10 @@
 -- Laws of behaviours: the actions that an iteration can make, told by an interpreter, by replies and action by action.
 -- Interaction trees are those of Xia et al. 2020.
 use Rattle.std.specs.Prelude.{List, ℕ, ◌≡◌, ◌++◌, ℤ}
-use Rattle.pipe_model.specs.Behaviour.{accesses_in, Behaviour, Performs, actions_with, Action, HasNoEnd}
-use Rattle.pipe_model.specs.Interaction.{bind, outcome_bind, Interaction, Progress, outcome_actions, interpret, with_budget, replies_in}
-use Rattle.pipe_model.specs.Pipeline.{Pipeline}
-use Rattle.pipe_model.specs.SerialElision.{serial_trace}
+use Rattle.pipe_model.specs.Pipelines.Behaviour.{accesses_in, Behaviour, Performs, actions_with, Action, HasNoEnd}
+use Rattle.pipe_model.specs.Language.Interaction.{bind, interpreted_bind, Interaction, Progress, interpreted_actions, interpret, with_budget, replies_in}
+use Rattle.pipe_model.specs.Pipelines.Pipeline.{Pipeline}
+use Rattle.pipe_model.specs.Pipelines.SerialElision.{serial_trace}
 use Rattle.pipe_model.specs.declared.access.Access.{Access}
 use Rattle.pipe_model.specs.declared.column.ColumnEnd.{ColumnEnd}
 
@@ -12,7 +12,7 @@ use Rattle.pipe_model.specs.declared.column.ColumnEnd.{ColumnEnd}
 abbrev pub InterpretersAreSerial : Type 0
 InterpretersAreSerial =
     (p : Pipeline) (base : List Access) (budget : ℕ) (tree : Interaction ColumnEnd) (k : Progress)
-    → outcome_actions (interpret p base budget tree k)
+    → interpreted_actions (interpret p base budget tree k)
     ≡ k.actions ++ serial_trace p (with_budget budget k.left tree) (base ++ accesses_in k.actions)
 
 -- what a behaviour performs is what it does with the replies that stand in it:
@@ -34,4 +34,4 @@ abbrev pub BindsAreInterpretedInTurn : Type 0 → Type 0 → Type 0
 BindsAreInterpretedInTurn A B =
     (p : Pipeline) (base : List Access) (budget : ℕ) (tree : Interaction A) (next : A → Interaction B) (k : Progress)
     → interpret p base budget (bind tree next) k
-    ≡ outcome_bind (interpret p base budget tree k) (λ a j. interpret p base budget (next a) j)
+    ≡ interpreted_bind (interpret p base budget tree k) (λ a j. interpret p base budget (next a) j)

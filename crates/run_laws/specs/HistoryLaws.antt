@@ -1,16 +1,16 @@
 -- Laws of the access histories of a run (Xu, Lee, Agrawal 2018): three kept instances a cell are enough to find its
 -- first race.
 use Rattle.std.specs.Prelude.{ℕ, List, None, ◌≡◌, ◌↔◌, ◌<◌}
-use Rattle.pipe_model.specs.CellRaces.{accesses_to}
-use Rattle.pipe_model.specs.HistoryRaces.{IsRightVerdict, first_race_of}
-use Rattle.pipe_model.specs.HistoryReports.{reports_below}
-use Rattle.pipe_model.specs.Pipeline.{Pipeline, AlwaysClosesLoop, IsWellFormed}
-use Rattle.pipe_model.specs.Races.{IsRaceFree, Among}
-use Rattle.pipe_model.specs.Reports.{AreRight}
-use Rattle.pipe_model.specs.Run.{Run, IsFinished}
-use Rattle.pipe_model.specs.SerialElision.{serial_columns, serial_accesses}
-use Rattle.pipe_model.specs.Starts.{starts_of}
-use Rattle.pipe_model.specs.State.{State, own_columns}
+use Rattle.pipe_model.specs.Races.CellRaces.{accesses_to}
+use Rattle.pipe_model.specs.Orders.HistoryRaces.{IsRightVerdict, found_race_of_cell}
+use Rattle.pipe_model.specs.Orders.HistoryReports.{reports_below}
+use Rattle.pipe_model.specs.Pipelines.Pipeline.{Pipeline, AlwaysClosesLoop, IsWellFormed}
+use Rattle.pipe_model.specs.Races.DeterminacyRaces.{IsRaceFree, Among}
+use Rattle.pipe_model.specs.Races.Reports.{AreRight}
+use Rattle.pipe_model.specs.Runs.Run.{Run, IsFinished}
+use Rattle.pipe_model.specs.Pipelines.SerialElision.{serial_columns, serial_accesses}
+use Rattle.pipe_model.specs.Orders.Starts.{starts_of}
+use Rattle.pipe_model.specs.Runs.State.{State, own_columns}
 use Rattle.pipe_model.specs.declared.access.NodeAccess.{NodeAccess}
 use Rattle.pipe_model.specs.declared.event.Event.{Event}
 use Rattle.run_laws.specs.SerialLaws.{IsSerial}
@@ -21,13 +21,13 @@ HistoriesFindTheFirstRace =
     (p : Pipeline) (limit : ℕ) (events : List Event) (s : State) → Run p limit events s
     → (cell : ℕ)
     → IsRightVerdict (own_columns s) (accesses_to cell s.accesses)
-    (first_race_of (own_columns s) (starts_of events) s.accesses cell)
+    (found_race_of_cell (own_columns s) (starts_of events) s.accesses cell)
 
 -- the histories of all cells find nothing exactly where there is no race
 abbrev pub HistoriesDecideRaces : Type 0
 HistoriesDecideRaces =
     (p : Pipeline) (limit : ℕ) (events : List Event) (s : State) → Run p limit events s
-    → ((cell : ℕ) → first_race_of (own_columns s) (starts_of events) s.accesses cell ≡ None)
+    → ((cell : ℕ) → found_race_of_cell (own_columns s) (starts_of events) s.accesses cell ≡ None)
     ↔ IsRaceFree (own_columns s) s.accesses
 
 -- the reports of the first races of all cells are right, where `cells` is above the number of each cell that is accessed
@@ -42,7 +42,7 @@ abbrev pub NothingFoundIsSerial : Type 0
 NothingFoundIsSerial =
     (p : Pipeline) (limit : ℕ) (events : List Event) (s : State) → Run p limit events s
     → AlwaysClosesLoop (p.behaviour p.last_iteration) → IsFinished s
-    → ((cell : ℕ) → first_race_of (own_columns s) (starts_of events) s.accesses cell ≡ None)
+    → ((cell : ℕ) → found_race_of_cell (own_columns s) (starts_of events) s.accesses cell ≡ None)
     → IsSerial p s
 
 -- where the serial elision has no race, the histories of no run find one
@@ -51,4 +51,4 @@ RaceFreeElisionsFindNothing =
     (p : Pipeline) (limit : ℕ) (events : List Event) (s : State) → Run p limit events s
     → IsWellFormed p
     → IsRaceFree (serial_columns p) (serial_accesses p)
-    → (cell : ℕ) → first_race_of (own_columns s) (starts_of events) s.accesses cell ≡ None
+    → (cell : ℕ) → found_race_of_cell (own_columns s) (starts_of events) s.accesses cell ≡ None

@@ -1,17 +1,17 @@
 -- Laws of the two orders of a list of starts, and of a run (Xu, Lee, Agrawal 2018): together they are the order of
 -- the dag. The lists are order-maintenance lists (Bender et al. 2002), told by their insertion logs.
 use Rattle.std.specs.Prelude.{None, if◌then◌else◌, nat_lt, List, ◌↔◌, ℕ, ◌≡◌, length, suc, ◌+◌, ◌<◌, Some, [], ◌∷◌, ◌++◌, true}
-use Rattle.pipe_model.specs.Allowed.{Allowed}
-use Rattle.pipe_model.specs.Columns.{node_at, AreColumns, IsNodeOf, nodes_at, at}
-use Rattle.pipe_model.specs.Dag.{Precedes, CrossEdge}
-use Rattle.pipe_model.specs.LeftParent.{left_parent, last_up_to, joined_at}
-use Rattle.pipe_model.specs.OrderList.{insert_after, IsLog, has, list_of_log, StandsBefore}
-use Rattle.pipe_model.specs.Pipeline.{Pipeline}
-use Rattle.pipe_model.specs.Run.{Run}
-use Rattle.pipe_model.specs.Starts.{AreStarts, starts_of, IsStarted, start_number, started_by}
-use Rattle.pipe_model.specs.State.{State, own_columns, next_state}
-use Rattle.pipe_model.specs.TwoOrders.{IsBeforeInBoth, down_element, right_element, down_first_log, log_entries, down_first_taken}
-use Rattle.pipe_model.specs.TwoOrders.{right_first_log, right_first_taken}
+use Rattle.pipe_model.specs.Runs.Allowed.{Allowed}
+use Rattle.pipe_model.specs.Races.Columns.{node_at, AreColumns, IsNodeOf, nodes_at, at}
+use Rattle.pipe_model.specs.Races.Dag.{Precedes, CrossEdge}
+use Rattle.pipe_model.specs.Orders.LeftParent.{left_parent, last_up_to, joined_at}
+use Rattle.pipe_model.specs.Orders.OrderList.{insert_after, IsLog, has, list_of_log, StandsBefore}
+use Rattle.pipe_model.specs.Pipelines.Pipeline.{Pipeline}
+use Rattle.pipe_model.specs.Runs.Run.{Run}
+use Rattle.pipe_model.specs.Orders.Starts.{AreStarts, starts_of, IsStarted, start_number, started_by}
+use Rattle.pipe_model.specs.Runs.State.{State, own_columns, next_state}
+use Rattle.pipe_model.specs.Orders.TwoOrders.{IsBeforeInBoth, down_element, right_element, down_first_log, log_entries, down_first_taken}
+use Rattle.pipe_model.specs.Orders.TwoOrders.{right_first_log, right_first_taken}
 use Rattle.pipe_model.specs.declared.event.Event.{Event}
 use Rattle.pipe_model.specs.declared.node.Kind.TheVariants.{Wait, Continue}
 use Rattle.pipe_model.specs.declared.node.Node.{Node}

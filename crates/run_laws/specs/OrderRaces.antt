@@ -2,8 +2,8 @@
 use Rattle.std.specs.Prelude.{ℕ, ◌≡◌, ◌<◌, ◌⊎◌, List, length}
 use Rattle.std.specs.declared.option.Option.{Option}
 use Rattle.std.specs.declared.option.Option.TheVariants.{None, Some}
-use Rattle.pipe_model.specs.AccessHistory.{FirstRace, first_race}
-use Rattle.pipe_model.specs.CellRaces.{NotedAccess, access_at, KindsConflict}
+use Rattle.pipe_model.specs.Orders.AccessHistory.{FoundRace, found_race}
+use Rattle.pipe_model.specs.Races.CellRaces.{NotedAccess, access_at, KindsConflict}
 use Rattle.pipe_model.specs.declared.node.NodeId.{NodeId}
 
 -- y is x, or stands before it in both orders
@@ -27,12 +27,12 @@ pub record AreOrders (down right : NodeId → ℕ) (accesses : List NotedAccess)
       → (access_at accesses n).who ≡ (access_at accesses k).who
 
 -- the race is the first that the orders tell
-pub record IsFirstInOrders (down right : NodeId → ℕ) (accesses : List NotedAccess) (race : FirstRace) : Type 0 where
+pub record IsFirstInOrders (down right : NodeId → ℕ) (accesses : List NotedAccess) (race : FoundRace) : Type 0 where
   pub racy : (k : ℕ) × RacesInOrders down right accesses race.number k × (access_at accesses k ≡ race.earlier)
   pub first : (n k : ℕ) → n < race.number → RacesInOrders down right accesses n k → ⊥
 
 -- what is found is the first race that the orders tell
-abbrev pub IsRightInOrders : (NodeId → ℕ) → (NodeId → ℕ) → List NotedAccess → Option FirstRace → Type 0
+abbrev pub IsRightInOrders : (NodeId → ℕ) → (NodeId → ℕ) → List NotedAccess → Option FoundRace → Type 0
 IsRightInOrders down right accesses None = (n k : ℕ) → RacesInOrders down right accesses n k → ⊥
 IsRightInOrders down right accesses (Some race) = IsFirstInOrders down right accesses race
 
@@ -40,4 +40,4 @@ IsRightInOrders down right accesses (Some race) = IsFirstInOrders down right acc
 abbrev pub HistoriesOfOrders : Type 0
 HistoriesOfOrders =
     (down right : NodeId → ℕ) (accesses : List NotedAccess) → AreOrders down right accesses
-    → IsRightInOrders down right accesses (first_race down right accesses)
+    → IsRightInOrders down right accesses (found_race down right accesses)

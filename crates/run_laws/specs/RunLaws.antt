@@ -1,21 +1,21 @@
 -- Laws of runs: what every run keeps, that it goes on, and that it comes to an end.
 use Rattle.std.specs.Prelude.{List, ℕ, [], suc, ◌∷◌, length, ◌≡◌, ◌+◌, ◌≤◌, ◌<◌, false, ◌≢◌, ◌⊎◌, zero, ◌*◌, ◌↔◌}
-use Rattle.pipe_model.specs.Allowed.{Allowed}
-use Rattle.pipe_model.specs.Columns.{IsRising, nodes_at}
-use Rattle.pipe_model.specs.Pipeline.{Pipeline, IsWellFormed, AlwaysClosesLoop, HasBoundedWork}
-use Rattle.pipe_model.specs.Races.{Among}
-use Rattle.pipe_model.specs.Run.{Run, IsFinished, AllowedFrom, state_from}
-use Rattle.pipe_model.specs.State.{State, own_columns, alive, initial_state}
-use Rattle.pipe_model.specs.Throttling.{begun, finished, IsThrottled}
+use Rattle.pipe_model.specs.Runs.Allowed.{Allowed}
+use Rattle.pipe_model.specs.Races.Columns.{IsRising, nodes_at}
+use Rattle.pipe_model.specs.Pipelines.Pipeline.{Pipeline, IsWellFormed, AlwaysClosesLoop, HasBoundedWork}
+use Rattle.pipe_model.specs.Races.DeterminacyRaces.{Among}
+use Rattle.pipe_model.specs.Runs.Run.{Run, IsFinished, AllowedFrom, state_from}
+use Rattle.pipe_model.specs.Runs.State.{State, own_columns, alive, initial_state}
+use Rattle.pipe_model.specs.Runs.Throttling.{begun_count, ended_count, IsThrottled}
 use Rattle.pipe_model.specs.declared.access.NodeAccess.{NodeAccess}
 use Rattle.pipe_model.specs.declared.event.Event.{Event}
 use Rattle.pipe_model.specs.declared.event.Event.TheVariants.{Stop}
 
--- what every run keeps: iterations have begun, are alive or have ended; after each event at most `limit` are alive; the
+-- what every run keeps: iterations have begun_count, are alive or have ended; after each event at most `limit` are alive; the
 -- stage numbers of an iteration rise; and each access is made by an instance of the run
 pub record KeepsRules (limit : ℕ) (events : List Event) (s : State) : Type 0 where
-  pub columns : begun events ≡ length (own_columns s)
-  pub counted : begun events ≡ finished events + alive s
+  pub columns : begun_count events ≡ length (own_columns s)
+  pub counted : begun_count events ≡ ended_count events + alive s
   pub throttled : IsThrottled limit events
   pub rising : (i : ℕ) → IsRising (nodes_at (own_columns s) i)
   pub inside : (x : NodeAccess) → Among x s.accesses
@@ -33,7 +33,7 @@ RunsFromTheFront =
     (p : Pipeline) (limit : ℕ) (events : List Event) (s : State)
     → Run p limit events s ↔ (AllowedFrom p limit initial_state events × (s ≡ state_from initial_state events))
 
--- a run that is neither finished nor stopped goes on, with an event other than a stop
+-- a run that is neither ended_count nor stopped goes on, with an event other than a stop
 abbrev pub RunsNeverStick : Type 0
 RunsNeverStick =
     (p : Pipeline) (limit : ℕ) (events : List Event) (s : State) → Run p limit events s

@@ -1,14 +1,14 @@
 -- Laws of runs and the serial elision of a pipeline (Lee et al. 2013): a run without a determinacy race computes what the
 -- serial elision computes, and whether there is a race does not depend on the order of the run.
 use Rattle.std.specs.Prelude.{◌↔◌, ◌≡◌, map, ℕ, ◌++◌, List, ◌<◌}
-use Rattle.pipe_model.specs.Outcome.{serial_ended_columns}
-use Rattle.pipe_model.specs.Pipeline.{Pipeline, AlwaysClosesLoop, IsWellFormed}
-use Rattle.pipe_model.specs.Races.{IsRaceFree}
-use Rattle.pipe_model.specs.Run.{Run, IsFinished}
-use Rattle.pipe_model.specs.RunLogs.{column_of_frame}
-use Rattle.pipe_model.specs.SerialElision.{serial_columns, serial_ends, serial_accesses, serial_events}
-use Rattle.pipe_model.specs.State.{State, own_columns, end_of_status, accesses_of}
-use Rattle.pipe_model.specs.Store.{written}
+use Rattle.pipe_model.specs.Pipelines.ElisionResults.{serial_ended_columns}
+use Rattle.pipe_model.specs.Pipelines.Pipeline.{Pipeline, AlwaysClosesLoop, IsWellFormed}
+use Rattle.pipe_model.specs.Races.DeterminacyRaces.{IsRaceFree}
+use Rattle.pipe_model.specs.Runs.Run.{Run, IsFinished}
+use Rattle.pipe_model.specs.Runs.RunLogs.{column_of_frame}
+use Rattle.pipe_model.specs.Pipelines.SerialElision.{serial_columns, serial_ends, serial_accesses, serial_events}
+use Rattle.pipe_model.specs.Runs.State.{State, own_columns, end_of_status, accesses_of}
+use Rattle.pipe_model.specs.Pipelines.Store.{written}
 use Rattle.pipe_model.specs.declared.event.Event.{Event}
 
 -- the serial elision as a list of events is a finished run, with its columns, their ends, and its accesses

@@ -1,8 +1,8 @@
 //! Worked examples of the definitions, by computation.
 
-ghost use Rattle.run_laws.specs.Examples.{WaitsForTheStageBefore, SkippingStagesAreParallel};
-ghost use Rattle.run_laws.specs.Examples.{RedundantEdgeHasNoParent, WaitsUntilPassed, ListsOfWaitingColumns};
-ghost use Rattle.run_laws.specs.Examples.{ParallelReadIsFound, OrderedReadIsNoRace, SerialEventsOfTwoIterations};
+ghost use Rattle.run_laws.specs.RunExamples.{WaitsForTheStageBefore, SkippingStagesAreParallel};
+ghost use Rattle.run_laws.specs.RunExamples.{RedundantEdgeHasNoParent, WaitsUntilPassed, ListsOfWaitingColumns};
+ghost use Rattle.run_laws.specs.RunExamples.{ParallelReadIsFound, OrderedReadIsNoRace, SerialEventsOfTwoIterations};
 
 /// An instance that waits in a stage which the left column skips takes its edge from the last stage before it, and from
 /// no other.

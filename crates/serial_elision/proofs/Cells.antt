@@ -5,10 +5,10 @@ use Rattle.std.proofs.lemmas.List.{map-append, take_more, get_or-set_same, get_o
 use Rattle.pipe_model.specs.declared.access.Access.{Access}
 use Rattle.pipe_model.specs.declared.access.NodeAccess.{NodeAccess}
 use Rattle.pipe_model.specs.declared.node.NodeId.{NodeId}
-use Rattle.pipe_model.specs.Behaviour.{read_access, write_access}
-use Rattle.pipe_model.specs.State.{accesses_of}
-use Rattle.pipe_model.specs.Store.{written, wrote, wrote_as, last_or, value_after}
-use Rattle.serial_elision.specs.Caching.{AreLastWritten, IsConsistent}
+use Rattle.pipe_model.specs.Pipelines.Behaviour.{read_access, write_access}
+use Rattle.pipe_model.specs.Runs.State.{accesses_of}
+use Rattle.pipe_model.specs.Pipelines.Store.{written, wrote, wrote_as, last_or, value_after}
+use Rattle.serial_elision.specs.Caching.{AreLastWritten, IsConsistentStore}
 use Rattle.serial_elision.specs.declared.store.Store.TheInside.{Inside}
 use Rattle.serial_elision.specs.ElisionState.{cells_of}
 
@@ -94,9 +94,9 @@ written_more ns i d h =
 
 -- a read leaves a store consistent, where it changes nothing but the accesses
 pub read_consistent : (s t : Inside) (made : NodeAccess) (at : NodeId) (cell : ℕ) (v : ℤ) → made ≡ record { node = at; access = read_access cell v }
-    → t.accesses.items ≡ s.accesses.items ++ made ∷ [] → t ≡ record s { accesses = t.accesses } → IsConsistent s → IsConsistent t
+    → t.accesses.items ≡ s.accesses.items ++ made ∷ [] → t ≡ record s { accesses = t.accesses } → IsConsistentStore s → IsConsistentStore t
 read_consistent s t made at cell v m e same was =
-    subst IsConsistent (sym same) (record {
+    subst IsConsistentStore (sym same) (record {
       sized = was.sized;
       last = read_keeps s.values.items s.initial_values.items s.accesses.items t.accesses.items made at cell v m e was.last;
       counted = was.counted ∙ sym (read_counts s.accesses.items t.accesses.items made at cell v m e);

@@ -11,18 +11,18 @@ use Rattle.pipe_model.specs.declared.column.ColumnEnd.TheVariants as ends
 use Rattle.pipe_model.specs.declared.node.Node.{Node}
 use Rattle.pipe_model.specs.declared.trap.TrapAt.{TrapAt}
 use Rattle.pipe_model.specs.declared.trap.TrapPlace.TheVariants.{At}
-use Rattle.pipe_model.specs.Columns.{at, node_at}
-use Rattle.pipe_model.specs.Behaviour.{Behaviour, Reading, Writing, Staging, Ending, Action, Accessed, Staged, Ended, accesses_in, closes_loop, column_of, nodes_in, read_access, trace_end, write_access}
-use Rattle.pipe_model.specs.Evaluation.{run_iteration}
-use Rattle.pipe_model.specs.Interaction.{Interaction, with_budget}
-use Rattle.pipe_model.specs.Outcome.{ended_column, first_of_both, first_trap, trap_at_end}
-use Rattle.pipe_model.specs.Pipeline.{Pipeline}
-use Rattle.pipe_model.specs.Programs.{natural, pipeline_of, setting_of}
-use Rattle.pipe_model.specs.SerialElision.{located, located_from, serial_trace, serial_traces_from, unless}
-use Rattle.pipe_model.specs.State.{accesses_of}
-use Rattle.pipe_model.specs.Store.{value_after}
-use Rattle.pipe_model.specs.SyntaxTree.{SyntaxTree}
-use Rattle.serial_elision.specs.Answers.{basis_of}
+use Rattle.pipe_model.specs.Races.Columns.{at, node_at}
+use Rattle.pipe_model.specs.Pipelines.Behaviour.{Behaviour, Reading, Writing, Staging, Ending, Action, Accessed, Staged, Ended, accesses_in, closes_loop, column_of, nodes_in, read_access, trace_end, write_access}
+use Rattle.pipe_model.specs.Language.Evaluation.{run_iteration}
+use Rattle.pipe_model.specs.Language.Interaction.{Interaction, with_budget}
+use Rattle.pipe_model.specs.Pipelines.ElisionResults.{ended_column, first_of_both, first_trap, trap_at_end}
+use Rattle.pipe_model.specs.Pipelines.Pipeline.{Pipeline}
+use Rattle.pipe_model.specs.Language.Programs.{natural, pipeline_of, setting_of}
+use Rattle.pipe_model.specs.Pipelines.SerialElision.{located, located_from, serial_trace, serial_traces_from, unless}
+use Rattle.pipe_model.specs.Runs.State.{accesses_of}
+use Rattle.pipe_model.specs.Pipelines.Store.{value_after}
+use Rattle.pipe_model.specs.Language.SyntaxTree.{SyntaxTree}
+use Rattle.serial_elision.specs.TreeResults.{basis_of}
 use Rattle.serial_elision.specs.Elided.{AreElided, IsEnd, is_last, trap_in}
 use Rattle.serial_elision.specs.ElisionState.{Basis, ElisionState, cells_of, first_node, perform}
 use Rattle.serial_elision.proofs.Traces.{IsTraced, closes_after, leads_to_end}

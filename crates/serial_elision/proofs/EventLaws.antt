@@ -10,12 +10,12 @@ use Rattle.pipe_model.specs.declared.column.Column.{Column}
 use Rattle.pipe_model.specs.declared.event.Event.{Event}
 use Rattle.pipe_model.specs.declared.event.Event.TheVariants as events
 use Rattle.pipe_model.specs.declared.node.Node.{Node}
-use Rattle.pipe_model.specs.Behaviour.{Action, Accessed, Staged, Ended, Behaviour, Reading, Writing, Staging, Ending, accesses_in, closes_loop, column_of, node_of, nodes_in, read_access, trace_end, write_access}
-use Rattle.pipe_model.specs.Columns.{at}
-use Rattle.pipe_model.specs.Outcome.{ended_column, serial_ended_columns}
-use Rattle.pipe_model.specs.Pipeline.{Pipeline}
-use Rattle.pipe_model.specs.SerialElision.{located, located_from, serial_accesses, serial_events, serial_trace, serial_traces, serial_traces_from, trace_events, trace_events_from, unless}
-use Rattle.pipe_model.specs.Store.{value_after}
+use Rattle.pipe_model.specs.Pipelines.Behaviour.{Action, Accessed, Staged, Ended, Behaviour, Reading, Writing, Staging, Ending, accesses_in, closes_loop, column_of, node_of, nodes_in, read_access, trace_end, write_access}
+use Rattle.pipe_model.specs.Races.Columns.{at}
+use Rattle.pipe_model.specs.Pipelines.ElisionResults.{ended_column, serial_ended_columns}
+use Rattle.pipe_model.specs.Pipelines.Pipeline.{Pipeline}
+use Rattle.pipe_model.specs.Pipelines.SerialElision.{located, located_from, serial_accesses, serial_events, serial_trace, serial_traces, serial_traces_from, trace_events, trace_events_from, unless}
+use Rattle.pipe_model.specs.Pipelines.Store.{value_after}
 use Rattle.serial_elision.specs.ColumnEvents.{access_events, column_events, end_events, entry_events, events_of, is_made_by, left_by_column, own_count}
 
 -- the trace comes to its end, and has nothing behind it

@@ -1,10 +1,10 @@
 -- Operators of the first form, and their operands.
 use Rattle.std.proofs.Common.{◌≡◌, refl, sym, ℕ, ℤ, Bool, true, false, cond, ◌==◌, List, Result, Err}
-use Rattle.pipe_model.specs.Evaluation.{Local, Setting, evaluate, operate}
-use Rattle.pipe_model.specs.Interaction.{Step, Returned}
-use Rattle.pipe_model.specs.SyntaxTree.{Expression, And, Or, Binary, joined_by}
+use Rattle.pipe_model.specs.Language.Evaluation.{Local, Setting, evaluate, operate}
+use Rattle.pipe_model.specs.Language.Interaction.{Step, Returned}
+use Rattle.pipe_model.specs.Language.SyntaxTree.{Expression, And, Or, Binary, binary_expression}
 use Rattle.serial_elision.specs.declared.halt.Halt.{Halt}
-use Rattle.serial_elision.specs.Answers.{Meets}
+use Rattle.serial_elision.specs.TreeResults.{Meets}
 use Rattle.serial_elision.specs.ElisionState.{ElisionState, perform}
 use Rattle.serial_elision.specs.Runnable.{IsRunnableExpression, IsRunnableOperator}
 use Rattle.serial_elision.proofs.Performing.{meets_left, meets_next}
@@ -14,17 +14,17 @@ pub record IsJoined (code : ℕ) (a b : Expression) : Type 0 where
   pub operator : IsRunnableOperator code
   pub left : IsRunnableExpression a
   pub right : IsRunnableExpression b
-  pub is : joined_by code a b ≡ Binary code a b
+  pub is : binary_expression code a b ≡ Binary code a b
 
 -- the same, told by the tests of the code
 joined_if : (first second : Bool) (code : ℕ) (a b : Expression) → IsRunnableExpression (cond first (Or a b) (cond second (And a b) (Binary code a b)))
-    → cond first (Or a b) (cond second (And a b) (Binary code a b)) ≡ joined_by code a b → IsJoined code a b
+    → cond first (Or a b) (cond second (And a b) (Binary code a b)) ≡ binary_expression code a b → IsJoined code a b
 joined_if true second code a b h e = absurd h
 joined_if false true code a b h e = absurd h
 joined_if false false code a b h e = record { operator = h.0; left = h.1.0; right = h.1.1; is = sym e }
 
 -- the parts of an expression with a two-place operator
-pub joined : (code : ℕ) (a b : Expression) → IsRunnableExpression (joined_by code a b) → IsJoined code a b
+pub joined : (code : ℕ) (a b : Expression) → IsRunnableExpression (binary_expression code a b) → IsJoined code a b
 joined code a b h = joined_if (code == 1) (code == 2) code a b h refl
 
 -- the left operand breaks

@@ -7,12 +7,12 @@ use Rattle.std.proofs.lemmas.List.Elements.{All-nil, All-cons}
 use Rattle.pipe_model.specs.declared.region.Region.TheVariants as regions
 use Rattle.pipe_model.specs.declared.symbol.Symbol.{Symbol}
 use Rattle.pipe_model.specs.declared.tree.Declaration.{Declaration}
-use Rattle.pipe_model.specs.CheckingRules.{Fault, Rule, Twice, TooManyCells, broken_at, cell_total, fault_of, fault_or, first_fault, is_cell, limit_fault_or, limit_out}
-use Rattle.pipe_model.specs.FirstForm.{IsPlain, are_plain_statements, is_no_size, is_plain_cell, is_plain_code, is_plain_expression, is_plain_statement}
-use Rattle.pipe_model.specs.Marks.{DeclaredCell, Mark, at, marks_of, marks_of_cells, opening}
-use Rattle.pipe_model.specs.Programs.{declared_size}
-use Rattle.pipe_model.specs.SpellablePrograms.{IsSpellable}
-use Rattle.pipe_model.specs.SyntaxTree.{Expression, Number, Name, Element, And, Or, Binary, Unary, More, Take, Iter, Statement, Let, Assign, AssignElement, Emit, If, While, Stage, NextStage, Statements, Empty, Then, SyntaxTree}
+use Rattle.pipe_model.specs.Language.CheckingRules.{Fault, CheckingRule, Twice, TooManyCells, broken_at, cell_total, fault_of, fault_or, first_fault, is_cell, limit_fault_or, first_limit_out}
+use Rattle.pipe_model.specs.Language.FirstForm.{IsPlain, are_plain_statements, is_no_size, is_plain_cell, is_plain_code, is_plain_expression, is_plain_statement}
+use Rattle.pipe_model.specs.Language.Marks.{DeclaredCell, Mark, mark_at, marks_of, marks_of_cells, opening}
+use Rattle.pipe_model.specs.Language.Programs.{declared_size}
+use Rattle.pipe_model.specs.Language.SpellablePrograms.{IsSpellable}
+use Rattle.pipe_model.specs.Language.SyntaxTree.{Expression, Number, Name, Element, And, Or, Binary, Unary, More, Take, Iter, Statement, Let, Assign, AssignElement, Emit, If, While, Stage, NextStage, Statements, Empty, Then, SyntaxTree}
 use Rattle.serial_elision.specs.Runnable.{AreRunnable, IsPlainCell, IsRunnable, IsRunnableExpression, IsRunnableOperator, IsRunnableStatement}
 
 -- the operators of the first form
@@ -69,17 +69,17 @@ no_fault (Some which) fault h = absurd (let e : Some _ ≡ None = h in cc (e))
 no_fault None fault h = (refl, h)
 
 -- a mark that breaks no rule, and the marks after it
-no_mark_fault : (broken : Option Rule) (n : ℕ) (fault : Option Fault) → fault_or broken n fault ≡ None → (broken ≡ None) × (fault ≡ None)
+no_mark_fault : (broken : Option CheckingRule) (n : ℕ) (fault : Option Fault) → fault_or broken n fault ≡ None → (broken ≡ None) × (fault ≡ None)
 no_mark_fault (Some rule) n fault h = absurd (let e : Some _ ≡ None = h in cc (e))
 no_mark_fault None n fault h = (refl, h)
 
 -- a rule that is not broken, and the rules after it
-not_broken : (breaks : Bool) (rule : Rule) (rest : Option Rule) → (if breaks then Some rule else rest) ≡ None → (breaks ≡ false) × (rest ≡ None)
+not_broken : (breaks : Bool) (rule : CheckingRule) (rest : Option CheckingRule) → (if breaks then Some rule else rest) ≡ None → (breaks ≡ false) × (rest ≡ None)
 not_broken true rule rest h = absurd (let e : Some rule ≡ None = h in cc (e))
 not_broken false rule rest h = (refl, h)
 
--- with a cell that breaks no rule there are at most 65,536 cells
-cell_fits : (before : List Declaration) (d : Declaration) → broken_at (at (opening regions.Cells before) (DeclaredCell d.name d.size)) ≡ None
+-- with a cell that breaks no rule there are mark_at most 65,536 cells
+cell_fits : (before : List Declaration) (d : Declaration) → broken_at (mark_at (opening regions.Cells before) (DeclaredCell d.name d.size)) ≡ None
     → cell_total before + declared_size d.size ≤ 65536
 cell_fits before d h =
     let twice = not_broken (is_cell before d.name) Twice _ h in
@@ -98,7 +98,7 @@ cells_fit : (n : ℕ) (before ds : List Declaration) (rest : List Mark) → cell
 cells_fit n before [] rest few plain h = omega (arith, few)
 cells_fit n before (d ∷ ds) rest few plain h =
     let both = and_parts (is_plain_cell d) _ plain in
-    let marks = no_mark_fault (broken_at (at (opening regions.Cells before) (DeclaredCell d.name d.size))) n _ h in
+    let marks = no_mark_fault (broken_at (mark_at (opening regions.Cells before) (DeclaredCell d.name d.size))) n _ h in
     let one : declared_size d.size ≡ 1 = ap declared_size (no_size d.size both.0) in
     let fits = cell_fits before d marks.0 in
     let total = total_more before d in
@@ -108,7 +108,7 @@ cells_fit n before (d ∷ ds) rest few plain h =
 -- a plain program that breaks no rule
 pub plain_is_runnable : (ts : List Symbol) (tree : SyntaxTree) → IsSpellable tree → fault_of tree ≡ None → IsPlain ts tree → IsRunnable tree
 plain_is_runnable ts tree spellable h plain =
-    let faults = no_fault (limit_out tree.limits) (first_fault 0 (marks_of tree)) h in
+    let faults = no_fault (first_limit_out tree.limits) (first_fault 0 (marks_of tree)) h in
     let fit = cells_fit 0 [] tree.cells _ (omega arith) plain.cells faults.1 in
     record {
       limits = faults.0;

@@ -3,12 +3,12 @@ use Rattle.std.proofs.Common.{◌≡◌, ◌∙◌, ap, sym, subst, ℤ, List, [
 use Rattle.pipe_model.specs.declared.column.ColumnEnd.{ColumnEnd}
 use Rattle.pipe_model.specs.declared.column.ColumnEnd.TheVariants.{End}
 use Rattle.pipe_model.specs.declared.node.Node.{Node}
-use Rattle.pipe_model.specs.Evaluation.{Environment, Local, Setting, after_test, evaluate, execute_all, first_environment, run_iteration}
-use Rattle.pipe_model.specs.Interaction.{Interaction, Return, Step, bind, Returned, outcome_bind}
-use Rattle.pipe_model.specs.SyntaxTree.{Expression, Statements}
+use Rattle.pipe_model.specs.Language.Evaluation.{Environment, Local, Setting, after_test, evaluate, execute_all, first_environment, run_iteration}
+use Rattle.pipe_model.specs.Language.Interaction.{Interaction, Return, Step, bind, Returned, interpreted_bind}
+use Rattle.pipe_model.specs.Language.SyntaxTree.{Expression, Statements}
 use Rattle.serial_elision.specs.declared.halt.Halt.{Halt}
 use Rattle.serial_elision.specs.declared.halt.Halt.TheVariants as halts
-use Rattle.serial_elision.specs.Answers.{Leaves, Meets, environment_at}
+use Rattle.serial_elision.specs.TreeResults.{Leaves, Meets, environment_at}
 use Rattle.serial_elision.specs.ElisionState.{ElisionState, first_node, perform}
 use Rattle.serial_elision.proofs.Performing.{goes_on, meets_left, meets_next, perform-bind}
 
@@ -26,7 +26,7 @@ pub body_breaks : (w : Setting) (body : Statements) (locals : List Local) (k k1 
     → Leaves (Err e) (perform (execute_all w body (environment_at locals k.nodes)) k) after k1 → Meets (Err e) (perform (whole_body w body) k) k1
 body_breaks w body locals k k1 after (halts.Trap t) none begun h =
     perform-bind (execute_all w body first_environment) (λ env. Return End) k
-    ∙ ap (λ r. outcome_bind r (λ a j. perform (Return End) j)) (ap (λ env. perform (execute_all w body env) k) (sym (first_is locals k.nodes none begun)) ∙ h)
+    ∙ ap (λ r. interpreted_bind r (λ a j. perform (Return End) j)) (ap (λ env. perform (execute_all w body env) k) (sym (first_is locals k.nodes none begun)) ∙ h)
 body_breaks w body locals k k1 after halts.NoMemory none begun h = tt
 
 -- the body comes to its end

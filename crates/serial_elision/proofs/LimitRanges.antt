@@ -3,8 +3,8 @@ use Rattle.std.proofs.Common.{◌≡◌, ◌≤◌, ℕ, ℤ, pos, negsuc, Bool,
 use Rattle.std.proofs.lemmas.Bool.{and_parts}
 use Rattle.std.proofs.lemmas.Bool.Decides.{nat_tests}
 use Rattle.pipe_model.specs.declared.tree.Limits.{Limits}
-use Rattle.pipe_model.specs.CheckingRules.{is_between, limit_out}
-use Rattle.pipe_model.specs.Programs.{natural}
+use Rattle.pipe_model.specs.Language.CheckingRules.{is_between, first_limit_out}
+use Rattle.pipe_model.specs.Language.Programs.{natural}
 
 -- a test that must hold, where nothing is found
 must_hold : (holds : Bool) (which : ℕ) (rest : Option ℕ) → (if not holds then Some which else rest) ≡ None → holds ≡ true
@@ -18,5 +18,5 @@ at_most (pos n) h =
 at_most (negsuc n) h = omega arith
 
 -- there are at most 65,536 iterations
-pub few_iterations : (limits : Limits) → limit_out limits ≡ None → natural limits.iterations ≤ 65536
+pub few_iterations : (limits : Limits) → first_limit_out limits ≡ None → natural limits.iterations ≤ 65536
 few_iterations limits h = at_most limits.iterations (must_hold (is_between (pos 1) (pos 65536) limits.iterations) 1 _ h)

@@ -4,10 +4,10 @@ use Rattle.std.proofs.lemmas.List.{at_drop_more, take_more}
 use Rattle.std.proofs.lemmas.List.Elements.{All-head, All-tail}
 use Rattle.std.specs.Str.{bytes_eq}
 use Rattle.pipe_model.specs.declared.tree.Declaration.{Declaration}
-use Rattle.pipe_model.specs.Programs.{declared_size, declared_values, range_of}
+use Rattle.pipe_model.specs.Language.Programs.{declared_size, declared_values, range_of}
 use Rattle.pipe_model.specs.declared.tree.Program.{Program}
-use Rattle.pipe_model.specs.SyntaxTree.{tree_of}
-use Rattle.serial_elision.specs.Answers.{basis_of}
+use Rattle.pipe_model.specs.Language.SyntaxTree.{tree_of}
+use Rattle.serial_elision.specs.TreeResults.{basis_of}
 use Rattle.serial_elision.specs.ElisionState.{Basis}
 use Rattle.serial_elision.specs.Runnable.{IsPlainCell}
 

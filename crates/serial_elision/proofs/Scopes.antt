@@ -2,9 +2,9 @@
 use Rattle.std.proofs.Common.{◌≡◌, ◌∙◌, ap, sym, ℕ, ℤ, ◌+◌, ◌<◌, ◌++◌, ◌∷◌, List, Some, true, cond, length, get_or, take, drop, set, add-one}
 use Rattle.std.proofs.lemmas.List.{at_drop_more, map-append, set_split}
 use Rattle.std.specs.Str.{bytes_eq}
-use Rattle.pipe_model.specs.Evaluation.{Local as Named_value, local_value, with_local}
+use Rattle.pipe_model.specs.Language.Evaluation.{Local as Named_value, local_value, updated_locals}
 use Rattle.serial_elision.specs.declared.locals.Local.{Local}
-use Rattle.serial_elision.specs.Scope.{value_of, values_of}
+use Rattle.serial_elision.specs.LocalValues.{value_of, values_of}
 
 -- the local at a place of a list, or one behind it
 pub local_step : (ls : List Local) (i : ℕ) (x : List ℕ) (l : Local) → i < length ls → l ≡ get_or ls i l
@@ -16,13 +16,13 @@ local_step ls i x l h e =
 -- the locals, where the one at a place is the first of the name and has a new value
 pub set_first : (ls : List Local) (i : ℕ) (l : Local) (x : List ℕ) (v : ℤ) (whole : List Named_value) → i < length ls → l ≡ get_or ls i l
     → bytes_eq l.name x ≡ true
-    → values_of (take i ls) ++ with_local (values_of (drop i ls)) x v ≡ whole → values_of (set ls i (record { name = l.name; value = v })) ≡ whole
+    → values_of (take i ls) ++ updated_locals (values_of (drop i ls)) x v ≡ whole → values_of (set ls i (record { name = l.name; value = v })) ≡ whole
 set_first ls i l x v whole h e test w =
     let rest : List Named_value = values_of (drop (i + 1) ls) in
     let new : Local = record { name = l.name; value = v } in
-    let front : with_local (values_of (drop i ls)) x v ≡ value_of new ∷ rest =
-    at_drop_more (λ more. with_local (values_of more) x v) ls i l h
-    ∙ ap (λ (m : Local). cond (bytes_eq m.name x) (record { name = m.name; value = v } ∷ rest) (value_of m ∷ with_local rest x v)) (sym e)
-    ∙ ap (λ b. cond b (value_of new ∷ rest) (value_of l ∷ with_local rest x v)) test in
+    let front : updated_locals (values_of (drop i ls)) x v ≡ value_of new ∷ rest =
+    at_drop_more (λ more. updated_locals (values_of more) x v) ls i l h
+    ∙ ap (λ (m : Local). cond (bytes_eq m.name x) (record { name = m.name; value = v } ∷ rest) (value_of m ∷ updated_locals rest x v)) (sym e)
+    ∙ ap (λ b. cond b (value_of new ∷ rest) (value_of l ∷ updated_locals rest x v)) test in
     ap values_of (set_split ls i new h ∙ ap (λ k. take i ls ++ new ∷ drop k ls) (sym (add-one i)))
     ∙ map-append value_of (take i ls) (new ∷ drop (i + 1) ls) ∙ ap (λ more. values_of (take i ls) ++ more) (sym front) ∙ w

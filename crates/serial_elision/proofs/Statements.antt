@@ -4,12 +4,12 @@ use Rattle.std.proofs.lemmas.List.{at_drop_more}
 use Rattle.pipe_model.specs.declared.node.Kind.{Kind}
 use Rattle.pipe_model.specs.declared.node.Node.{Node}
 use Rattle.pipe_model.specs.declared.tree.Stmt.{Stmt}
-use Rattle.pipe_model.specs.Evaluation.{Environment, Local, Setting, assign, emit, evaluate, execute, execute_all, go_to_stage, local_value}
-use Rattle.pipe_model.specs.Interaction.{Interaction, Return, Step, bind, Returned, outcome_bind}
-use Rattle.pipe_model.specs.SyntaxTree.{Expression, Statement, Let, Assign, Emit, Stage, Statements, Then, statement_of, statements_of}
+use Rattle.pipe_model.specs.Language.Evaluation.{Environment, Local, Setting, assign, emit, evaluate, execute, execute_all, go_to_stage, local_value}
+use Rattle.pipe_model.specs.Language.Interaction.{Interaction, Return, Step, bind, Returned, interpreted_bind}
+use Rattle.pipe_model.specs.Language.SyntaxTree.{Expression, Statement, Let, Assign, Emit, Stage, Statements, Then, statement_of, statements_of}
 use Rattle.serial_elision.specs.declared.halt.Halt.{Halt}
 use Rattle.serial_elision.specs.declared.halt.Halt.TheVariants as halts
-use Rattle.serial_elision.specs.Answers.{Meets, Leaves, environment_at, environment_of}
+use Rattle.serial_elision.specs.TreeResults.{Meets, Leaves, environment_at, environment_of}
 use Rattle.serial_elision.specs.ElisionState.{ElisionState, perform, position_of}
 use Rattle.serial_elision.specs.Runnable.{AreRunnable, IsRunnableStatement}
 use Rattle.serial_elision.proofs.Performing.{leaves_left, leaves_next, perform-bind}
@@ -94,7 +94,7 @@ runnable_step ss i s h e r = subst AreRunnable (statements_step ss i s h e) r
 
 -- the first of them is performed
 unrolled : (w : Setting) (ss : List Stmt) (i : ℕ) (s : Stmt) (env : Environment) (k : ElisionState) → i < length ss → s ≡ get_or ss i s
-    → perform (execute_all w (statements_of (drop i ss)) env) k ≡ outcome_bind (perform (execute w (statement_of s) env) k)
+    → perform (execute_all w (statements_of (drop i ss)) env) k ≡ interpreted_bind (perform (execute w (statement_of s) env) k)
     (λ a j. perform (execute_all w (statements_of (drop (i + 1) ss)) a) j)
 unrolled w ss i s env k h e =
     ap (λ (t : Statements). perform (execute_all w t env) k) (statements_step ss i s h e)
@@ -105,7 +105,7 @@ pub statement_step : (w : Setting) (ss : List Stmt) (i : ℕ) (s : Stmt) (env af
     → perform (execute w (statement_of s) env) k ≡ Returned after k1
     → perform (execute_all w (statements_of (drop i ss)) env) k ≡ perform (execute_all w (statements_of (drop (i + 1) ss)) after) k1
 statement_step w ss i s env after k k1 h e m =
-    unrolled w ss i s env k h e ∙ ap (λ r. outcome_bind r (λ a j. perform (execute_all w (statements_of (drop (i + 1) ss)) a) j)) m
+    unrolled w ss i s env k h e ∙ ap (λ r. interpreted_bind r (λ a j. perform (execute_all w (statements_of (drop (i + 1) ss)) a) j)) m
 
 -- the first breaks, and so do all
 pub statement_breaks : (w : Setting) (ss : List Stmt) (i : ℕ) (s : Stmt) (env after : Environment) (k k1 : ElisionState) (err : Halt) → i < length ss
@@ -113,5 +113,5 @@ pub statement_breaks : (w : Setting) (ss : List Stmt) (i : ℕ) (s : Stmt) (env 
     → Leaves (Err err) (perform (execute w (statement_of s) env) k) after k1
     → Leaves (Err err) (perform (execute_all w (statements_of (drop i ss)) env) k) after k1
 statement_breaks w ss i s env after k k1 (halts.Trap t) h e m =
-    unrolled w ss i s env k h e ∙ ap (λ r. outcome_bind r (λ a j. perform (execute_all w (statements_of (drop (i + 1) ss)) a) j)) m
+    unrolled w ss i s env k h e ∙ ap (λ r. interpreted_bind r (λ a j. perform (execute_all w (statements_of (drop (i + 1) ss)) a) j)) m
 statement_breaks w ss i s env after k k1 halts.NoMemory h e m = tt

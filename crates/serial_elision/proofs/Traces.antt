@@ -8,20 +8,20 @@ use Rattle.pipe_model.specs.declared.column.ColumnEnd.TheVariants as ends
 use Rattle.pipe_model.specs.declared.node.Kind.{Kind}
 use Rattle.pipe_model.specs.declared.node.Node.{Node}
 use Rattle.pipe_model.specs.declared.trap.Trap.TheVariants.{Budget}
-use Rattle.pipe_model.specs.Behaviour.{Action, Accessed, Staged, Ended, closes_loop, is_closing, node_of, nodes_in, read_access, trace_end, write_access}
-use Rattle.pipe_model.specs.Interaction.{Interaction, Return, Raise, Step, Get, Set, Stage, spend_step, with_budget, Outcome, Raised}
-use Rattle.pipe_model.specs.Pipeline.{Pipeline}
-use Rattle.pipe_model.specs.SerialElision.{located, serial_trace}
-use Rattle.pipe_model.specs.State.{accesses_of}
+use Rattle.pipe_model.specs.Pipelines.Behaviour.{Action, Accessed, Staged, Ended, closes_loop, closes_at_once, node_of, nodes_in, read_access, trace_end, write_access}
+use Rattle.pipe_model.specs.Language.Interaction.{Interaction, Return, Raise, Step, Get, Set, Stage, spend_step, with_budget, Interpreted, Raised}
+use Rattle.pipe_model.specs.Pipelines.Pipeline.{Pipeline}
+use Rattle.pipe_model.specs.Pipelines.SerialElision.{located, serial_trace}
+use Rattle.pipe_model.specs.Runs.State.{accesses_of}
 use Rattle.serial_elision.specs.ElisionState.{Basis, ElisionState, cell_value, cells_of, end_of, state_of, with_access, made_here, perform}
 
 -- an iteration that ends so, after these instances beyond the first, closes the loop
 abbrev pub closes_after : List Node → ColumnEnd → Bool
-closes_after [] e = is_closing e
+closes_after [] e = closes_at_once e
 closes_after (n ∷ ns) e = false
 
 -- from what was kept at a place of the iteration, the rest of its trace leads to what is kept at its end
-pub record IsTraced (t : List Action) (b : Basis) (i : ℕ) (before : List NodeAccess) (ns : List Node) (ran : Outcome ElisionState ColumnEnd) : Type 0 where
+pub record IsTraced (t : List Action) (b : Basis) (i : ℕ) (before : List NodeAccess) (ns : List Node) (ran : Interpreted ElisionState ColumnEnd) : Type 0 where
   pub basis : (state_of ran).basis ≡ b
   pub iteration : (state_of ran).iteration ≡ i
   pub accesses : (state_of ran).accesses ≡ before ++ located i (length ns - 1) t
@@ -42,7 +42,7 @@ abbrev LeadsToEnd : Interaction ColumnEnd → ElisionState → Type 0
 LeadsToEnd d k = IsTraced (trace_of d k) k.basis k.iteration k.accesses k.nodes (perform d k)
 
 -- the end itself
-ends_here : (e : ColumnEnd) (k : ElisionState) (ran : Outcome ElisionState ColumnEnd) → end_of ran ≡ e → state_of ran ≡ k
+ends_here : (e : ColumnEnd) (k : ElisionState) (ran : Interpreted ElisionState ColumnEnd) → end_of ran ≡ e → state_of ran ≡ k
     → IsTraced (Ended e ∷ []) k.basis k.iteration k.accesses k.nodes ran
 ends_here e k ran f g = record {
   basis = ap (λ (j : ElisionState). j.basis) g;
@@ -50,11 +50,11 @@ ends_here e k ran f g = record {
   accesses = ap (λ (j : ElisionState). j.accesses) g ∙ sym (append-nil k.accesses);
   nodes = ap (λ (j : ElisionState). j.nodes) g ∙ sym (append-nil k.nodes);
   ended = ap Some (sym f);
-  closes = ap is_closing (sym f);
+  closes = ap closes_at_once (sym f);
 }
 
 -- one access before the rest
-access_first : (a : Access) (t : List Action) (k : ElisionState) (ran : Outcome ElisionState ColumnEnd)
+access_first : (a : Access) (t : List Action) (k : ElisionState) (ran : Interpreted ElisionState ColumnEnd)
     → IsTraced t k.basis k.iteration (k.accesses ++ made_here k a ∷ []) k.nodes ran
     → IsTraced (Accessed a ∷ t) k.basis k.iteration k.accesses k.nodes ran
 access_first a t k ran h = record {
@@ -78,7 +78,7 @@ step_first zero d k h w = ends_here (ends.Trapped Budget) k (Raised Budget k) re
 step_first (suc n) d k h w = h (record k { left = n }) w
 
 -- a next stage before the rest
-stage_first : (kind : Kind) (n : ℤ) (t : List Action) (k : ElisionState) (ran : Outcome ElisionState ColumnEnd) → 0 < length k.nodes
+stage_first : (kind : Kind) (n : ℤ) (t : List Action) (k : ElisionState) (ran : Interpreted ElisionState ColumnEnd) → 0 < length k.nodes
     → IsTraced t k.basis k.iteration k.accesses (k.nodes ++ node_of kind n ∷ []) ran
     → IsTraced (Staged kind n ∷ t) k.basis k.iteration k.accesses k.nodes ran
 stage_first kind n t k ran w h =

@@ -1,8 +1,8 @@
 -- What ties the fields of a store to each other.
 use Rattle.std.specs.Prelude.{◌≡◌, ◌<◌, ◌≤◌, ◌^◌, ℕ, ℤ, pos, List, [], ◌∷◌, length, take, slice_index_or}
 use Rattle.pipe_model.specs.declared.access.Access.{Access}
-use Rattle.pipe_model.specs.State.{accesses_of}
-use Rattle.pipe_model.specs.Store.{last_or, written}
+use Rattle.pipe_model.specs.Runs.State.{accesses_of}
+use Rattle.pipe_model.specs.Pipelines.Store.{last_or, written}
 use Rattle.serial_elision.specs.declared.store.Store.TheInside.{Inside}
 use Rattle.serial_elision.specs.ElisionState.{first_node}
 
@@ -12,7 +12,7 @@ AreLastWritten values initial_values accesses =
     (c : ℕ) → c < length values → slice_index_or values c (pos 0) ≡ last_or (slice_index_or initial_values c (pos 0)) (written c accesses)
 
 -- the values of cells and the number of emitted numbers are those of the accesses, and the iteration has its first instance
-pub record IsConsistent (s : Inside) : Type 0 where
+pub record IsConsistentStore (s : Inside) : Type 0 where
   pub sized : length s.values.items ≡ length s.initial_values.items
   pub last : AreLastWritten s.values.items s.initial_values.items (accesses_of s.accesses.items)
   pub counted : s.emitted ≡ length (written 1 (accesses_of s.accesses.items))

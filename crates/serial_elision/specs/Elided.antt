@@ -7,17 +7,17 @@ use Rattle.pipe_model.specs.declared.column.ColumnEnd.TheVariants as ends
 use Rattle.pipe_model.specs.declared.node.Node.{Node}
 use Rattle.pipe_model.specs.declared.trap.TrapAt.{TrapAt}
 use Rattle.pipe_model.specs.declared.trap.TrapPlace.TheVariants.{At}
-use Rattle.pipe_model.specs.Behaviour.{is_closing}
-use Rattle.pipe_model.specs.Columns.{at}
-use Rattle.pipe_model.specs.Outcome.{ended_column, first_of_both, first_trap, serial_ended_columns, serial_trap}
-use Rattle.pipe_model.specs.Pipeline.{Pipeline}
-use Rattle.pipe_model.specs.SerialElision.{located_from, serial_accesses, serial_traces_from}
-use Rattle.pipe_model.specs.State.{accesses_of}
+use Rattle.pipe_model.specs.Pipelines.Behaviour.{closes_at_once}
+use Rattle.pipe_model.specs.Races.Columns.{at}
+use Rattle.pipe_model.specs.Pipelines.ElisionResults.{ended_column, first_of_both, first_trap, serial_ended_columns, serial_trap}
+use Rattle.pipe_model.specs.Pipelines.Pipeline.{Pipeline}
+use Rattle.pipe_model.specs.Pipelines.SerialElision.{located_from, serial_accesses, serial_traces_from}
+use Rattle.pipe_model.specs.Runs.State.{accesses_of}
 use Rattle.serial_elision.specs.ElisionState.{ElisionState, end_of, state_of, position_of}
-use Rattle.pipe_model.specs.Interaction.{Outcome}
+use Rattle.pipe_model.specs.Language.Interaction.{Interpreted}
 
 -- the iteration ends so, in this state
-pub record IsEnd (e : ColumnEnd) (k : ElisionState) (ran : Outcome ElisionState ColumnEnd) : Type 0 where
+pub record IsEnd (e : ColumnEnd) (k : ElisionState) (ran : Interpreted ElisionState ColumnEnd) : Type 0 where
   pub ended : end_of ran ≡ e
   pub kept : state_of ran ≡ k
 
@@ -29,7 +29,7 @@ trap_in i nodes (ends.Trapped t) = Some (record { place = At (at i (length nodes
 
 -- an iteration that had these instances and ended so closes the loop
 abbrev pub is_last : List Node → ColumnEnd → Bool
-is_last nodes e = is_closing e && (length nodes == 1)
+is_last nodes e = closes_at_once e && (length nodes == 1)
 
 -- with the iterations from i on, at most so many, these are the columns, the trap and the accesses of the serial elision
 pub record AreElided (p : Pipeline) (most i : ℕ) (columns : List Column) (trap : Option TrapAt) (accesses : List NodeAccess) : Type 0 where

@@ -8,13 +8,13 @@ use Rattle.pipe_model.specs.declared.column.ColumnEnd.TheVariants as ends
 use Rattle.pipe_model.specs.declared.node.Kind.TheVariants.{Zero}
 use Rattle.pipe_model.specs.declared.node.Node.{Node}
 use Rattle.pipe_model.specs.declared.trap.Trap.TheVariants.{Budget}
-use Rattle.pipe_model.specs.Behaviour.{Ending, node_of, read_access, write_access}
-use Rattle.pipe_model.specs.Columns.{node_at, at}
-use Rattle.pipe_model.specs.Evaluation.{StagePosition}
-use Rattle.pipe_model.specs.Interaction.{Interaction, Outcome, Return, Raise, Returned, Raised, Step, Get, Set, Stage, spend_step}
-use Rattle.pipe_model.specs.Pipeline.{Pipeline}
-use Rattle.pipe_model.specs.State.{accesses_of}
-use Rattle.pipe_model.specs.Store.{value_after}
+use Rattle.pipe_model.specs.Pipelines.Behaviour.{Ending, node_of, read_access, write_access}
+use Rattle.pipe_model.specs.Races.Columns.{node_at, at}
+use Rattle.pipe_model.specs.Language.Evaluation.{StagePosition}
+use Rattle.pipe_model.specs.Language.Interaction.{Interaction, Interpreted, Return, Raise, Returned, Raised, Step, Get, Set, Stage, spend_step}
+use Rattle.pipe_model.specs.Pipelines.Pipeline.{Pipeline}
+use Rattle.pipe_model.specs.Runs.State.{accesses_of}
+use Rattle.pipe_model.specs.Pipelines.Store.{value_after}
 
 -- what no step changes: the declared values, and the limits on emitted numbers, on instances of an iteration and on steps of an instance
 pub record Basis : Type 0 where
@@ -62,7 +62,7 @@ abbrev pub with_access : ElisionState → Access → ElisionState
 with_access k a = record k { accesses = k.accesses ++ made_here k a ∷ [] }
 
 -- what a tree does, each read answered by the cells
-abbrev pub perform : {A : Type 0} → Interaction A → ElisionState → Outcome ElisionState A
+abbrev pub perform : {A : Type 0} → Interaction A → ElisionState → Interpreted ElisionState A
 perform (Return a) k = Returned a k
 perform (Raise t) k = Raised t k
 perform (Step d) k = spend_step k.left (Raised Budget k) (λ n. perform d (record k { left = n }))
@@ -71,11 +71,11 @@ perform (Set c v d) k = perform d (with_access k (write_access c v))
 perform (Stage kind n d) k = perform d (record k { nodes = k.nodes ++ node_of kind n ∷ []; left = k.basis.budget })
 
 -- the end of an iteration that ends so
-abbrev pub end_of : Outcome ElisionState ColumnEnd → ColumnEnd
+abbrev pub end_of : Interpreted ElisionState ColumnEnd → ColumnEnd
 end_of (Returned e k) = e
 end_of (Raised t k) = ends.Trapped t
 
 -- the state at the end
-abbrev pub state_of : {A : Type 0} → Outcome ElisionState A → ElisionState
+abbrev pub state_of : {A : Type 0} → Interpreted ElisionState A → ElisionState
 state_of (Returned a k) = k
 state_of (Raised t k) = k

@@ -2,8 +2,8 @@
 -- that such a program has nothing before and after its loop, and names that are known, is not needed to run it.
 use Rattle.std.specs.Prelude.{◌≡◌, ◌≤◌, ◌≤ℤ◌, ◌⊎◌, ℕ, pos, length, All, None}
 use Rattle.pipe_model.specs.declared.tree.Declaration.{Declaration}
-use Rattle.pipe_model.specs.CheckingRules.{limit_out}
-use Rattle.pipe_model.specs.SyntaxTree.{Expression, Number, Name, Element, And, Or, Binary, Unary, More, Take, Iter, Statement, Let, Assign, AssignElement, Emit, If, While, Stage, NextStage, Statements, Empty, Then, SyntaxTree}
+use Rattle.pipe_model.specs.Language.CheckingRules.{first_limit_out}
+use Rattle.pipe_model.specs.Language.SyntaxTree.{Expression, Number, Name, Element, And, Or, Binary, Unary, More, Take, Iter, Statement, Let, Assign, AssignElement, Emit, If, While, Stage, NextStage, Statements, Empty, Then, SyntaxTree}
 
 -- the code of `<` or of `+`
 abbrev pub IsRunnableOperator : ℕ → Type 0
@@ -44,7 +44,7 @@ IsPlainCell d = d.size ≡ None
 
 -- the program has limits in their ranges, at most 65,536 plain cells, and a test and a body of the first form
 pub record IsRunnable (tree : SyntaxTree) : Type 0 where
-  pub limits : limit_out tree.limits ≡ None
+  pub limits : first_limit_out tree.limits ≡ None
   pub emits : pos 0 ≤ℤ tree.limits.emits
   pub few : length tree.cells ≤ 65536
   pub plain : All IsPlainCell tree.cells

@@ -1,13 +1,13 @@
 //! The iterations of the loop, one after the other.
 
 ghost use Rattle.std.specs.Prelude.{◌≡◌, ◌≤◌, ◌^◌, ◌≤ℤ◌, ◌∷◌, [], pos, length, All, IfOk, IsTrue};
-ghost use Rattle.pipe_model.specs.Evaluation as evaluation;
-ghost use Rattle.pipe_model.specs.Interaction.{Return, Step, bind};
-ghost use Rattle.pipe_model.specs.Outcome.{serial_ended_columns, serial_output, serial_trap};
-ghost use Rattle.pipe_model.specs.Programs.{declared_values, natural, pipeline_of};
-ghost use Rattle.pipe_model.specs.SerialElision.{serial_accesses};
-ghost use Rattle.pipe_model.specs.SyntaxTree.{expression_of, statements_of, tree_of};
-ghost use Rattle.serial_elision.specs.Answers.{Leaves, Meets, basis_of, environment_of, setting_at};
+ghost use Rattle.pipe_model.specs.Language.Evaluation as evaluation;
+ghost use Rattle.pipe_model.specs.Language.Interaction.{Return, Step, bind};
+ghost use Rattle.pipe_model.specs.Pipelines.ElisionResults.{serial_ended_columns, serial_output, serial_trap};
+ghost use Rattle.pipe_model.specs.Language.Programs.{declared_values, natural, pipeline_of};
+ghost use Rattle.pipe_model.specs.Pipelines.SerialElision.{serial_accesses};
+ghost use Rattle.pipe_model.specs.Language.SyntaxTree.{expression_of, statements_of, tree_of};
+ghost use Rattle.serial_elision.specs.TreeResults.{Leaves, Meets, basis_of, environment_of, setting_at};
 ghost use Rattle.serial_elision.specs.Elided.{AreElided, IsEnd};
 ghost use Rattle.serial_elision.specs.ElisionState.{first_node, perform};
 ghost use Rattle.serial_elision.specs.Runnable.{AreRunnable, IsPlainCell, IsRunnable, IsRunnableExpression};

@@ -1,9 +1,9 @@
 //! The serial elision as a list of events.
 
 ghost use Rattle.std.specs.Prelude.{◌≡◌, ◌≤◌, ◌^◌, ◌++◌, IfOk, OnOk, length};
-ghost use Rattle.pipe_model.specs.Outcome.{serial_ended_columns};
-ghost use Rattle.pipe_model.specs.Pipeline.{Pipeline};
-ghost use Rattle.pipe_model.specs.SerialElision.{serial_accesses, serial_events};
+ghost use Rattle.pipe_model.specs.Pipelines.ElisionResults.{serial_ended_columns};
+ghost use Rattle.pipe_model.specs.Pipelines.Pipeline.{Pipeline};
+ghost use Rattle.pipe_model.specs.Pipelines.SerialElision.{serial_accesses, serial_events};
 ghost use Rattle.serial_elision.specs.ColumnEvents.{access_events, column_events, end_events, entry_events, events_of, is_made_by, left_by_column, own_count};
 
 use pipe_model::access::{NodeAccess, NodeAccesses};

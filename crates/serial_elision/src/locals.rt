@@ -1,7 +1,7 @@
 //! Locals in scope.
 
 ghost use Rattle.std.specs.Prelude.{◌≡◌, ◌++◌, ◌∷◌, [], OnOk, OnErr};
-ghost use Rattle.pipe_model.specs.Evaluation.{local_value, with_local};
+ghost use Rattle.pipe_model.specs.Language.Evaluation.{local_value, updated_locals};
 
 use pipe_model::memory::NoMemory;
 use pipe_model::name::Name;
@@ -22,11 +22,11 @@ pub struct Locals {
 
 impl Model for Locals {
     ghost use Rattle.std.specs.Prelude.{List};
-    ghost use Rattle.pipe_model.specs.Evaluation.{Local as Named_value};
+    ghost use Rattle.pipe_model.specs.Language.Evaluation.{Local as Named_value};
 
     ghost Value = { List Named_value };
 
-    ghost use Rattle.serial_elision.specs.Scope.{values_of};
+    ghost use Rattle.serial_elision.specs.LocalValues.{values_of};
 
     ghost view = { λ s. values_of s.items.items };
 }
@@ -55,7 +55,7 @@ impl Locals {
 
     /// Gives the local of this name a new value; where there is none, nothing changes.
     pub fn assign(&mut self, name: &Name, value: i64)
-        ensures { self.new ≡ with_local self.old name.now value }
+        ensures { self.new ≡ updated_locals self.old name.now value }
     {
         for i in 0..self.items.len() {
             let local = &mut self.items[i];

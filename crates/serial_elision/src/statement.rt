@@ -1,11 +1,11 @@
 //! What statements do.
 
 ghost use Rattle.std.specs.Prelude.{◌≡◌, ◌+◌, ◌<◌, ◌≤◌, ◌++◌, ◌∷◌, [], length, All};
-ghost use Rattle.pipe_model.specs.Evaluation as evaluation;
-ghost use Rattle.pipe_model.specs.Interaction.{Return, Step, bind};
-ghost use Rattle.pipe_model.specs.Programs.{range_of};
-ghost use Rattle.pipe_model.specs.SyntaxTree.{expression_of, stage_statement, statement_of, statements_of, tree_of};
-ghost use Rattle.serial_elision.specs.Answers.{Leaves, basis_of, environment_of, setting_at};
+ghost use Rattle.pipe_model.specs.Language.Evaluation as evaluation;
+ghost use Rattle.pipe_model.specs.Language.Interaction.{Return, Step, bind};
+ghost use Rattle.pipe_model.specs.Language.Programs.{range_of};
+ghost use Rattle.pipe_model.specs.Language.SyntaxTree.{expression_of, stage_statement, statement_of, statements_of, tree_of};
+ghost use Rattle.serial_elision.specs.TreeResults.{Leaves, basis_of, environment_of, setting_at};
 ghost use Rattle.serial_elision.specs.ElisionState.{perform, position_of};
 ghost use Rattle.serial_elision.specs.Runnable.{AreRunnable, IsPlainCell, IsRunnableStatement};
 

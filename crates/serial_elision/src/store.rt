@@ -1,13 +1,13 @@
 //! What the elision keeps while it goes over the tree.
 
 ghost use Rattle.std.specs.Prelude.{◌≡◌, ◌≢◌, ◌<◌, ◌≤◌, ◌+◌, ◌-◌, ◌++◌, ◌∷◌, [], pos, length, IfOk, OnOk, OnErr};
-ghost use Rattle.pipe_model.specs.Evaluation as evaluation;
-ghost use Rattle.pipe_model.specs.Behaviour.{read_access, write_access};
-ghost use Rattle.pipe_model.specs.Columns.{at};
-ghost use Rattle.pipe_model.specs.Interaction.{Step, Return};
-ghost use Rattle.serial_elision.specs.Answers.{Meets, Leaves};
-ghost use Rattle.pipe_model.specs.State.{accesses_of};
-ghost use Rattle.pipe_model.specs.Store.{output_of, wrote, written};
+ghost use Rattle.pipe_model.specs.Language.Evaluation as evaluation;
+ghost use Rattle.pipe_model.specs.Pipelines.Behaviour.{read_access, write_access};
+ghost use Rattle.pipe_model.specs.Races.Columns.{at};
+ghost use Rattle.pipe_model.specs.Language.Interaction.{Step, Return};
+ghost use Rattle.serial_elision.specs.TreeResults.{Meets, Leaves};
+ghost use Rattle.pipe_model.specs.Runs.State.{accesses_of};
+ghost use Rattle.pipe_model.specs.Pipelines.Store.{output_of, wrote, written};
 ghost use Rattle.serial_elision.specs.Elided.{is_last, trap_in};
 ghost use Rattle.serial_elision.specs.ElisionState.{ElisionState, cells_of, cell_value, with_access, perform, position_of, first_node};
 
@@ -43,7 +43,7 @@ impl Model for Store {
 
     ghost Value = { ElisionState };
 
-    ghost use Rattle.serial_elision.specs.Caching.{IsConsistent};
+    ghost use Rattle.serial_elision.specs.Caching.{IsConsistentStore};
 
     ghost view = { λ s. record {
       basis = record { initial_values = s.initial_values.items; output_limit = s.output_limit; stages = s.stages; budget = s.budget };
@@ -53,7 +53,7 @@ impl Model for Store {
       left = s.left;
     } };
 
-    ghost invariant = { IsConsistent };
+    ghost invariant = { IsConsistentStore };
 }
 
 impl Store {

@@ -2,8 +2,8 @@
 //! each statement one, and the loop's test one.
 
 ghost use Rattle.std.specs.Prelude.{◌≡◌, ◌≤◌, ◌≤ℤ◌, ◌∷◌, [], pos, All, IfOk, None, length};
-ghost use Rattle.pipe_model.specs.CheckingRules.{limit_out};
-ghost use Rattle.pipe_model.specs.SyntaxTree.{expression_of, statements_of, tree_of};
+ghost use Rattle.pipe_model.specs.Language.CheckingRules.{first_limit_out};
+ghost use Rattle.pipe_model.specs.Language.SyntaxTree.{expression_of, statements_of, tree_of};
 ghost use Rattle.serial_elision.specs.Runnable.{AreRunnable, IsPlainCell, IsRunnable, IsRunnableExpression};
 
 use crate::elision::{SerialRun, run_tree};
@@ -85,7 +85,7 @@ fn block(alloc: Global) -> Block {
 }
 
 fn program(alloc: Global, limits: Limits, test: Expr, body: Vec<Stmt>) -> Result<Program, NoMemory>
-    requires range { limit_out limits ≡ None }
+    requires range { first_limit_out limits ≡ None }
     requires emits { pos 0 ≤ℤ limits.emits }
     requires test { IsRunnableExpression (expression_of test) }
     requires body { AreRunnable (statements_of body.items) }

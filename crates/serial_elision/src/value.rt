@@ -1,11 +1,11 @@
 //! The value of an expression.
 
 ghost use Rattle.std.specs.Prelude.{◌≡◌, ◌≢◌, ◌+◌, ◌<◌, ◌≤◌, length, All, IfSome};
-ghost use Rattle.pipe_model.specs.Evaluation as evaluation;
-ghost use Rattle.pipe_model.specs.Interaction.{Step};
-ghost use Rattle.pipe_model.specs.Programs.{range_of};
-ghost use Rattle.pipe_model.specs.SyntaxTree.{expression_of, tree_of};
-ghost use Rattle.serial_elision.specs.Answers.{IsOperated, Meets, basis_of, plain_range, setting_at};
+ghost use Rattle.pipe_model.specs.Language.Evaluation as evaluation;
+ghost use Rattle.pipe_model.specs.Language.Interaction.{Step};
+ghost use Rattle.pipe_model.specs.Language.Programs.{range_of};
+ghost use Rattle.pipe_model.specs.Language.SyntaxTree.{expression_of, tree_of};
+ghost use Rattle.serial_elision.specs.TreeResults.{IsOperated, Meets, basis_of, plain_range, setting_at};
 ghost use Rattle.serial_elision.specs.ElisionState.{perform};
 ghost use Rattle.serial_elision.specs.Runnable.{IsPlainCell, IsRunnableExpression, IsRunnableOperator};
 

@@ -5,13 +5,13 @@ use Rattle.std.proofs.Common.{◌<ℤ◌, ◌-◌, append-nil, inl, inr, refl}
 use Rattle.std.proofs.lemmas.Bool.{cases_eq, cases_lt}
 use Rattle.std.proofs.lemmas.Int.{ints}
 use Rattle.std.proofs.lemmas.List.{get_or_append_left, length-append}
-use Rattle.pipe_model.specs.Allowed.{HasPassed}
-use Rattle.pipe_model.specs.Behaviour.{Action, nodes_in, column_of, node_of}
-use Rattle.pipe_model.specs.Columns.{nodes_at, IsRising, node_at, no_node}
-use Rattle.pipe_model.specs.Pipeline.{Pipeline, IsWellFormed}
-use Rattle.pipe_model.specs.Races.{Among, IsRaceFree}
-use Rattle.pipe_model.specs.SerialElision.{serial_traces, serial_columns, located, serial_accesses}
-use Rattle.pipe_model.specs.State.{Frame, frame_at, Completed, Status, is_completed, Running, Pending, State, own_columns}
+use Rattle.pipe_model.specs.Runs.Allowed.{HasPassed}
+use Rattle.pipe_model.specs.Pipelines.Behaviour.{Action, nodes_in, column_of, node_of}
+use Rattle.pipe_model.specs.Races.Columns.{nodes_at, IsRising, node_at, no_node}
+use Rattle.pipe_model.specs.Pipelines.Pipeline.{Pipeline, IsWellFormed}
+use Rattle.pipe_model.specs.Races.DeterminacyRaces.{Among, IsRaceFree}
+use Rattle.pipe_model.specs.Pipelines.SerialElision.{serial_traces, serial_columns, located, serial_accesses}
+use Rattle.pipe_model.specs.Runs.State.{Frame, frame_at, Completed, Status, is_completed, Running, Pending, State, own_columns}
 use Rattle.pipe_model.specs.declared.access.NodeAccess.{NodeAccess}
 use Rattle.pipe_model.specs.declared.column.ColumnEnd.{ColumnEnd}
 use Rattle.pipe_model.specs.declared.node.Kind.TheVariants.{Zero}
@@ -24,7 +24,7 @@ use Rattle.run_laws.proofs.RunStates.FrameMoves.{rising_one, node_at_new}
 use Rattle.run_laws.proofs.RunStates.FrameTraces.{IsTraced, EndsBy, pending_node, AllTraced, completed_is}
 use Rattle.run_laws.proofs.RunStates.Frames.{frame_at_exists, nodes_at_frame, nodes_at_past, frame_at_within}
 use Rattle.run_laws.proofs.RunStates.GrowingColumns.{left_column_begun}
-use Rattle.run_laws.proofs.RunStates.LaterEdges.{Extends, no_race_before}
+use Rattle.run_laws.proofs.RunStates.LaterEdges.{ExtendsColumns, no_race_before}
 use Rattle.pipe_model.proofs.Members.{among_left}
 use Rattle.run_laws.proofs.RunStates.RunAccesses.{HasLocatedAccesses}
 use Rattle.run_laws.proofs.RunStates.RunInvariant.{IsConsistent}
@@ -140,7 +140,7 @@ own_goes_on p s i t b = elim (cases_lt i (length s.frames)) [
 
 -- the columns of the elision extend the run's
 pub extends_serial : (p : Pipeline) (s : State) → IsWellFormed p → IsConsistent s → AllTraced p s.frames
-    → AreBeginnings p s.frames → Extends (own_columns s) (serial_columns p)
+    → AreBeginnings p s.frames → ExtendsColumns (own_columns s) (serial_columns p)
 extends_serial p s proper k t b = record {
   longer = λ i. (own_goes_on p s i t b).longer;
   same = λ i j l. (own_goes_on p s i t b).same j l;

@@ -3,14 +3,14 @@
 use Rattle.std.proofs.Common.{ℕ, ◌≡◌, List, ap, ◌∙◌, append-nil, [], ◌∷◌, ◌++◌, refl, Some, sym, ◌+◌, arith, inl, inr, append_assoc, subst}
 use Rattle.std.proofs.lemmas.List.{map-append}
 use Rattle.std.proofs.lemmas.List.Concat.{flat_map-append}
-use Rattle.pipe_model.specs.Allowed.{IsRunning, Allowed}
-use Rattle.pipe_model.specs.Behaviour.{accesses_in, Accessed}
-use Rattle.pipe_model.specs.Columns.{at}
-use Rattle.pipe_model.specs.Pipeline.{Pipeline}
-use Rattle.pipe_model.specs.Races.{IsRaceFree, Among, Conflict, Here}
-use Rattle.pipe_model.specs.Run.{Run, EmptyRun, RunThen}
-use Rattle.pipe_model.specs.State.{State, accesses_of, Frame, next_state, fresh_frame, update_frame, with_action, Running, own_columns, frame_at}
-use Rattle.pipe_model.specs.Store.{written, HasReply, value_from, wrote}
+use Rattle.pipe_model.specs.Runs.Allowed.{IsRunning, Allowed}
+use Rattle.pipe_model.specs.Pipelines.Behaviour.{accesses_in, Accessed}
+use Rattle.pipe_model.specs.Races.Columns.{at}
+use Rattle.pipe_model.specs.Pipelines.Pipeline.{Pipeline}
+use Rattle.pipe_model.specs.Races.DeterminacyRaces.{IsRaceFree, Among, Conflict, Here}
+use Rattle.pipe_model.specs.Runs.Run.{Run, EmptyRun, RunThen}
+use Rattle.pipe_model.specs.Runs.State.{State, accesses_of, Frame, next_state, fresh_frame, update_frame, with_action, Running, own_columns, frame_at}
+use Rattle.pipe_model.specs.Pipelines.Store.{written, HasReply, value_from, wrote}
 use Rattle.run_laws.proofs.Iterations.Replies.{AllHaveReplies}
 use Rattle.pipe_model.specs.declared.access.Access.{Access as Cell_access}
 use Rattle.pipe_model.specs.declared.access.NodeAccess.{NodeAccess}

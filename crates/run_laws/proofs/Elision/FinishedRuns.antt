@@ -2,13 +2,13 @@
 use Rattle.std.proofs.Common.{ℕ, ◌≡◌, List, [], true, false, ◌+◌, ◌⊎◌, ◌∷◌, Some, length, ◌<◌, arith, subst, refl, inl, inr, suc, map, ◌≤◌}
 use Rattle.std.proofs.Common.{zero, ap, ◌++◌, sym, ◌∙◌, append-nil}
 use Rattle.std.proofs.lemmas.Bool.{cases_Bool, cases_lt, false≢true}
-use Rattle.pipe_model.specs.Allowed.{ContinuesLoop, ClosesLoop}
-use Rattle.pipe_model.specs.Behaviour.{Performs, column_of, closes_loop, accesses_in, is_closing}
-use Rattle.pipe_model.specs.Pipeline.{Pipeline, AlwaysClosesLoop}
-use Rattle.pipe_model.specs.Races.{IsRaceFree}
-use Rattle.pipe_model.specs.Run.{Run, IsFinished}
-use Rattle.pipe_model.specs.SerialElision.{serial_traces_from, serial_trace, unless, serial_traces}
-use Rattle.pipe_model.specs.State.{Frame, Completed, frame_at, is_completed, Status, Running, Pending, State, own_columns}
+use Rattle.pipe_model.specs.Runs.Allowed.{ContinuesLoop, ClosesLoop}
+use Rattle.pipe_model.specs.Pipelines.Behaviour.{Performs, column_of, closes_loop, accesses_in, closes_at_once}
+use Rattle.pipe_model.specs.Pipelines.Pipeline.{Pipeline, AlwaysClosesLoop}
+use Rattle.pipe_model.specs.Races.DeterminacyRaces.{IsRaceFree}
+use Rattle.pipe_model.specs.Runs.Run.{Run, IsFinished}
+use Rattle.pipe_model.specs.Pipelines.SerialElision.{serial_traces_from, serial_trace, unless, serial_traces}
+use Rattle.pipe_model.specs.Runs.State.{Frame, Completed, frame_at, is_completed, Status, Running, Pending, State, own_columns}
 use Rattle.run_laws.proofs.Iterations.Replies.{AllHaveReplies}
 use Rattle.pipe_model.specs.declared.access.Access.{Access as Cell_access}
 use Rattle.pipe_model.specs.declared.column.ColumnEnd.{ColumnEnd}
@@ -106,9 +106,9 @@ ended_frame p i f t over =
 inner_closes_not : (p : Pipeline) (i : ℕ) (f : Frame) → IsEnded p i f → ContinuesLoop f.status f.nodes
     → closes_loop f.trace ≡ false
 inner_closes_not p i f e g =
-    let g' : is_closing e.end ≡ true → 1 < length f.nodes = subst (λ w. ContinuesLoop w f.nodes) e.status g in
+    let g' : closes_at_once e.end ≡ true → 1 < length f.nodes = subst (λ w. ContinuesLoop w f.nodes) e.status g in
     elim (closes_loop_cases f.trace e.end e.ends) [
-      | inl one ↦ elim (cases_Bool (is_closing e.end)) [
+      | inl one ↦ elim (cases_Bool (closes_at_once e.end)) [
         | inl shut ↦ (
             let wide = g' shut in
             let same = ap (λ (l : List Node). length l) (sym e.nodes) in
@@ -123,7 +123,7 @@ inner_closes_not p i f e g =
 last_closes : (p : Pipeline) (i : ℕ) (f : Frame) → IsEnded p i f → ClosesLoop f.status f.nodes
     → closes_loop f.trace ≡ true
 last_closes p i f e s =
-    let shut : (is_closing e.end ≡ true) × (length f.nodes ≡ 1) = subst (λ w. ClosesLoop w f.nodes) e.status s in
+    let shut : (closes_at_once e.end ≡ true) × (length f.nodes ≡ 1) = subst (λ w. ClosesLoop w f.nodes) e.status s in
     elim (closes_loop_cases f.trace e.end e.ends) [
       | inl one ↦ one.1 ∙ shut.0
       | inr more ↦ (

@@ -3,14 +3,14 @@ use Rattle.std.proofs.Common.{ℕ, length, ◌-◌, suc, ◌≡◌, ap, List, sy
 use Rattle.std.proofs.Common.{refl, take, append_assoc}
 use Rattle.std.proofs.lemmas.List.{length-append}
 use Rattle.std.specs.List.{flat_map}
-use Rattle.pipe_model.specs.Allowed.{IsRunning}
-use Rattle.pipe_model.specs.Behaviour.{nodes_in, Action, Accessed, accesses_in, node_of}
-use Rattle.pipe_model.specs.Columns.{at}
-use Rattle.pipe_model.specs.Pipeline.{Pipeline, IsWellFormed}
-use Rattle.pipe_model.specs.Races.{Among, Here, IsRaceFree, Conflict}
-use Rattle.pipe_model.specs.SerialElision.{serial_accesses, serial_traces, located, serial_columns}
-use Rattle.pipe_model.specs.State.{Frame, Running, State, frame_at, own_columns, Status, Pending, Completed, accesses_of}
-use Rattle.pipe_model.specs.Store.{written}
+use Rattle.pipe_model.specs.Runs.Allowed.{IsRunning}
+use Rattle.pipe_model.specs.Pipelines.Behaviour.{nodes_in, Action, Accessed, accesses_in, node_of}
+use Rattle.pipe_model.specs.Races.Columns.{at}
+use Rattle.pipe_model.specs.Pipelines.Pipeline.{Pipeline, IsWellFormed}
+use Rattle.pipe_model.specs.Races.DeterminacyRaces.{Among, Here, IsRaceFree, Conflict}
+use Rattle.pipe_model.specs.Pipelines.SerialElision.{serial_accesses, serial_traces, located, serial_columns}
+use Rattle.pipe_model.specs.Runs.State.{Frame, Running, State, frame_at, own_columns, Status, Pending, Completed, accesses_of}
+use Rattle.pipe_model.specs.Pipelines.Store.{written}
 use Rattle.pipe_model.specs.declared.access.Access.{Access as Cell_access}
 use Rattle.pipe_model.specs.declared.access.NodeAccess.{NodeAccess}
 use Rattle.pipe_model.specs.declared.node.Node.{Node}

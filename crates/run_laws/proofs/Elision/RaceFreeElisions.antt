@@ -3,16 +3,16 @@ use Rattle.std.proofs.Common.{List, ℕ, ℤ, ◌≡◌, ◌∷◌, ap, sym, ref
 use Rattle.std.proofs.Common.{length, false, ◌<◌, append-nil, zero, suc, true}
 use Rattle.std.proofs.lemmas.Bool.{cases_Bool, cases_eq, false≢true}
 use Rattle.std.proofs.lemmas.List.{length-append}
-use Rattle.pipe_model.specs.Allowed.{IsRunning, ContinuesLoop, MayBegin, Allowed}
-use Rattle.pipe_model.specs.Behaviour.{Behaviour, Action, Offers, Reading, Accessed, read_access, Writing, write_access, Staging, Ending}
-use Rattle.pipe_model.specs.Behaviour.{accesses_in, behaviour_after_all, HasNoEnd, closes_loop, node_of, is_closing, Staged, Ended}
-use Rattle.pipe_model.specs.Pipeline.{Pipeline, IsWellFormed, AlwaysClosesLoop}
-use Rattle.pipe_model.specs.Races.{IsRaceFree}
-use Rattle.pipe_model.specs.Run.{Run, EmptyRun, RunThen}
-use Rattle.pipe_model.specs.SerialElision.{serial_trace, serial_traces, serial_columns, serial_accesses}
-use Rattle.pipe_model.specs.State.{Frame, Running, Status, with_action, frame_at, update_frame, State, accesses_of, Pending, Completed}
-use Rattle.pipe_model.specs.State.{fresh_frame, next_state, enter_pending}
-use Rattle.pipe_model.specs.Store.{value_after, HasReply, value_from}
+use Rattle.pipe_model.specs.Runs.Allowed.{IsRunning, ContinuesLoop, MayBegin, Allowed}
+use Rattle.pipe_model.specs.Pipelines.Behaviour.{Behaviour, Action, Offers, Reading, Accessed, read_access, Writing, write_access, Staging, Ending}
+use Rattle.pipe_model.specs.Pipelines.Behaviour.{accesses_in, behaviour_after_all, HasNoEnd, closes_loop, node_of, closes_at_once, Staged, Ended}
+use Rattle.pipe_model.specs.Pipelines.Pipeline.{Pipeline, IsWellFormed, AlwaysClosesLoop}
+use Rattle.pipe_model.specs.Races.DeterminacyRaces.{IsRaceFree}
+use Rattle.pipe_model.specs.Runs.Run.{Run, EmptyRun, RunThen}
+use Rattle.pipe_model.specs.Pipelines.SerialElision.{serial_trace, serial_traces, serial_columns, serial_accesses}
+use Rattle.pipe_model.specs.Runs.State.{Frame, Running, Status, with_action, frame_at, update_frame, State, accesses_of, Pending, Completed}
+use Rattle.pipe_model.specs.Runs.State.{fresh_frame, next_state, enter_pending}
+use Rattle.pipe_model.specs.Pipelines.Store.{value_after, HasReply, value_from}
 use Rattle.pipe_model.specs.declared.access.Access.{Access as Cell_access}
 use Rattle.pipe_model.specs.declared.event.Event.{Event}
 use Rattle.pipe_model.specs.declared.event.Event.TheVariants.{Begin, Access, Advance, Enter, Finish, Stop}
@@ -133,7 +133,7 @@ continuing_closes_not p i f (Completed d) t b filled e g =
     let whole : b.trace ≡ f.trace =
     b.begins ∙ ap (λ l. f.trace ++ l) (completed_has_no_rest p i f d t e b) ∙ append-nil f.trace in
     ap closes_loop whole ∙ elim (closes_loop_cases f.trace d ending) [
-      | inl one ↦ elim (cases_Bool (is_closing d)) [
+      | inl one ↦ elim (cases_Bool (closes_at_once d)) [
         | inl shut ↦ (
             let wide = g shut in
             let short = ap (λ (l : List Node). length l) one.0 in

@@ -1,12 +1,12 @@
 -- A finished run without a race has the columns, the ends and the writes of the serial elision.
 use Rattle.std.proofs.Common.{ℕ, List, map, ◌≡◌, [], ◌∷◌, inl, inr, ◌+◌, ap, sym, ◌∙◌, subst, arith, ◌++◌}
-use Rattle.pipe_model.specs.Behaviour.{column_of, trace_end}
-use Rattle.pipe_model.specs.Dag.{AreParallel}
-use Rattle.pipe_model.specs.Pipeline.{Pipeline}
-use Rattle.pipe_model.specs.Races.{Among}
-use Rattle.pipe_model.specs.SerialElision.{serial_columns, serial_accesses, located_from}
-use Rattle.pipe_model.specs.State.{Frame, end_of_status, own_columns, accesses_of}
-use Rattle.pipe_model.specs.Store.{written}
+use Rattle.pipe_model.specs.Pipelines.Behaviour.{column_of, trace_end}
+use Rattle.pipe_model.specs.Races.Dag.{AreParallel}
+use Rattle.pipe_model.specs.Pipelines.Pipeline.{Pipeline}
+use Rattle.pipe_model.specs.Races.DeterminacyRaces.{Among}
+use Rattle.pipe_model.specs.Pipelines.SerialElision.{serial_columns, serial_accesses, located_from}
+use Rattle.pipe_model.specs.Runs.State.{Frame, end_of_status, own_columns, accesses_of}
+use Rattle.pipe_model.specs.Pipelines.Store.{written}
 use Rattle.pipe_model.specs.declared.access.NodeAccess.{NodeAccess}
 use Rattle.run_laws.proofs.Elision.ColumnOrder.{run_agrees}
 use Rattle.run_laws.proofs.Elision.FinishedRuns.{IsWhole, run_has_serial_traces}

@@ -3,14 +3,14 @@ use Rattle.std.proofs.Common.{ℕ, List, ◌≡◌, ◌++◌, length, ◌-◌, s
 use Rattle.std.proofs.Common.{refl, false, append-nil}
 use Rattle.std.proofs.lemmas.Bool.{false≢true}
 use Rattle.std.proofs.lemmas.List.{length_push, map-append}
-use Rattle.pipe_model.specs.Behaviour.{Action, nodes_in, Accessed, Staged, node_of, Behaviour, behaviour_after_all, Reading, read_access}
-use Rattle.pipe_model.specs.Behaviour.{Offers, behaviour_after, Writing, write_access, Staging, Ending, Ended}
-use Rattle.pipe_model.specs.Columns.{at}
-use Rattle.pipe_model.specs.Pipeline.{Pipeline, HasLegalStages}
-use Rattle.pipe_model.specs.Run.{Run}
-use Rattle.pipe_model.specs.SerialElision.{trace_events, located, serial_trace}
-use Rattle.pipe_model.specs.State.{Frame, Completed, with_action, Running, Pending, accesses_of}
-use Rattle.pipe_model.specs.Store.{value_after}
+use Rattle.pipe_model.specs.Pipelines.Behaviour.{Action, nodes_in, Accessed, Staged, node_of, Behaviour, behaviour_after_all, Reading, read_access}
+use Rattle.pipe_model.specs.Pipelines.Behaviour.{Offers, behaviour_after, Writing, write_access, Staging, Ending, Ended}
+use Rattle.pipe_model.specs.Races.Columns.{at}
+use Rattle.pipe_model.specs.Pipelines.Pipeline.{Pipeline, HasLegalStages}
+use Rattle.pipe_model.specs.Runs.Run.{Run}
+use Rattle.pipe_model.specs.Pipelines.SerialElision.{trace_events, located, serial_trace}
+use Rattle.pipe_model.specs.Runs.State.{Frame, Completed, with_action, Running, Pending, accesses_of}
+use Rattle.pipe_model.specs.Pipelines.Store.{value_after}
 use Rattle.pipe_model.specs.declared.access.Access.{Access as Cell_access}
 use Rattle.pipe_model.specs.declared.access.NodeAccess.{NodeAccess}
 use Rattle.pipe_model.specs.declared.column.ColumnEnd.{ColumnEnd}

@@ -3,15 +3,15 @@ use Rattle.std.proofs.Common.{ℕ, List, length, ◌++◌, map, ◌≡◌, Some,
 use Rattle.std.proofs.Common.{◌+◌, false, arith, Bool, ◌<◌, suc, zero, refl}
 use Rattle.std.proofs.lemmas.Bool.{false≢true, cases_Bool}
 use Rattle.std.proofs.lemmas.List.{map-append, length_push}
-use Rattle.pipe_model.specs.Allowed.{ClosesLoop, ContinuesLoop}
-use Rattle.pipe_model.specs.Behaviour.{Action, column_of, closes_loop, nodes_in, is_closing, accesses_in, trace_end}
-use Rattle.pipe_model.specs.Outcome.{ended_column}
-use Rattle.pipe_model.specs.Pipeline.{Pipeline, IsWellFormed, AlwaysClosesLoop}
-use Rattle.pipe_model.specs.Run.{Run, EmptyRun}
-use Rattle.pipe_model.specs.RunLogs.{column_of_frame}
-use Rattle.pipe_model.specs.SerialElision.{trace_events_from, located_from, trace_events, located, unless, serial_traces_from, serial_trace}
-use Rattle.pipe_model.specs.SerialElision.{serial_traces, serial_accesses}
-use Rattle.pipe_model.specs.State.{Frame, frame_at, fresh_frame, accesses_of, end_of_status}
+use Rattle.pipe_model.specs.Runs.Allowed.{ClosesLoop, ContinuesLoop}
+use Rattle.pipe_model.specs.Pipelines.Behaviour.{Action, column_of, closes_loop, nodes_in, closes_at_once, accesses_in, trace_end}
+use Rattle.pipe_model.specs.Pipelines.ElisionResults.{ended_column}
+use Rattle.pipe_model.specs.Pipelines.Pipeline.{Pipeline, IsWellFormed, AlwaysClosesLoop}
+use Rattle.pipe_model.specs.Runs.Run.{Run, EmptyRun}
+use Rattle.pipe_model.specs.Runs.RunLogs.{column_of_frame}
+use Rattle.pipe_model.specs.Pipelines.SerialElision.{trace_events_from, located_from, trace_events, located, unless, serial_traces_from, serial_trace}
+use Rattle.pipe_model.specs.Pipelines.SerialElision.{serial_traces, serial_accesses}
+use Rattle.pipe_model.specs.Runs.State.{Frame, frame_at, fresh_frame, accesses_of, end_of_status}
 use Rattle.pipe_model.specs.declared.access.Access.{Access as Cell_access}
 use Rattle.pipe_model.specs.declared.access.NodeAccess.{NodeAccess}
 use Rattle.pipe_model.specs.declared.event.Event.{Event}
@@ -50,7 +50,7 @@ runs_last : (p : Pipeline) (limit : ℕ) (events : List Event) (fs : List Frame)
     → AllCompleted fs → HasRunOn p limit (events ++ Begin (length fs) ∷ []) fs fresh_frame accesses actions
     → closes_loop actions ≡ true → HasRunAll p limit events fs accesses (actions ∷ [])
 runs_last p limit events fs accesses actions all w shut =
-    let closing : (nodes_in actions ≡ []) × (is_closing w.end ≡ true) =
+    let closing : (nodes_in actions ≡ []) × (closes_at_once w.end ≡ true) =
     elim (closes_loop_cases actions w.end w.ended) [
       | inl one ↦ (one.0, sym one.1 ∙ shut)
       | inr more ↦ absurd (false≢true (sym more.1 ∙ shut))

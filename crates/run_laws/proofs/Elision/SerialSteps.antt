@@ -3,14 +3,14 @@ use Rattle.std.proofs.Common.{List, false, [], ◌∷◌, ◌++◌, length, ◌�
 use Rattle.std.proofs.Common.{◌<ℤ◌, Some, ◌⊎◌, inl, inr}
 use Rattle.std.proofs.lemmas.Bool.{cases_lt}
 use Rattle.std.proofs.lemmas.List.{length_push}
-use Rattle.pipe_model.specs.Allowed.{IsRunning, OffersAt, Allowed, LeftHasPassed, ContinuesLoop}
-use Rattle.pipe_model.specs.Behaviour.{Action, Offers, behaviour_after_all, Accessed, Staged, Ended}
-use Rattle.pipe_model.specs.Columns.{at}
-use Rattle.pipe_model.specs.Pipeline.{Pipeline}
-use Rattle.pipe_model.specs.Run.{Run, RunThen}
-use Rattle.pipe_model.specs.State.{Frame, State, update_frame, frame_at, Running, trace_in, next_state, accesses_of, with_action}
-use Rattle.pipe_model.specs.State.{current_index, Pending, Completed, enter_pending, fresh_frame, is_completed}
-use Rattle.pipe_model.specs.Store.{HasReply}
+use Rattle.pipe_model.specs.Runs.Allowed.{IsRunning, OffersAt, Allowed, LeftHasPassed, ContinuesLoop}
+use Rattle.pipe_model.specs.Pipelines.Behaviour.{Action, Offers, behaviour_after_all, Accessed, Staged, Ended}
+use Rattle.pipe_model.specs.Races.Columns.{at}
+use Rattle.pipe_model.specs.Pipelines.Pipeline.{Pipeline}
+use Rattle.pipe_model.specs.Runs.Run.{Run, RunThen}
+use Rattle.pipe_model.specs.Runs.State.{Frame, State, update_frame, frame_at, Running, trace_in, next_state, accesses_of, with_action}
+use Rattle.pipe_model.specs.Runs.State.{current_index, Pending, Completed, enter_pending, fresh_frame, is_completed}
+use Rattle.pipe_model.specs.Pipelines.Store.{HasReply}
 use Rattle.pipe_model.specs.declared.access.Access.{Access as Cell_access}
 use Rattle.pipe_model.specs.declared.access.NodeAccess.{NodeAccess}
 use Rattle.pipe_model.specs.declared.column.ColumnEnd.{ColumnEnd}

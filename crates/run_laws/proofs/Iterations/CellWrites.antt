@@ -2,9 +2,9 @@
 use Rattle.std.proofs.Common.{ℕ, List, ◌≡◌, ◌++◌, refl, [], ap, sym, append_assoc, ◌∙◌, ◌∷◌, append-nil, Bool, ℤ, true, false, ◌==◌, inr}
 use Rattle.std.proofs.Common.{subst, ◌⊎◌, inl}
 use Rattle.std.proofs.lemmas.Bool.{eqb-true}
-use Rattle.pipe_model.specs.Pipeline.{Pipeline}
-use Rattle.pipe_model.specs.Races.{Conflict, Among, Here, Later}
-use Rattle.pipe_model.specs.Store.{written, wrote, wrote_as, value_from, HasReply}
+use Rattle.pipe_model.specs.Pipelines.Pipeline.{Pipeline}
+use Rattle.pipe_model.specs.Races.DeterminacyRaces.{Conflict, Among, Here, Later}
+use Rattle.pipe_model.specs.Pipelines.Store.{written, wrote, wrote_as, value_from, HasReply}
 use Rattle.run_laws.proofs.Iterations.Replies.{AllHaveReplies}
 use Rattle.pipe_model.specs.declared.access.Access.{Access, Access as Cell_access}
 use Rattle.pipe_model.specs.declared.access.AccessKind.{AccessKind}

@@ -3,10 +3,10 @@ use Rattle.std.proofs.Common.{List, ◌++◌, ℕ, Some, ◌≡◌, [], take, �
 use Rattle.std.proofs.Common.{append_assoc, ◌∷◌, false, ◌<◌, refl, map, Bool, true}
 use Rattle.std.proofs.lemmas.Bool.{cases_Bool, false≢true}
 use Rattle.std.specs.List.{flat_map}
-use Rattle.pipe_model.specs.Behaviour.{Action, accesses_in, closes_loop, column_of}
-use Rattle.pipe_model.specs.Columns.{nodes_at}
-use Rattle.pipe_model.specs.Pipeline.{Pipeline}
-use Rattle.pipe_model.specs.SerialElision.{serial_traces_from, serial_trace, unless}
+use Rattle.pipe_model.specs.Pipelines.Behaviour.{Action, accesses_in, closes_loop, column_of}
+use Rattle.pipe_model.specs.Races.Columns.{nodes_at}
+use Rattle.pipe_model.specs.Pipelines.Pipeline.{Pipeline}
+use Rattle.pipe_model.specs.Pipelines.SerialElision.{serial_traces_from, serial_trace, unless}
 use Rattle.run_laws.proofs.Iterations.TraceParts.{trace_at}
 use Rattle.pipe_model.specs.declared.access.Access.{Access as Cell_access}
 

@@ -1,10 +1,10 @@
 -- What an interpreter does with an interaction tree is the serial trace of the tree's behaviour.
 use Rattle.std.proofs.Common.{ℕ, ◌≡◌, zero, refl, suc, List, sym, ◌∙◌, [], ◌∷◌, ◌++◌, ap, append_assoc, append-nil}
-use Rattle.pipe_model.specs.Behaviour.{Accessed, read_access, write_access, Staged, Action, accesses_in}
-use Rattle.pipe_model.specs.Interaction.{Outcome, Progress, outcome_bind, spend_step, Interaction, interpret, bind, Return, Raise, Step}
-use Rattle.pipe_model.specs.Interaction.{Raised, Get, value_seen, progress_with, Set, Stage, outcome_actions, with_budget}
-use Rattle.pipe_model.specs.Pipeline.{Pipeline}
-use Rattle.pipe_model.specs.SerialElision.{serial_trace}
+use Rattle.pipe_model.specs.Pipelines.Behaviour.{Accessed, read_access, write_access, Staged, Action, accesses_in}
+use Rattle.pipe_model.specs.Language.Interaction.{Interpreted, Progress, interpreted_bind, spend_step, Interaction, interpret, bind, Return, Raise, Step}
+use Rattle.pipe_model.specs.Language.Interaction.{Raised, Get, value_seen, progress_with, Set, Stage, interpreted_actions, with_budget}
+use Rattle.pipe_model.specs.Pipelines.Pipeline.{Pipeline}
+use Rattle.pipe_model.specs.Pipelines.SerialElision.{serial_trace}
 use Rattle.pipe_model.specs.declared.access.Access.{Access}
 use Rattle.pipe_model.specs.declared.column.ColumnEnd.{ColumnEnd}
 use Rattle.pipe_model.specs.declared.trap.Trap.TheVariants.{Budget}
@@ -12,9 +12,9 @@ use Rattle.run_laws.proofs.Iterations.TraceParts.{accesses_in-append}
 use Rattle.run_laws.specs.BehaviourLaws.{BindsAreInterpretedInTurn, InterpretersAreSerial}
 
 -- a step spent before a bind is spent inside it
-outcome_bind-spend_step : {S A B : Type 0} (n : ℕ) (stop : Outcome S A) (go : ℕ → Outcome S A)
-    (f : A → S → Outcome S B)
-    → outcome_bind (spend_step n stop go) f ≡ spend_step n (outcome_bind stop f) (λ m. outcome_bind (go m) f)
+outcome_bind-spend_step : {S A B : Type 0} (n : ℕ) (stop : Interpreted S A) (go : ℕ → Interpreted S A)
+    (f : A → S → Interpreted S B)
+    → interpreted_bind (spend_step n stop go) f ≡ spend_step n (interpreted_bind stop f) (λ m. interpreted_bind (go m) f)
 outcome_bind-spend_step zero stop go f = refl
 outcome_bind-spend_step (suc n) stop go f = refl
 
@@ -27,7 +27,7 @@ spend_step_same (suc n) stop go went h = h n
 -- interpreting a bind is interpreting its parts one after the other
 interpret-bind : {A B : Type 0} (p : Pipeline) (base : List Access) (budget : ℕ) (d : Interaction A)
     (f : A → Interaction B) (k : Progress)
-    → interpret p base budget (bind d f) k ≡ outcome_bind (interpret p base budget d k)
+    → interpret p base budget (bind d f) k ≡ interpreted_bind (interpret p base budget d k)
     (λ a j. interpret p base budget (f a) j)
 interpret-bind p base budget (Return a) f k = refl
 interpret-bind p base budget (Raise t) f k = refl
@@ -53,16 +53,16 @@ accesses_with_action base k i =
 -- the law below, for a step
 interpret_step : (p : Pipeline) (base : List Access) (budget n : ℕ) (d : Interaction ColumnEnd) (k : Progress)
     → k.left ≡ n
-    → ((j : Progress) → outcome_actions (interpret p base budget d j) ≡ j.actions
+    → ((j : Progress) → interpreted_actions (interpret p base budget d j) ≡ j.actions
     ++ serial_trace p (with_budget budget j.left d) (base ++ accesses_in j.actions))
-    → outcome_actions (spend_step n (Raised Budget k) (λ m. interpret p base budget d (record k { left = m })))
+    → interpreted_actions (spend_step n (Raised Budget k) (λ m. interpret p base budget d (record k { left = m })))
     ≡ k.actions ++ serial_trace p (with_budget budget n (Step d)) (base ++ accesses_in k.actions)
 interpret_step p base budget zero d k e h = refl
 interpret_step p base budget (suc n) d k e h = h (record k { left = n })
 
 -- the actions so far, and then the serial trace of what is left
 interpret_is_serial : (p : Pipeline) (base : List Access) (budget : ℕ) (d : Interaction ColumnEnd) (k : Progress)
-    → outcome_actions (interpret p base budget d k) ≡ k.actions
+    → interpreted_actions (interpret p base budget d k) ≡ k.actions
     ++ serial_trace p (with_budget budget k.left d) (base ++ accesses_in k.actions)
 interpret_is_serial p base budget (Return e) k = refl
 interpret_is_serial p base budget (Raise t) k = refl

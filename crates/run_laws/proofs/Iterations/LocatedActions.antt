@@ -1,11 +1,11 @@
 -- The accesses of a trace, each with its instance.
 use Rattle.std.proofs.Common.{ℕ, List, length, ◌≡◌, ◌+◌, [], ◌∷◌, ◌++◌, arith, refl, ap, suc, ℤ, ◌≤◌, Some, zero, subst}
-use Rattle.pipe_model.specs.Behaviour.{Action, Accessed, nodes_in, Staged, Ended, accesses_in}
-use Rattle.pipe_model.specs.Columns.{at}
-use Rattle.pipe_model.specs.Races.{Among, Here, Later}
-use Rattle.pipe_model.specs.SerialElision.{located, located_from}
+use Rattle.pipe_model.specs.Pipelines.Behaviour.{Action, Accessed, nodes_in, Staged, Ended, accesses_in}
+use Rattle.pipe_model.specs.Races.Columns.{at}
+use Rattle.pipe_model.specs.Races.DeterminacyRaces.{Among, Here, Later}
+use Rattle.pipe_model.specs.Pipelines.SerialElision.{located, located_from}
 use Rattle.run_laws.proofs.Iterations.TraceParts.{trace_at}
-use Rattle.pipe_model.specs.State.{accesses_of}
+use Rattle.pipe_model.specs.Runs.State.{accesses_of}
 use Rattle.pipe_model.specs.declared.access.Access.{Access as Cell_access}
 use Rattle.pipe_model.specs.declared.access.NodeAccess.{NodeAccess}
 use Rattle.pipe_model.proofs.Members.{among_left, among_right}

@@ -1,8 +1,8 @@
 -- Accesses that have the replies of the cells.
 use Rattle.std.proofs.Common.{List, [], ◌∷◌, ◌++◌}
 use Rattle.pipe_model.specs.declared.access.Access.{Access}
-use Rattle.pipe_model.specs.Pipeline.{Pipeline}
-use Rattle.pipe_model.specs.Store.{HasReply}
+use Rattle.pipe_model.specs.Pipelines.Pipeline.{Pipeline}
+use Rattle.pipe_model.specs.Pipelines.Store.{HasReply}
 
 -- each read has the value that stands in its cell when it is made
 abbrev pub AllHaveReplies : Pipeline → List Access → List Access → Type 0

@@ -1,12 +1,12 @@
 -- The serial trace of one iteration.
 use Rattle.std.proofs.Common.{List, [], ◌∷◌, ◌++◌, refl, ◌≡◌, sym, ap, append-nil, ◌∙◌, subst, append_assoc, Bool, false, ℕ, ℤ, true}
-use Rattle.pipe_model.specs.Behaviour.{Behaviour, Reading, read_access, Writing, write_access, Staging, Ending, Action, HasNoEnd}
-use Rattle.pipe_model.specs.Behaviour.{behaviour_after_all, accesses_in, Accessed, Staged, Ended, nodes_in, node_of, Performs, closes_loop}
-use Rattle.pipe_model.specs.Behaviour.{is_closing}
-use Rattle.pipe_model.specs.Columns.{IsRising}
-use Rattle.pipe_model.specs.Pipeline.{Pipeline, HasLegalStages, AlwaysClosesLoop}
-use Rattle.pipe_model.specs.SerialElision.{serial_trace}
-use Rattle.pipe_model.specs.Store.{value_after, HasReply}
+use Rattle.pipe_model.specs.Pipelines.Behaviour.{Behaviour, Reading, read_access, Writing, write_access, Staging, Ending, Action, HasNoEnd}
+use Rattle.pipe_model.specs.Pipelines.Behaviour.{behaviour_after_all, accesses_in, Accessed, Staged, Ended, nodes_in, node_of, Performs, closes_loop}
+use Rattle.pipe_model.specs.Pipelines.Behaviour.{closes_at_once}
+use Rattle.pipe_model.specs.Races.Columns.{IsRising}
+use Rattle.pipe_model.specs.Pipelines.Pipeline.{Pipeline, HasLegalStages, AlwaysClosesLoop}
+use Rattle.pipe_model.specs.Pipelines.SerialElision.{serial_trace}
+use Rattle.pipe_model.specs.Pipelines.Store.{value_after, HasReply}
 use Rattle.run_laws.proofs.Iterations.Replies.{AllHaveReplies}
 use Rattle.pipe_model.specs.declared.access.Access.{Access as Cell_access}
 use Rattle.pipe_model.specs.declared.column.ColumnEnd.{ColumnEnd}
@@ -146,7 +146,7 @@ always_closes (Ending f) (Staged k n ∷ xs) e a performs ends = absurd (let o =
 always_closes (Ending f) (Ended d ∷ xs) e a performs ends =
     let o : Ended d ≡ Ended f = performs.0 in
     let same : d ≡ f = cc in
-    ap is_closing same ∙ a
+    ap closes_at_once same ∙ a
 
 -- the serial trace of an iteration that always closes the loop closes it
 pub serial_trace_closes : (p : Pipeline) (d : Behaviour) (before : List Cell_access) → AlwaysClosesLoop d

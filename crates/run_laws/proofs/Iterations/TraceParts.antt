@@ -1,7 +1,7 @@
 -- The accesses, the instances and the end of a trace.
 use Rattle.std.proofs.Common.{List, ◌≡◌, ◌++◌, refl, [], ap, ◌∷◌, ℤ, length, false, ◌<◌, ◌⊎◌, inr, arith, inl, Option, Some, None, ℕ, zero, suc}
-use Rattle.pipe_model.specs.Behaviour.{Action, accesses_in, Accessed, Staged, Ended, nodes_in, node_of, HasNoEnd, closes_loop, is_closing}
-use Rattle.pipe_model.specs.Behaviour.{column_of, trace_end}
+use Rattle.pipe_model.specs.Pipelines.Behaviour.{Action, accesses_in, Accessed, Staged, Ended, nodes_in, node_of, HasNoEnd, closes_loop, closes_at_once}
+use Rattle.pipe_model.specs.Pipelines.Behaviour.{column_of, trace_end}
 use Rattle.pipe_model.specs.declared.access.Access.{Access as Cell_access}
 use Rattle.pipe_model.specs.declared.column.ColumnEnd.{ColumnEnd}
 
@@ -55,12 +55,12 @@ ends_with_end (Ended d ∷ xs) e h = absurd h
 
 -- the loop is closed by the end of instance 0 alone
 pub closes_loop_cases : (actions : List Action) (e : ColumnEnd) → EndsWith actions e
-    → ((nodes_in actions ≡ []) × (closes_loop actions ≡ is_closing e))
+    → ((nodes_in actions ≡ []) × (closes_loop actions ≡ closes_at_once e))
     ⊎ ((1 < length (column_of actions)) × (closes_loop actions ≡ false))
 closes_loop_cases [] e h = absurd h
 closes_loop_cases (Accessed a ∷ xs) e h = closes_loop_cases xs e h
 closes_loop_cases (Staged k n ∷ xs) e h = inr (omega arith, refl)
-closes_loop_cases (Ended d ∷ xs) e h = inl (ap nodes_in h.0, ap is_closing h.1)
+closes_loop_cases (Ended d ∷ xs) e h = inl (ap nodes_in h.0, ap closes_at_once h.1)
 
 -- nothing comes after an end
 pub nothing_after_end : (xs ys : List Action) (e d : ColumnEnd) → EndsWith xs e → EndsWith (xs ++ ys) d → ys ≡ []

@@ -1,12 +1,12 @@
 -- An instance comes before another in both lists exactly where it precedes it.
 use Rattle.std.proofs.Common.{ℕ, ◌≡◌, ◌⊎◌, inl, inr, arith, List, length, ◌<◌, ap₂, ◌↔◌}
 use Rattle.std.proofs.lemmas.Bool.{cases_order, cases_lt}
-use Rattle.pipe_model.specs.Columns.{AreColumns}
-use Rattle.pipe_model.specs.Dag.{Precedes}
+use Rattle.pipe_model.specs.Races.Columns.{AreColumns}
+use Rattle.pipe_model.specs.Races.Dag.{Precedes}
 use Rattle.run_laws.proofs.ListOrders.Reach.{reach}
-use Rattle.pipe_model.specs.OrderList.{place, list_of_log}
-use Rattle.pipe_model.specs.Starts.{AreStarts, IsStarted, start_number}
-use Rattle.pipe_model.specs.TwoOrders.{IsBeforeInBoth, down_first_taken, down_first_log, right_first_taken, right_first_log}
+use Rattle.pipe_model.specs.Orders.OrderList.{place, list_of_log}
+use Rattle.pipe_model.specs.Orders.Starts.{AreStarts, IsStarted, start_number}
+use Rattle.pipe_model.specs.Orders.TwoOrders.{IsBeforeInBoth, down_first_taken, down_first_log, right_first_taken, right_first_log}
 use Rattle.pipe_model.specs.declared.node.Node.{Node}
 use Rattle.pipe_model.specs.declared.node.NodeId.{NodeId}
 use Rattle.run_laws.proofs.ListOrders.DownFirst.{FallsBefore}

@@ -3,16 +3,16 @@ use Rattle.std.proofs.Common.{List, ℕ, ◌≡◌, [], ◌∷◌, ◌++◌, ◌
 use Rattle.std.proofs.Common.{refl, ap₂, ◌<ℤ◌, subst, sym}
 use Rattle.std.proofs.lemmas.Bool.{cases_eq, cases_lt}
 use Rattle.std.proofs.lemmas.List.{get_or_push}
-use Rattle.pipe_model.specs.Columns.{nodes_at, at, node_at, no_node}
-use Rattle.pipe_model.specs.Dag.{CrossEdge, HeadCross, WaitCross, Edge, DownEdge, AcrossEdge}
-use Rattle.pipe_model.specs.LeftParent.{last_up_to, left_parent}
-use Rattle.pipe_model.specs.Starts.{AreStarts, start_number, IsStarted}
+use Rattle.pipe_model.specs.Races.Columns.{nodes_at, at, node_at, no_node}
+use Rattle.pipe_model.specs.Races.Dag.{CrossEdge, HeadCross, WaitCross, Edge, DownEdge, AcrossEdge}
+use Rattle.pipe_model.specs.Orders.LeftParent.{last_up_to, left_parent}
+use Rattle.pipe_model.specs.Orders.Starts.{AreStarts, start_number, IsStarted}
 use Rattle.pipe_model.specs.declared.node.Kind.TheVariants.{Wait}
 use Rattle.pipe_model.specs.declared.node.Node.{Node}
 use Rattle.pipe_model.specs.declared.node.NodeId.{NodeId}
 use Rattle.run_laws.proofs.ListOrders.OneMoreStart.{GrowsBy, start_old, start_new, starts_grown}
 use Rattle.run_laws.proofs.ListOrders.StableLeftParents.{last_up_to-push, left_same}
-use Rattle.run_laws.proofs.RunStates.LaterEdges.{Extends, old_edge}
+use Rattle.run_laws.proofs.RunStates.LaterEdges.{ExtendsColumns, old_edge}
 
 -- column i has one instance more
 pub record AddsNode (columns columns' : List (List Node)) (i : ℕ) (new : Node) : Type 0 where
@@ -27,7 +27,7 @@ cross_source_within (HeadCross x y) = x
 cross_source_within (WaitCross j k u v it) = it.within
 
 module _ (columns columns' : List (List Node)) (starts : List NodeId) (i : ℕ) (new : Node)
-    (a : AddsNode columns columns' i new) (x : Extends columns columns')
+    (a : AddsNode columns columns' i new) (x : ExtendsColumns columns columns')
     (ordered : AreStarts columns starts) (all : (c k : ℕ) → k < length (nodes_at columns c)
     → start_number starts c k < length starts) where
   -- the column is one longer

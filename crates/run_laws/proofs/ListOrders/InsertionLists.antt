@@ -3,7 +3,7 @@ use Rattle.std.proofs.Common.{List, ℕ, length, ◌≡◌, ◌+◌, [], ◌∷�
 use Rattle.std.proofs.Common.{◌≢◌, sym, ◌<◌, subst, ◌↔◌}
 use mathlib.Core.Logic.{dite}
 use native.Mathlib.Decide.{ℕ_discrete}
-use Rattle.pipe_model.specs.OrderList.{inserted, insert_after, has, IsLog, list_of_log, StandsBefore, place}
+use Rattle.pipe_model.specs.Orders.OrderList.{inserted, insert_after, has, IsLog, list_of_log, StandsBefore, place}
 use Rattle.run_laws.specs.OrderLaws.{EntriesInsertElements}
 
 -- the list after one entry more

@@ -6,9 +6,9 @@ use Rattle.std.proofs.lemmas.Int.{ints}
 use Rattle.std.specs.Prelude.{int_le}
 use Rattle.std.specs.declared.option.Option.{Option}
 use Rattle.std.specs.declared.option.Option.TheVariants.{None, Some}
-use Rattle.pipe_model.specs.Columns.{node_at, nodes_at}
-use Rattle.pipe_model.specs.Dag.{IsLastUpTo}
-use Rattle.pipe_model.specs.LeftParent.{last_up_to, before_rest, joined_by, joined, joined_at}
+use Rattle.pipe_model.specs.Races.Columns.{node_at, nodes_at}
+use Rattle.pipe_model.specs.Races.Dag.{IsLastUpTo}
+use Rattle.pipe_model.specs.Orders.LeftParent.{last_up_to, before_rest, joined_by, joined, joined_at}
 use Rattle.run_laws.proofs.ListOrders.Reach.{reach}
 use Rattle.pipe_model.specs.declared.node.Kind.{Kind}
 use Rattle.pipe_model.specs.declared.node.Kind.TheVariants.{Zero, Continue, Wait}

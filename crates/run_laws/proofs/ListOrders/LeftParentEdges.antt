@@ -3,9 +3,9 @@ use Rattle.std.proofs.Common.{List, ℕ, length, suc, ◌+◌, ◌<◌, ◌≡�
 use Rattle.std.proofs.lemmas.Bool.{cases_lt, lt-ltb}
 use Rattle.std.specs.declared.option.Option.{Option}
 use Rattle.std.specs.declared.option.Option.TheVariants.{None, Some}
-use Rattle.pipe_model.specs.Columns.{AreColumns, nodes_at, node_at, at}
-use Rattle.pipe_model.specs.Dag.{CrossEdge, WaitCross, Precedes, HeadCross, IsLastUpTo}
-use Rattle.pipe_model.specs.LeftParent.{last_up_to, joined_by, joined_at, left_parent}
+use Rattle.pipe_model.specs.Races.Columns.{AreColumns, nodes_at, node_at, at}
+use Rattle.pipe_model.specs.Races.Dag.{CrossEdge, WaitCross, Precedes, HeadCross, IsLastUpTo}
+use Rattle.pipe_model.specs.Orders.LeftParent.{last_up_to, joined_by, joined_at, left_parent}
 use Rattle.run_laws.proofs.ListOrders.Reach.{reach}
 use Rattle.pipe_model.specs.declared.node.Kind.{Kind}
 use Rattle.pipe_model.specs.declared.node.Kind.TheVariants.{Zero, Continue, Wait}

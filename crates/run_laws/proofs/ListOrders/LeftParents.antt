@@ -3,9 +3,9 @@ use Rattle.std.proofs.Common.{List, ℕ, ◌≡◌, ◌<◌, Bool, ltb, suc, con
 use Rattle.std.proofs.lemmas.Bool.{ltb-true, ltb-false}
 use Rattle.std.specs.declared.option.Option.{Option}
 use Rattle.std.specs.declared.option.Option.TheVariants.{Some, None}
-use Rattle.pipe_model.specs.Columns.{nodes_at}
-use Rattle.pipe_model.specs.LeftParent.{joined_at, left_parent}
-use Rattle.pipe_model.specs.TwoOrders.{right_taken_from, right_first_taken, down_first_taken}
+use Rattle.pipe_model.specs.Races.Columns.{nodes_at}
+use Rattle.pipe_model.specs.Orders.LeftParent.{joined_at, left_parent}
+use Rattle.pipe_model.specs.Orders.TwoOrders.{right_taken_from, right_first_taken, down_first_taken}
 use Rattle.pipe_model.specs.declared.node.Node.{Node}
 use Rattle.run_laws.proofs.ListOrders.JoinedPlaces.{joined_rises}
 

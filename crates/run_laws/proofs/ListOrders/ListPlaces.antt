@@ -2,7 +2,7 @@
 use Rattle.std.proofs.Common.{List, ℕ, true, ◌≡◌, [], ◌∷◌, inl, sym, ◌∙◌, inr, eq-eqb, ne_eqb, arith, ◌+◌, refl, ◌≢◌, ◌≤◌, ◌<◌, ◌*◌, ◌⊎◌}
 use Rattle.std.proofs.Common.{zero, suc, subst}
 use Rattle.std.proofs.lemmas.Bool.{cases_eq, cases_lt}
-use Rattle.pipe_model.specs.OrderList.{has, place, insert_after}
+use Rattle.pipe_model.specs.Orders.OrderList.{has, place, insert_after}
 use Rattle.run_laws.proofs.ListOrders.InsertionLists.{first_list, HasBelow, has_below-insert_after}
 
 -- two elements of a list that stand at one place are one

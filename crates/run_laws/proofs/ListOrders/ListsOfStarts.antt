@@ -2,12 +2,12 @@
 use Rattle.std.proofs.Common.{ℕ, List, length, ◌≡◌, ◌+◌, ◌<◌, ◌*◌, arith, ap, [], ◌∷◌, sym, ◌∙◌, suc, ap₂, ◌≤◌, inl, inr, zero, refl}
 use Rattle.std.proofs.lemmas.Bool.{cases_lt, cases_eq}
 use Rattle.std.specs.declared.option.Option.TheVariants.{None}
-use Rattle.pipe_model.specs.Columns.{AreColumns, at}
-use Rattle.pipe_model.specs.LeftParent.{joined_at, left_parent}
+use Rattle.pipe_model.specs.Races.Columns.{AreColumns, at}
+use Rattle.pipe_model.specs.Orders.LeftParent.{joined_at, left_parent}
 use Rattle.run_laws.proofs.ListOrders.Reach.{reach}
-use Rattle.pipe_model.specs.OrderList.{inserted, insert_after, list_of_log, place}
-use Rattle.pipe_model.specs.Starts.{start_at, AreStarts, start_number}
-use Rattle.pipe_model.specs.TwoOrders.{log_entries, right_first_taken, down_first_taken, down_first_log, right_first_log}
+use Rattle.pipe_model.specs.Orders.OrderList.{inserted, insert_after, list_of_log, place}
+use Rattle.pipe_model.specs.Orders.Starts.{start_at, AreStarts, start_number}
+use Rattle.pipe_model.specs.Orders.TwoOrders.{log_entries, right_first_taken, down_first_taken, down_first_log, right_first_log}
 use Rattle.pipe_model.specs.declared.node.Node.{Node}
 use Rattle.pipe_model.specs.declared.node.NodeId.{NodeId}
 use Rattle.run_laws.proofs.ListOrders.DownChildren.{takes_first_down, takes_head_place, takes_below_place, down_first_empty}

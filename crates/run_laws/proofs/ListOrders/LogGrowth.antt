@@ -3,11 +3,11 @@ use Rattle.std.proofs.Common.{ℕ, List, length, ◌≡◌, ◌+◌, [], ◌∷�
 use Rattle.std.specs.declared.option.Option.{Option}
 use Rattle.std.specs.declared.option.Option.TheVariants.{Some, None}
 use Rattle.std.proofs.lemmas.List.{length_push}
-use Rattle.pipe_model.specs.Columns.{AreColumns, nodes_at, at}
-use Rattle.pipe_model.specs.LeftParent.{left_parent}
-use Rattle.pipe_model.specs.Starts.{AreStarts, start_number, start_at}
-use Rattle.pipe_model.specs.TwoOrders.{log_entries, first_placeholder, down_first_taken, second_placeholder, up_taken, right_taken_from}
-use Rattle.pipe_model.specs.TwoOrders.{right_first_taken, down_first_log, right_first_log}
+use Rattle.pipe_model.specs.Races.Columns.{AreColumns, nodes_at, at}
+use Rattle.pipe_model.specs.Orders.LeftParent.{left_parent}
+use Rattle.pipe_model.specs.Orders.Starts.{AreStarts, start_number, start_at}
+use Rattle.pipe_model.specs.Orders.TwoOrders.{log_entries, first_placeholder, down_first_taken, second_placeholder, up_taken, right_taken_from}
+use Rattle.pipe_model.specs.Orders.TwoOrders.{right_first_taken, down_first_log, right_first_log}
 use Rattle.pipe_model.specs.declared.node.Node.{Node}
 use Rattle.pipe_model.specs.declared.node.NodeId.{NodeId}
 use Rattle.run_laws.proofs.ListOrders.LeftParents.{left_is}

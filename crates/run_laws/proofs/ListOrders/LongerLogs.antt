@@ -1,9 +1,9 @@
 -- A longer log changes the order of no two elements that were there; the logs of a run are logs.
 use Rattle.std.proofs.Common.{ℕ, List, true, ◌≡◌, ◌↔◌, [], ◌∷◌, ◌+◌, arith, length, ◌++◌, ap, suc, ◌∙◌, subst, sym, ◌*◌, ◌<◌}
-use Rattle.pipe_model.specs.OrderList.{IsLog, has, StandsBefore, inserted, insert_after, list_of_log}
-use Rattle.pipe_model.specs.Starts.{start_at, AreStarts, start_number, starts_of}
-use Rattle.pipe_model.specs.State.{own_columns}
-use Rattle.pipe_model.specs.TwoOrders.{log_entries, down_first_taken, right_first_taken}
+use Rattle.pipe_model.specs.Orders.OrderList.{IsLog, has, StandsBefore, inserted, insert_after, list_of_log}
+use Rattle.pipe_model.specs.Orders.Starts.{start_at, AreStarts, start_number, starts_of}
+use Rattle.pipe_model.specs.Runs.State.{own_columns}
+use Rattle.pipe_model.specs.Orders.TwoOrders.{log_entries, down_first_taken, right_first_taken}
 use Rattle.pipe_model.specs.declared.node.Node.{Node}
 use Rattle.pipe_model.specs.declared.node.NodeId.{NodeId}
 use Rattle.run_laws.proofs.ListOrders.InsertionLists.{HasBelow, has_below-insert_after, has_old, order_kept, list_has_below}

@@ -3,9 +3,9 @@ use Rattle.std.proofs.Common.{List, ℕ, Bool, eqb, ◌≡◌, ◌&&◌, length,
 use Rattle.std.proofs.Common.{◌⊎◌, inl, inr, ap₂, length-append, ◌+◌, ◌∙◌, subst, sym}
 use Rattle.std.proofs.lemmas.Bool.{and_from, and_parts, eqb-true, cases_lt}
 use Rattle.std.proofs.lemmas.List.{get_or_append_left, get_or_push}
-use Rattle.pipe_model.specs.Columns.{at, nodes_at}
-use Rattle.pipe_model.specs.Dag.{Edge}
-use Rattle.pipe_model.specs.Starts.{start_number, IsStarted, AreStarts, start_at}
+use Rattle.pipe_model.specs.Races.Columns.{at, nodes_at}
+use Rattle.pipe_model.specs.Races.Dag.{Edge}
+use Rattle.pipe_model.specs.Orders.Starts.{start_number, IsStarted, AreStarts, start_at}
 use Rattle.pipe_model.specs.declared.node.Node.{Node}
 use Rattle.pipe_model.specs.declared.node.NodeId.{NodeId}
 

@@ -3,9 +3,9 @@ use Rattle.std.proofs.Common.{List, ℕ, ◌≤◌, ◌≡◌, ◌<◌, length, 
 use Rattle.std.proofs.lemmas.Bool.{cases_lt}
 use Rattle.std.specs.declared.option.Option.{Option}
 use Rattle.std.specs.declared.option.Option.TheVariants.{None, Some}
-use Rattle.pipe_model.specs.Columns.{node_at, AreColumns, nodes_at, at}
-use Rattle.pipe_model.specs.Dag.{IsLastUpTo, CrossEdge, HeadCross, WaitCross, Edge, DownEdge, AcrossEdge, Precedes, ByEdge, ByPath}
-use Rattle.pipe_model.specs.LeftParent.{joined, joined_by, joined_at, last_up_to}
+use Rattle.pipe_model.specs.Races.Columns.{node_at, AreColumns, nodes_at, at}
+use Rattle.pipe_model.specs.Races.Dag.{IsLastUpTo, CrossEdge, HeadCross, WaitCross, Edge, DownEdge, AcrossEdge, Precedes, ByEdge, ByPath}
+use Rattle.pipe_model.specs.Orders.LeftParent.{joined, joined_by, joined_at, last_up_to}
 use Rattle.run_laws.proofs.ListOrders.Reach.{reach}
 use Rattle.pipe_model.specs.declared.node.Kind.{Kind}
 use Rattle.pipe_model.specs.declared.node.Kind.TheVariants.{Zero, Wait, Continue}

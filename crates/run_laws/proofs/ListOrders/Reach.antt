@@ -1,7 +1,7 @@
 -- How far the columns to the left precede an instance.
 use Rattle.std.proofs.Common.{ℕ, zero, suc, List, if◌then◌else◌, nat_le}
 use Rattle.pipe_model.specs.declared.node.Node.{Node}
-use Rattle.pipe_model.specs.LeftParent.{joined_at}
+use Rattle.pipe_model.specs.Orders.LeftParent.{joined_at}
 
 -- the last place of column a that precedes place k of column i, where a is left of i; k itself where a is i
 abbrev pub reach : List (List Node) → ℕ → ℕ → ℕ → ℕ

@@ -1,10 +1,10 @@
 -- The two orders of a run.
 use Rattle.std.proofs.Common.{ap₂, List, ◌≡◌, [], ◌∷◌, ◌++◌, append-nil, ◌∙◌, ap, sym, length, refl}
-use Rattle.pipe_model.specs.Behaviour.{Accessed, Staged, Ended}
-use Rattle.pipe_model.specs.Columns.{at, nodes_at}
-use Rattle.pipe_model.specs.Starts.{starts_of, started_by, start_number, AreStarts}
-use Rattle.pipe_model.specs.State.{own_columns, State, next_state, Running, Pending, Completed}
-use Rattle.pipe_model.specs.TwoOrders.{down_first_log, log_entries, down_first_taken, right_first_log, right_first_taken}
+use Rattle.pipe_model.specs.Pipelines.Behaviour.{Accessed, Staged, Ended}
+use Rattle.pipe_model.specs.Races.Columns.{at, nodes_at}
+use Rattle.pipe_model.specs.Orders.Starts.{starts_of, started_by, start_number, AreStarts}
+use Rattle.pipe_model.specs.Runs.State.{own_columns, State, next_state, Running, Pending, Completed}
+use Rattle.pipe_model.specs.Orders.TwoOrders.{down_first_log, log_entries, down_first_taken, right_first_log, right_first_taken}
 use Rattle.pipe_model.specs.declared.event.Event.{Event}
 use Rattle.pipe_model.specs.declared.event.Event.TheVariants.{Begin, Enter, Access, Advance, Finish, Stop}
 use Rattle.pipe_model.specs.declared.node.NodeId.{NodeId}

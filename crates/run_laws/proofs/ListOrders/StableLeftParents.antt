@@ -6,8 +6,8 @@ use Rattle.std.proofs.lemmas.Int.{ints}
 use Rattle.std.specs.Prelude.{int_le}
 use Rattle.std.specs.declared.option.Option.{Option}
 use Rattle.std.specs.declared.option.Option.TheVariants.{None, Some}
-use Rattle.pipe_model.specs.Columns.{node_at, nodes_at}
-use Rattle.pipe_model.specs.LeftParent.{last_up_to, before_rest, joined_by, place_or, joined, joined_at, left_parent}
+use Rattle.pipe_model.specs.Races.Columns.{node_at, nodes_at}
+use Rattle.pipe_model.specs.Orders.LeftParent.{last_up_to, before_rest, joined_by, later_place, joined, joined_at, left_parent}
 use Rattle.pipe_model.specs.declared.node.Kind.{Kind}
 use Rattle.pipe_model.specs.declared.node.Kind.TheVariants.{Wait, Zero, Continue}
 use Rattle.pipe_model.specs.declared.node.Node.{Node}
@@ -28,7 +28,7 @@ joined_by_same : (kind : Kind) (k k' : ℕ) (f f' : Option ℕ) → k ≡ k' →
     → joined_by kind k f ≡ joined_by kind k' f'
 joined_by_same Zero k k' f f' e h = e
 joined_by_same Continue k k' f f' e h = e
-joined_by_same Wait k k' f f' e h = ap₂ place_or e (h refl)
+joined_by_same Wait k k' f f' e h = ap₂ later_place e (h refl)
 
 -- columns that agree up to a place have its joined place
 pub joined_same_lists : (left left' right right' : List Node) (k : ℕ)
@@ -68,11 +68,11 @@ module _ (columns columns' : List (List Node)) (nodes : (a q : ℕ) → q < leng
 
 -- left_wait, by the joined place
 left_wait_by : (x j : ℕ)
-    → cond (ltb x (place_or x (Some j))) (Some (place_or x (Some j))) None ≡ cond (ltb x j) (Some j) None
+    → cond (ltb x (later_place x (Some j))) (Some (later_place x (Some j))) None ≡ cond (ltb x j) (Some j) None
 left_wait_by x j = elim (cases_lt x j) [
-  | inl less ↦ (let m : place_or x (Some j) ≡ j = omega arith in ap (λ y. cond (ltb x y) (Some y) None) m)
+  | inl less ↦ (let m : later_place x (Some j) ≡ j = omega arith in ap (λ y. cond (ltb x y) (Some y) None) m)
   | inr ge ↦ (
-      let m : place_or x (Some j) ≡ x = omega arith in
+      let m : later_place x (Some j) ≡ x = omega arith in
       ap (λ y. cond (ltb x y) (Some y) None) m
       ∙ (ap (λ b. cond b (Some x) None) (le-ltb x x (omega arith))
       ∙ ap (λ b. cond b (Some j) None) (sym (le-ltb x j ge))))
@@ -83,7 +83,7 @@ pub left_wait : (columns : List (List Node)) (a k j : ℕ) → (node_at (nodes_a
     → last_up_to (nodes_at columns a) (node_at (nodes_at columns (a + 1)) (suc k)).number ≡ Some j
     → left_parent columns (suc a) (suc k) ≡ cond (ltb (joined_at columns a k) j) (Some j) None
 left_wait columns a k j w f =
-    let e : joined_at columns a (suc k) ≡ place_or (joined_at columns a k) (Some j) =
+    let e : joined_at columns a (suc k) ≡ later_place (joined_at columns a k) (Some j) =
     ap₂ (λ kind found. joined_by kind (joined_at columns a k) found) w f in
     ap (λ y. cond (ltb (joined_at columns a k) y) (Some y) None) e ∙ left_wait_by (joined_at columns a k) j
 

@@ -2,11 +2,11 @@
 use Rattle.std.proofs.Common.{List, ℕ, eqb, false, length, ◌≡◌, ◌<◌, ◌∷◌, ◌&&◌, suc, arith, [], inl, true, eq-eqb, ap₂, inr, ne_eqb, ap}
 use Rattle.std.proofs.Common.{sym, ◌∙◌, ◌≤◌, ◌+◌, ◌*◌, refl}
 use Rattle.std.proofs.lemmas.Bool.{cases_eq, and_from, and_right, and_left, cases_lt}
-use Rattle.pipe_model.specs.Columns.{at, AreColumns}
-use Rattle.pipe_model.specs.Dag.{Precedes, ByEdge, ByPath}
-use Rattle.pipe_model.specs.LeftParent.{joined_at}
-use Rattle.pipe_model.specs.Starts.{start_number, start_at, AreStarts, IsStarted}
-use Rattle.pipe_model.specs.TwoOrders.{right_first_taken, down_first_taken}
+use Rattle.pipe_model.specs.Races.Columns.{at, AreColumns}
+use Rattle.pipe_model.specs.Races.Dag.{Precedes, ByEdge, ByPath}
+use Rattle.pipe_model.specs.Orders.LeftParent.{joined_at}
+use Rattle.pipe_model.specs.Orders.Starts.{start_number, start_at, AreStarts, IsStarted}
+use Rattle.pipe_model.specs.Orders.TwoOrders.{right_first_taken, down_first_taken}
 use Rattle.pipe_model.specs.declared.node.Node.{Node}
 use Rattle.pipe_model.specs.declared.node.NodeId.{NodeId}
 use Rattle.run_laws.proofs.ListOrders.JoinedPlaces.{reach_left, reach_here}

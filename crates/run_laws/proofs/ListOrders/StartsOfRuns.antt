@@ -3,15 +3,15 @@ use Rattle.std.proofs.Common.{List, ℕ, Some, ◌≡◌, length, ◌<◌, arith
 use Rattle.std.proofs.Common.{append-nil, append_assoc}
 use Rattle.std.proofs.lemmas.Bool.{cases_lt}
 use Rattle.std.proofs.lemmas.List.{length-map, length_push}
-use Rattle.pipe_model.specs.Allowed.{MayBegin, MayEnter, ControlAllows}
-use Rattle.pipe_model.specs.Behaviour.{node_of, Action, Accessed, Staged, Ended}
-use Rattle.pipe_model.specs.Columns.{node_at, nodes_at, AreColumns, at}
-use Rattle.pipe_model.specs.LeftParent.{left_parent}
-use Rattle.pipe_model.specs.Pipeline.{Pipeline}
-use Rattle.pipe_model.specs.Run.{state_from, Run, EmptyRun, RunThen}
-use Rattle.pipe_model.specs.Starts.{start_number, AreStarts, started_by, starts_from, starts_of}
-use Rattle.pipe_model.specs.State.{Frame, frame_at, State, next_state, fresh_frame, own_columns, enter_pending, update_frame, Status}
-use Rattle.pipe_model.specs.State.{with_action, Running, Pending, Completed, initial_state}
+use Rattle.pipe_model.specs.Runs.Allowed.{MayBegin, MayEnter, ControlAllows}
+use Rattle.pipe_model.specs.Pipelines.Behaviour.{node_of, Action, Accessed, Staged, Ended}
+use Rattle.pipe_model.specs.Races.Columns.{node_at, nodes_at, AreColumns, at}
+use Rattle.pipe_model.specs.Orders.LeftParent.{left_parent}
+use Rattle.pipe_model.specs.Pipelines.Pipeline.{Pipeline}
+use Rattle.pipe_model.specs.Runs.Run.{state_from, Run, EmptyRun, RunThen}
+use Rattle.pipe_model.specs.Orders.Starts.{start_number, AreStarts, started_by, starts_from, starts_of}
+use Rattle.pipe_model.specs.Runs.State.{Frame, frame_at, State, next_state, fresh_frame, own_columns, enter_pending, update_frame, Status}
+use Rattle.pipe_model.specs.Runs.State.{with_action, Running, Pending, Completed, initial_state}
 use Rattle.pipe_model.specs.declared.event.Event.{Event}
 use Rattle.pipe_model.specs.declared.event.Event.TheVariants.{Begin, Enter, Access, Advance, Finish, Stop}
 use Rattle.pipe_model.specs.declared.node.Kind.TheVariants.{Zero}
@@ -24,7 +24,7 @@ use Rattle.run_laws.proofs.RunStates.FrameMoves.{moves_entered, sound_moved, fra
 use Rattle.run_laws.proofs.RunStates.Frames.{frame_at_exists, nodes_at_frame, nodes_at_past, frame_at_last, length-update_frame, frame_at_within}
 use Rattle.run_laws.proofs.RunStates.FrontAndBack.{run_state_is}
 use Rattle.run_laws.proofs.RunStates.GrowingColumns.{nodes_at_begun, extends_begun, nodes_at_moved, nodes_at_other, extends_moved}
-use Rattle.run_laws.proofs.RunStates.LaterEdges.{columns_of_frames, Extends}
+use Rattle.run_laws.proofs.RunStates.LaterEdges.{columns_of_frames, ExtendsColumns}
 use Rattle.run_laws.proofs.RunStates.GrowingColumns.{columns-action}
 
 -- what holds of the frames of a run and its starts
@@ -63,7 +63,7 @@ pub record Grew (fs fs' : List Frame) (starts : List NodeId) (x : NodeId) : Type
 -- a column with one instance more grows the starts so
 grew : (fs fs' : List Frame) (starts : List NodeId) (i : ℕ) (new : Node) → IsStartSound fs starts
     → AddsNode (columns_of_frames fs) (columns_of_frames fs') i new
-    → Extends (columns_of_frames fs) (columns_of_frames fs') → IsSound fs'
+    → ExtendsColumns (columns_of_frames fs) (columns_of_frames fs') → IsSound fs'
     → ((j : ℕ) (f : Frame) → frame_at fs' j ≡ Some f → (node_at f.nodes 0).kind ≡ Zero)
     → Grew fs fs' starts (at i (length (nodes_at (columns_of_frames fs) i)))
 grew fs fs' starts i new h a x sound heads = record {

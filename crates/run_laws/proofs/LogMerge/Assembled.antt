@@ -1,12 +1,12 @@
 -- What is asked of a list of events so that it is a run, part by part.
 use Rattle.std.specs.Prelude.{ℕ, List, false, ◌≡◌, ◌∷◌, ◌++◌}
-use Rattle.pipe_model.specs.Allowed.{IsRunning}
-use Rattle.pipe_model.specs.Behaviour.{Performs}
-use Rattle.pipe_model.specs.ControlRun.{ControlRun}
+use Rattle.pipe_model.specs.Runs.Allowed.{IsRunning}
+use Rattle.pipe_model.specs.Pipelines.Behaviour.{Performs}
+use Rattle.pipe_model.specs.Runs.ControlRun.{ControlRun}
 use Rattle.run_laws.proofs.LogMerge.EventParts.{control_events, actions_at, accesses_among}
-use Rattle.pipe_model.specs.Pipeline.{Pipeline}
-use Rattle.pipe_model.specs.State.{State}
-use Rattle.pipe_model.specs.Store.{HasReply}
+use Rattle.pipe_model.specs.Pipelines.Pipeline.{Pipeline}
+use Rattle.pipe_model.specs.Runs.State.{State}
+use Rattle.pipe_model.specs.Pipelines.Store.{HasReply}
 use Rattle.pipe_model.specs.declared.access.Access.{Access as Cell_access}
 use Rattle.pipe_model.specs.declared.event.Event.{Event}
 use Rattle.pipe_model.specs.declared.event.Event.TheVariants.{Access}

@@ -1,13 +1,13 @@
 -- Events of which the control part, the programs and the replies are each right are a run.
 use Rattle.std.proofs.Common.{ℕ, List, ◌≡◌, ◌∷◌, ◌++◌, subst, sym, false, ap, ◌∙◌, [], append-nil, append_assoc, refl, map, true}
-use Rattle.pipe_model.specs.Allowed.{OffersAt, ProgramAllows, ControlAllows, Allowed, IsRunning, ClosesLoop}
-use Rattle.pipe_model.specs.Behaviour.{Action, Performs, Offers, behaviour_after_all, Staged, Ended, Accessed}
-use Rattle.pipe_model.specs.ControlRun.{ControlRun, is_access, ControlRunThen, EmptyControlRun}
+use Rattle.pipe_model.specs.Runs.Allowed.{OffersAt, ProgramAllows, ControlAllows, Allowed, IsRunning, ClosesLoop}
+use Rattle.pipe_model.specs.Pipelines.Behaviour.{Action, Performs, Offers, behaviour_after_all, Staged, Ended, Accessed}
+use Rattle.pipe_model.specs.Runs.ControlRun.{ControlRun, is_access, ControlRunThen, EmptyControlRun}
 use Rattle.run_laws.proofs.LogMerge.EventParts.{control_events, actions_at}
-use Rattle.pipe_model.specs.Pipeline.{Pipeline}
-use Rattle.pipe_model.specs.Run.{Run, RunThen, IsFinished, EmptyRun}
-use Rattle.pipe_model.specs.State.{State, next_state, Frame, own_columns, is_completed, initial_state}
-use Rattle.pipe_model.specs.Store.{HasReply}
+use Rattle.pipe_model.specs.Pipelines.Pipeline.{Pipeline}
+use Rattle.pipe_model.specs.Runs.Run.{Run, RunThen, IsFinished, EmptyRun}
+use Rattle.pipe_model.specs.Runs.State.{State, next_state, Frame, own_columns, is_completed, initial_state}
+use Rattle.pipe_model.specs.Pipelines.Store.{HasReply}
 use Rattle.pipe_model.specs.declared.access.Access.{Access as Cell_access}
 use Rattle.pipe_model.specs.declared.event.Event.{Event}
 use Rattle.pipe_model.specs.declared.event.Event.TheVariants.{Begin, Access, Advance, Enter, Finish, Stop}

@@ -1,11 +1,11 @@
 -- The logs of a closed run fit together.
 use Rattle.std.proofs.Common.{ℕ, ◌≡◌, List, [], ◌∷◌, inl, subst, inr, sym, ap, length, ◌∙◌, arith, ◌+◌, ◌%◌}
 use Rattle.std.proofs.lemmas.List.{length-map}
-use Rattle.pipe_model.specs.Behaviour.{Staged, Ended, Accessed}
-use Rattle.pipe_model.specs.Pipeline.{Pipeline}
-use Rattle.pipe_model.specs.Races.{Among, Here, Later}
-use Rattle.pipe_model.specs.State.{State, frame_at}
-use Rattle.pipe_model.specs.TicketLogs.{TimedAction, BookEntry, end_action, end_actions, ShardEntry, ClosedLogs, laid_traces, start_tickets}
+use Rattle.pipe_model.specs.Pipelines.Behaviour.{Staged, Ended, Accessed}
+use Rattle.pipe_model.specs.Pipelines.Pipeline.{Pipeline}
+use Rattle.pipe_model.specs.Races.DeterminacyRaces.{Among, Here, Later}
+use Rattle.pipe_model.specs.Runs.State.{State, frame_at}
+use Rattle.pipe_model.specs.Runs.TicketLogs.{TimedAction, BookEntry, end_action, end_actions, ShardEntry, ClosedLogs, laid_traces, start_tickets}
 use Rattle.pipe_model.specs.declared.event.Event.TheVariants.{Advance, Finish}
 use Rattle.run_laws.proofs.LogMerge.FittingLogs.{IsActionOf, StagedIn, EndedIn, AccessedIn, IsTrace}
 use Rattle.run_laws.proofs.LogMerge.InstanceCounts.{control_counts, one_open, start_tickets_counted, end_tickets_counted}

@@ -1,12 +1,12 @@
 -- The control part goes by the instances and the status of each iteration, and not by its trace.
 use Rattle.std.proofs.Common.{[], List, map, ℕ, Some, ◌≡◌, ◌∷◌, zero, refl, ap, ◌∙◌, suc, length, sym, ◌+◌, ℤ, subst, arith, ◌-◌, ◌<ℤ◌, false, ◌++◌}
 use Rattle.std.proofs.lemmas.List.{length-map, map-append}
-use Rattle.pipe_model.specs.Allowed.{IsRunning, LeftHasPassed, HasPassed, ControlAllows, ContinuesLoop}
-use Rattle.pipe_model.specs.Behaviour.{Staged, Ended, Accessed}
-use Rattle.pipe_model.specs.Columns.{node_at}
-use Rattle.pipe_model.specs.ControlRun.{is_access}
-use Rattle.pipe_model.specs.State.{Frame, frame_at, alive_in, alive_one, update_frame, Status, enter_pending, Running, Pending, Completed}
-use Rattle.pipe_model.specs.State.{State, next_state, fresh_frame, with_action}
+use Rattle.pipe_model.specs.Runs.Allowed.{IsRunning, LeftHasPassed, HasPassed, ControlAllows, ContinuesLoop}
+use Rattle.pipe_model.specs.Pipelines.Behaviour.{Staged, Ended, Accessed}
+use Rattle.pipe_model.specs.Races.Columns.{node_at}
+use Rattle.pipe_model.specs.Runs.ControlRun.{is_access}
+use Rattle.pipe_model.specs.Runs.State.{Frame, frame_at, alive_in, alive_one, update_frame, Status, enter_pending, Running, Pending, Completed}
+use Rattle.pipe_model.specs.Runs.State.{State, next_state, fresh_frame, with_action}
 use Rattle.pipe_model.specs.declared.access.Access.{Access as Cell_access}
 use Rattle.pipe_model.specs.declared.event.Event.{Event}
 use Rattle.pipe_model.specs.declared.event.Event.TheVariants.{Begin, Access, Advance, Enter, Finish, Stop}

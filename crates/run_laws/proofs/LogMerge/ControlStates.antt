@@ -1,10 +1,10 @@
 -- The states of a control run.
 use Rattle.std.proofs.Common.{ℕ, List, ◌≡◌, refl, ap, sym, ◌∙◌, false, [], ◌∷◌, ◌++◌, subst, append_assoc}
 use Rattle.std.proofs.lemmas.List.{same_from_push}
-use Rattle.pipe_model.specs.Allowed.{ControlAllows}
-use Rattle.pipe_model.specs.ControlRun.{ControlRun, EmptyControlRun, ControlRunThen, is_access}
-use Rattle.pipe_model.specs.Run.{state_from}
-use Rattle.pipe_model.specs.State.{State, initial_state, next_state}
+use Rattle.pipe_model.specs.Runs.Allowed.{ControlAllows}
+use Rattle.pipe_model.specs.Runs.ControlRun.{ControlRun, EmptyControlRun, ControlRunThen, is_access}
+use Rattle.pipe_model.specs.Runs.Run.{state_from}
+use Rattle.pipe_model.specs.Runs.State.{State, initial_state, next_state}
 use Rattle.pipe_model.specs.declared.event.Event.{Event}
 use Rattle.run_laws.proofs.RunStates.FrontAndBack.{state_from-push}
 

@@ -2,8 +2,8 @@
 use Rattle.std.proofs.Common.{ℕ}
 use Rattle.pipe_model.specs.declared.access.Access.{Access as Cell_access}
 use Rattle.pipe_model.specs.declared.event.Event.{Event}
-use Rattle.pipe_model.specs.Behaviour.{Action}
-use Rattle.pipe_model.specs.TicketLogs.{BookEntry, ShardEntry, TimedAction}
+use Rattle.pipe_model.specs.Pipelines.Behaviour.{Action}
+use Rattle.pipe_model.specs.Runs.TicketLogs.{BookEntry, ShardEntry, TimedAction}
 
 -- an action with this ticket
 abbrev pub timed : ℕ → Action → TimedAction

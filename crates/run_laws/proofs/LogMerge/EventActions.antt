@@ -3,13 +3,13 @@ use Rattle.std.proofs.Common.{Bool, List, ◌≡◌, ◌++◌, true, refl, false
 use Rattle.std.proofs.Common.{sym, subst, inr, append-nil}
 use Rattle.std.proofs.lemmas.Bool.{cases_eq, eq-eqb, ne_eqb}
 use Rattle.std.proofs.lemmas.List.{map-append}
-use Rattle.pipe_model.specs.Allowed.{Allowed}
-use Rattle.pipe_model.specs.Behaviour.{Action, Accessed, Staged, Ended}
+use Rattle.pipe_model.specs.Runs.Allowed.{Allowed}
+use Rattle.pipe_model.specs.Pipelines.Behaviour.{Action, Accessed, Staged, Ended}
 use Rattle.run_laws.proofs.LogMerge.EventParts.{if_same, actions_at, accesses_among, control_events}
-use Rattle.pipe_model.specs.Pipeline.{Pipeline}
-use Rattle.pipe_model.specs.Run.{Run, EmptyRun, RunThen}
-use Rattle.pipe_model.specs.State.{Frame, trace_in, frame_at, fresh_frame, update_frame, with_action, enter_pending, Running, Pending}
-use Rattle.pipe_model.specs.State.{Completed, State, next_state, accesses_of}
+use Rattle.pipe_model.specs.Pipelines.Pipeline.{Pipeline}
+use Rattle.pipe_model.specs.Runs.Run.{Run, EmptyRun, RunThen}
+use Rattle.pipe_model.specs.Runs.State.{Frame, trace_in, frame_at, fresh_frame, update_frame, with_action, enter_pending, Running, Pending}
+use Rattle.pipe_model.specs.Runs.State.{Completed, State, next_state, accesses_of}
 use Rattle.pipe_model.specs.declared.access.NodeAccess.{NodeAccess}
 use Rattle.pipe_model.specs.declared.event.Event.{Event}
 use Rattle.pipe_model.specs.declared.event.Event.TheVariants.{Begin, Enter, Stop, Access, Advance, Finish}

@@ -1,20 +1,20 @@
 -- Logs of which a merge by tickets is a run.
 use Rattle.std.specs.Prelude.{List, ℕ, Some, ◌≡◌, ◌<◌, ℤ, map, ◌%◌, ◌∷◌, ◌++◌}
-use Rattle.pipe_model.specs.Behaviour.{Staged, Ended, Accessed, Performs}
-use Rattle.pipe_model.specs.ControlRun.{ControlRun}
-use Rattle.pipe_model.specs.Pipeline.{Pipeline}
-use Rattle.pipe_model.specs.Races.{Among}
-use Rattle.pipe_model.specs.State.{State}
-use Rattle.pipe_model.specs.Store.{HasReply}
-use Rattle.pipe_model.specs.TicketLogs.{BookEntry, ShardEntry, ticket_at, start_tickets, end_tickets, TimedAction, TicketsRise, LogEntry}
-use Rattle.pipe_model.specs.TicketLogs.{IsMerge, event_of}
+use Rattle.pipe_model.specs.Pipelines.Behaviour.{Staged, Ended, Accessed, Performs}
+use Rattle.pipe_model.specs.Runs.ControlRun.{ControlRun}
+use Rattle.pipe_model.specs.Pipelines.Pipeline.{Pipeline}
+use Rattle.pipe_model.specs.Races.DeterminacyRaces.{Among}
+use Rattle.pipe_model.specs.Runs.State.{State}
+use Rattle.pipe_model.specs.Pipelines.Store.{HasReply}
+use Rattle.pipe_model.specs.Runs.TicketLogs.{BookEntry, ShardEntry, ticket_at, start_tickets, end_tickets, TimedAction, TicketsRise, LogEntry}
+use Rattle.pipe_model.specs.Runs.TicketLogs.{IsMerge, event_of}
 use Rattle.pipe_model.specs.declared.access.Access.{Access as Cell_access}
 use Rattle.pipe_model.specs.declared.event.Event.TheVariants.{Advance, Finish, Stop}
 use Rattle.run_laws.specs.LogLaws.{MakesRun}
 use Rattle.run_laws.proofs.LogMerge.Entries.{timed, book_entry, shard_entry}
 
 -- an entry of a shard stands after the start of its instance and before its end
-pub record IsWithin (book : List BookEntry) (e : ShardEntry) : Type 0 where
+pub record IsWithinInstance (book : List BookEntry) (e : ShardEntry) : Type 0 where
   pub start : ℕ
   pub started : ticket_at (start_tickets e.node.iteration book) e.node.index ≡ Some start
   pub after : start < e.ticket
@@ -42,7 +42,7 @@ pub record IsTrace (p : Pipeline) (book : List BookEntry)
 pub record FitTogether (p : Pipeline) (limit width : ℕ) (book : List BookEntry)
     (shards : ℕ → List ShardEntry) (c : State) : Type 0 where
   pub control : ControlRun limit (map (λ b. b.event) book) c
-  pub within : (k : ℕ) (e : ShardEntry) → Among e (shards k) → IsWithin book e
+  pub within : (k : ℕ) (e : ShardEntry) → Among e (shards k) → IsWithinInstance book e
   pub cells : (k : ℕ) (e : ShardEntry) → Among e (shards k) → e.access.cell.0 % width ≡ k
   pub stop_last : (t : ℕ) → Among (book_entry t Stop) book → (k : ℕ) (e : ShardEntry)
       → Among e (shards k) → e.ticket < t

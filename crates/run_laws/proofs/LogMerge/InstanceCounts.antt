@@ -3,12 +3,12 @@ use Rattle.std.proofs.Common.{ℕ, List, subst, sym, false, ◌≡◌, Option, N
 use Rattle.std.proofs.Common.{◌*◌, inl, ap, inr, ◌∙◌, ◌≤◌}
 use Rattle.std.proofs.lemmas.Bool.{cases_eq, eq-eqb, ne_eqb, cases_lt}
 use Rattle.std.proofs.lemmas.List.{length-append}
-use Rattle.pipe_model.specs.Allowed.{ControlAllows}
-use Rattle.pipe_model.specs.Behaviour.{Staged, Ended, node_of}
-use Rattle.pipe_model.specs.ControlRun.{ControlRun, EmptyControlRun, ControlRunThen, is_access}
-use Rattle.pipe_model.specs.State.{State, Frame, next_state, Status, Running, Pending, Completed, frame_at, update_frame, fresh_frame}
-use Rattle.pipe_model.specs.State.{with_action, enter_pending}
-use Rattle.pipe_model.specs.TicketLogs.{start_ticket, end_ticket, BookEntry, start_tickets, end_tickets, if_ticket}
+use Rattle.pipe_model.specs.Runs.Allowed.{ControlAllows}
+use Rattle.pipe_model.specs.Pipelines.Behaviour.{Staged, Ended, node_of}
+use Rattle.pipe_model.specs.Runs.ControlRun.{ControlRun, EmptyControlRun, ControlRunThen, is_access}
+use Rattle.pipe_model.specs.Runs.State.{State, Frame, next_state, Status, Running, Pending, Completed, frame_at, update_frame, fresh_frame}
+use Rattle.pipe_model.specs.Runs.State.{with_action, enter_pending}
+use Rattle.pipe_model.specs.Runs.TicketLogs.{start_ticket, end_ticket, BookEntry, start_tickets, end_tickets, if_ticket}
 use Rattle.pipe_model.specs.declared.event.Event.{Event}
 use Rattle.pipe_model.specs.declared.event.Event.TheVariants.{Begin, Access, Advance, Enter, Finish, Stop}
 use Rattle.run_laws.proofs.LogMerge.InstanceTickets.{any_start, any_end, any_ticket}

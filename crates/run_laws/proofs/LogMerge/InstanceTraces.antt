@@ -1,10 +1,10 @@
 -- The traces of the instances of an iteration, one after the other: their tickets rise.
 use Rattle.std.proofs.Common.{Bool, ℕ, List, map, ◌≡◌, ◌++◌, true, ap, ◌∷◌, false, refl, [], ◌==◌, ◌<◌, inl, inr, Some, ◌+◌, arith, suc}
 use Rattle.std.proofs.Common.{subst, length, ◌≤◌, zero, ◌⊎◌}
-use Rattle.pipe_model.specs.Behaviour.{Action, Staged, Ended}
-use Rattle.pipe_model.specs.Races.{Among, Here, Later}
-use Rattle.pipe_model.specs.TicketLogs.{TimedAction, if_end, if_ticket, BookEntry, end_actions, end_tickets, end_action, end_ticket}
-use Rattle.pipe_model.specs.TicketLogs.{TicketsRise, laid_traces, ticket_at, start_tickets, InTicketOrder}
+use Rattle.pipe_model.specs.Pipelines.Behaviour.{Action, Staged, Ended}
+use Rattle.pipe_model.specs.Races.DeterminacyRaces.{Among, Here, Later}
+use Rattle.pipe_model.specs.Runs.TicketLogs.{TimedAction, if_end, if_ticket, BookEntry, end_actions, end_tickets, end_action, end_ticket}
+use Rattle.pipe_model.specs.Runs.TicketLogs.{TicketsRise, laid_traces, ticket_at, start_tickets, InTicketOrder}
 use Rattle.pipe_model.specs.declared.event.Event.{Event}
 use Rattle.pipe_model.specs.declared.event.Event.TheVariants.{Begin, Enter, Access, Advance, Finish, Stop}
 use Rattle.pipe_model.proofs.Members.{among_either, only_one, among_left, among_right, none_among}

@@ -1,13 +1,13 @@
 -- A merge taken apart at one of its accesses.
 use Rattle.std.proofs.Common.{ap₂, ℕ, List, false, ◌≡◌, inl, inr, [], ◌∷◌, refl, map, ap, ◌∙◌, ◌++◌, subst, sym, Bool, true, ◌==◌, ◌%◌}
 use Rattle.std.proofs.lemmas.Bool.{false≢true, eq-eqb, cases_eq, ne_eqb}
-use Rattle.pipe_model.specs.ControlRun.{ControlRun, is_access, EmptyControlRun, ControlRunThen}
+use Rattle.pipe_model.specs.Runs.ControlRun.{ControlRun, is_access, EmptyControlRun, ControlRunThen}
 use Rattle.run_laws.proofs.LogMerge.EventParts.{control_events}
-use Rattle.pipe_model.specs.Pipeline.{Pipeline}
-use Rattle.pipe_model.specs.Races.{Among, Here, Later}
-use Rattle.pipe_model.specs.State.{State}
-use Rattle.pipe_model.specs.TicketLogs.{LogEntry, BookEntry, book_in, event_of, OfBook, OfShard, ShardEntry, if_shard, shard_in, InOrder}
-use Rattle.pipe_model.specs.TicketLogs.{ComesBefore, IsMerge}
+use Rattle.pipe_model.specs.Pipelines.Pipeline.{Pipeline}
+use Rattle.pipe_model.specs.Races.DeterminacyRaces.{Among, Here, Later}
+use Rattle.pipe_model.specs.Runs.State.{State}
+use Rattle.pipe_model.specs.Runs.TicketLogs.{LogEntry, BookEntry, book_in, event_of, OfBook, OfShard, ShardEntry, if_shard, shard_in, InOrder}
+use Rattle.pipe_model.specs.Runs.TicketLogs.{ComesBefore, IsMerge}
 use Rattle.pipe_model.specs.declared.access.Access.{Access as Cell_access}
 use Rattle.pipe_model.specs.declared.event.Event.{Event}
 use Rattle.pipe_model.specs.declared.event.Event.TheVariants.{Begin, Access, Advance, Enter, Finish, Stop}

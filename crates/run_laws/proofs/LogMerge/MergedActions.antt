@@ -1,11 +1,11 @@
 -- The actions of an iteration in a merge are those of its logs.
 use Rattle.std.proofs.Common.{Bool, ℕ, List, true, [], ◌∷◌, false, ◌==◌, ◌++◌, map, ◌≡◌, refl, sym, ap, ◌∙◌, inl, inr, subst}
 use Rattle.std.proofs.lemmas.Bool.{false≢true, eqb-true, eq-eqb}
-use Rattle.pipe_model.specs.Behaviour.{Action, Staged, Ended, Accessed}
-use Rattle.pipe_model.specs.ControlRun.{is_access}
+use Rattle.pipe_model.specs.Pipelines.Behaviour.{Action, Staged, Ended, Accessed}
+use Rattle.pipe_model.specs.Runs.ControlRun.{is_access}
 use Rattle.run_laws.proofs.LogMerge.EventParts.{if_same, actions_at}
-use Rattle.pipe_model.specs.Races.{Among, Here, Later}
-use Rattle.pipe_model.specs.TicketLogs.{if_end, end_action, TimedAction, LogEntry, OfBook, OfShard, BookEntry, book_in, event_of, ShardEntry, IsMerge}
+use Rattle.pipe_model.specs.Races.DeterminacyRaces.{Among, Here, Later}
+use Rattle.pipe_model.specs.Runs.TicketLogs.{if_end, end_action, TimedAction, LogEntry, OfBook, OfShard, BookEntry, book_in, event_of, ShardEntry, IsMerge}
 use Rattle.pipe_model.specs.declared.event.Event.{Event}
 use Rattle.pipe_model.specs.declared.event.Event.TheVariants.{Begin, Access, Advance, Enter, Finish, Stop}
 use Rattle.run_laws.proofs.LogMerge.FittingLogs.{IsActionOf, StagedIn, EndedIn, AccessedIn}

@@ -1,13 +1,13 @@
 -- Each read of a merge has its reply.
 use Rattle.std.proofs.Common.{ℕ, List, false, ◌≡◌, ◌%◌, map, refl, [], ◌∷◌, ◌∙◌, sym, inl, true, ◌==◌, ap, ◌++◌, inr, subst}
 use Rattle.std.proofs.lemmas.Bool.{false≢true, cases_eq, eq-eqb, ne_eqb}
-use Rattle.pipe_model.specs.ControlRun.{is_access}
+use Rattle.pipe_model.specs.Runs.ControlRun.{is_access}
 use Rattle.run_laws.proofs.LogMerge.EventParts.{accesses_among}
-use Rattle.pipe_model.specs.Pipeline.{Pipeline}
-use Rattle.pipe_model.specs.Races.{Among, Here, Later}
-use Rattle.pipe_model.specs.State.{State}
-use Rattle.pipe_model.specs.Store.{written, wrote, HasReply, value_from}
-use Rattle.pipe_model.specs.TicketLogs.{LogEntry, ShardEntry, OfShard, BookEntry, book_in, event_of, shard_in, OfBook, if_shard, IsMerge}
+use Rattle.pipe_model.specs.Pipelines.Pipeline.{Pipeline}
+use Rattle.pipe_model.specs.Races.DeterminacyRaces.{Among, Here, Later}
+use Rattle.pipe_model.specs.Runs.State.{State}
+use Rattle.pipe_model.specs.Pipelines.Store.{written, wrote, HasReply, value_from}
+use Rattle.pipe_model.specs.Runs.TicketLogs.{LogEntry, ShardEntry, OfShard, BookEntry, book_in, event_of, shard_in, OfBook, if_shard, IsMerge}
 use Rattle.pipe_model.specs.declared.access.Access.{Access as Cell_access}
 use Rattle.pipe_model.specs.declared.event.Event.{Event}
 use Rattle.pipe_model.specs.declared.event.Event.TheVariants.{Begin, Access, Advance, Enter, Finish, Stop}

@@ -2,14 +2,14 @@
 use Rattle.std.proofs.Common.{ℕ, ◌<◌, ◌≤◌, refl, Option, ◌≡◌, None, arith, Some, length, List, true, false, [], ◌∷◌, ◌++◌, sym, ◌∙◌}
 use Rattle.std.proofs.Common.{ap, subst, map, inl, inr}
 use Rattle.std.proofs.lemmas.Bool.{false_from_ne_true, false≢true, eq-eqb, cases_lt}
-use Rattle.pipe_model.specs.Allowed.{IsRunning}
-use Rattle.pipe_model.specs.ControlRun.{ControlRun, EmptyControlRun, ControlRunThen, is_access}
+use Rattle.pipe_model.specs.Runs.Allowed.{IsRunning}
+use Rattle.pipe_model.specs.Runs.ControlRun.{ControlRun, EmptyControlRun, ControlRunThen, is_access}
 use Rattle.run_laws.proofs.LogMerge.EventParts.{control_events}
-use Rattle.pipe_model.specs.Pipeline.{Pipeline}
-use Rattle.pipe_model.specs.Races.{Among, Here}
-use Rattle.pipe_model.specs.State.{State, frame_at, Frame, Status, Running, Pending, Completed, next_state}
-use Rattle.pipe_model.specs.TicketLogs.{BookEntry, ShardEntry, LogEntry, IsMerge, book_in, OfShard, InOrder, shard_in, if_shard, OfBook}
-use Rattle.pipe_model.specs.TicketLogs.{start_tickets, end_tickets, ticket_at}
+use Rattle.pipe_model.specs.Pipelines.Pipeline.{Pipeline}
+use Rattle.pipe_model.specs.Races.DeterminacyRaces.{Among, Here}
+use Rattle.pipe_model.specs.Runs.State.{State, frame_at, Frame, Status, Running, Pending, Completed, next_state}
+use Rattle.pipe_model.specs.Runs.TicketLogs.{BookEntry, ShardEntry, LogEntry, IsMerge, book_in, OfShard, InOrder, shard_in, if_shard, OfBook}
+use Rattle.pipe_model.specs.Runs.TicketLogs.{start_tickets, end_tickets, ticket_at}
 use Rattle.pipe_model.specs.declared.access.Access.{Access as Cell_access}
 use Rattle.pipe_model.specs.declared.event.Event.{Event}
 use Rattle.pipe_model.specs.declared.event.Event.TheVariants.{Stop, Begin, Access, Advance, Enter, Finish}

@@ -1,14 +1,14 @@
 -- The actions of an iteration in a merge rise, so they are its trace.
 use Rattle.std.proofs.Common.{List, ◌≡◌, [], ◌∷◌, inl, sym, ◌∙◌, inr, ap, arith, refl, ℕ, ◌==◌, ◌<◌, ◌%◌, Bool, ◌++◌, true, false, subst, map}
-use Rattle.pipe_model.specs.Behaviour.{Staged, Ended, Accessed, Action, Performs}
-use Rattle.pipe_model.specs.ControlRun.{is_access}
+use Rattle.pipe_model.specs.Pipelines.Behaviour.{Staged, Ended, Accessed, Action, Performs}
+use Rattle.pipe_model.specs.Runs.ControlRun.{is_access}
 use Rattle.run_laws.proofs.LogMerge.EventParts.{actions_at}
-use Rattle.pipe_model.specs.Pipeline.{Pipeline}
-use Rattle.pipe_model.specs.Races.{Among, Here, Later}
-use Rattle.pipe_model.specs.State.{State}
-use Rattle.pipe_model.specs.TicketLogs.{if_end, end_action, TimedAction, TicketsRise, LogEntry, ticket_of, OfBook, OfShard, rank_of}
-use Rattle.pipe_model.specs.TicketLogs.{ShardEntry, InOrder}
-use Rattle.pipe_model.specs.TicketLogs.{BookEntry, IsMerge, book_in, event_of}
+use Rattle.pipe_model.specs.Pipelines.Pipeline.{Pipeline}
+use Rattle.pipe_model.specs.Races.DeterminacyRaces.{Among, Here, Later}
+use Rattle.pipe_model.specs.Runs.State.{State}
+use Rattle.pipe_model.specs.Runs.TicketLogs.{if_end, end_action, TimedAction, TicketsRise, LogEntry, ticket_of, OfBook, OfShard, rank_of}
+use Rattle.pipe_model.specs.Runs.TicketLogs.{ShardEntry, InOrder}
+use Rattle.pipe_model.specs.Runs.TicketLogs.{BookEntry, IsMerge, book_in, event_of}
 use Rattle.pipe_model.specs.declared.access.Access.{Access as Cell_access}
 use Rattle.pipe_model.specs.declared.event.Event.{Event}
 use Rattle.pipe_model.specs.declared.event.Event.TheVariants.{Begin, Access, Advance, Enter, Finish, Stop}

@@ -4,16 +4,16 @@ use Rattle.std.proofs.Common.{refl, ◌∙◌, Bool, true, false, append-nil}
 use Rattle.std.proofs.lemmas.Bool.{cases_lt}
 use Rattle.std.proofs.lemmas.List.{get_or_append_left, get_or_push}
 use Rattle.std.specs.declared.option.Option.TheVariants.{Some}
-use Rattle.pipe_model.specs.CellRaces.{NotedAccess, access_at, noted_access, accesses_to}
-use Rattle.pipe_model.specs.Allowed.{ControlAllows}
-use Rattle.pipe_model.specs.Behaviour.{Action, Accessed, Staged, Ended}
-use Rattle.pipe_model.specs.Columns.{at}
-use Rattle.pipe_model.specs.Dag.{Precedes, ByEdge, ByPath}
-use Rattle.pipe_model.specs.Pipeline.{Pipeline}
-use Rattle.pipe_model.specs.Run.{Run, EmptyRun, RunThen}
-use Rattle.pipe_model.specs.Starts.{IsStarted, AreStarts, started_by, starts_of}
-use Rattle.pipe_model.specs.State.{Frame, frame_at, Running, State, Status, own_columns, update_frame, with_action, next_state}
-use Rattle.pipe_model.specs.State.{current_index, Pending, Completed}
+use Rattle.pipe_model.specs.Races.CellRaces.{NotedAccess, access_at, noted_access, accesses_to}
+use Rattle.pipe_model.specs.Runs.Allowed.{ControlAllows}
+use Rattle.pipe_model.specs.Pipelines.Behaviour.{Action, Accessed, Staged, Ended}
+use Rattle.pipe_model.specs.Races.Columns.{at}
+use Rattle.pipe_model.specs.Races.Dag.{Precedes, ByEdge, ByPath}
+use Rattle.pipe_model.specs.Pipelines.Pipeline.{Pipeline}
+use Rattle.pipe_model.specs.Runs.Run.{Run, EmptyRun, RunThen}
+use Rattle.pipe_model.specs.Orders.Starts.{IsStarted, AreStarts, started_by, starts_of}
+use Rattle.pipe_model.specs.Runs.State.{Frame, frame_at, Running, State, Status, own_columns, update_frame, with_action, next_state}
+use Rattle.pipe_model.specs.Runs.State.{current_index, Pending, Completed}
 use Rattle.pipe_model.specs.declared.access.AccessKind.{AccessKind}
 use Rattle.pipe_model.specs.declared.access.AccessKind.TheVariants.{Read}
 use Rattle.pipe_model.specs.declared.access.NodeAccess.{NodeAccess}

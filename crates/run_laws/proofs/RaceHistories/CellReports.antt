@@ -4,25 +4,25 @@ use Rattle.std.proofs.Common.{subst, inl, inr}
 use Rattle.std.proofs.lemmas.Bool.{cases_eq}
 use Rattle.std.specs.declared.option.Option.{Option}
 use Rattle.std.specs.declared.option.Option.TheVariants.{None, Some}
-use Rattle.pipe_model.specs.AccessHistory.{FirstRace}
-use Rattle.pipe_model.specs.CellRaces.{NotedAccess, access_at, accesses_to, KindsConflict}
-use Rattle.pipe_model.specs.Dag.{AreParallel}
-use Rattle.pipe_model.specs.HistoryRaces.{IsFirstRaceOf, IsRightVerdict, first_race_of}
-use Rattle.pipe_model.specs.HistoryReports.{report_found, reports_below}
-use Rattle.pipe_model.specs.Races.{Among, Here, Later}
-use Rattle.pipe_model.specs.Reports.{NamesRace, number_at, report_of}
-use Rattle.pipe_model.specs.Starts.{starts_of}
-use Rattle.pipe_model.specs.State.{State, own_columns}
+use Rattle.pipe_model.specs.Orders.AccessHistory.{FoundRace}
+use Rattle.pipe_model.specs.Races.CellRaces.{NotedAccess, access_at, accesses_to, KindsConflict}
+use Rattle.pipe_model.specs.Races.Dag.{AreParallel}
+use Rattle.pipe_model.specs.Orders.HistoryRaces.{IsEarliestRace, IsRightVerdict, found_race_of_cell}
+use Rattle.pipe_model.specs.Orders.HistoryReports.{report_found, reports_below}
+use Rattle.pipe_model.specs.Races.DeterminacyRaces.{Among, Here, Later}
+use Rattle.pipe_model.specs.Races.Reports.{NamesRace, number_at, report_of}
+use Rattle.pipe_model.specs.Orders.Starts.{starts_of}
+use Rattle.pipe_model.specs.Runs.State.{State, own_columns}
 use Rattle.pipe_model.specs.declared.node.NodeId.{NodeId}
 use Rattle.pipe_model.specs.declared.report.Report.{Report}
-use Rattle.pipe_model.proofs.CellRaces.{HasRacesAt, race_at}
+use Rattle.pipe_model.proofs.RacesByCell.{HasRacesAt, race_at}
 use Rattle.run_laws.proofs.RaceHistories.RunHistories.{histories_find_the_first_race}
 use Rattle.pipe_model.proofs.Members.{among_either, among_right, among_left}
 use Rattle.run_laws.specs.HistoryLaws.{ReportsAreRight}
 use Rattle.pipe_model.proofs.CellAccesses.{noted_of, cell_id, two_places}
 
 -- a report of what a history has found names a race
-names_race : (s : State) (c : ℕ) (race : FirstRace) → IsFirstRaceOf (own_columns s) (accesses_to c s.accesses) race
+names_race : (s : State) (c : ℕ) (race : FoundRace) → IsEarliestRace (own_columns s) (accesses_to c s.accesses) race
     → NamesRace (own_columns s) s.accesses (report_of (own_columns s) c race.earlier (access_at (accesses_to c s.accesses) race.number))
 names_race s c race h =
     let q = h.racy in
@@ -56,7 +56,7 @@ names_race s c race h =
     }
 
 -- each report of a cell names a race
-report_names_race : (s : State) (c : ℕ) (v : Option FirstRace)
+report_names_race : (s : State) (c : ℕ) (v : Option FoundRace)
     → IsRightVerdict (own_columns s) (accesses_to c s.accesses) v → (r : Report)
     → Among r (report_found (own_columns s) c (accesses_to c s.accesses) v) → NamesRace (own_columns s) s.accesses r
 report_names_race s c None h r m = elim m [ ]
@@ -66,16 +66,16 @@ report_names_race s c (Some race) h r (Later _ m) = elim m [ ]
 -- each report of all cells names a race
 reports_name_races : (s : State) (starts : List NodeId)
     → ((c : ℕ) → IsRightVerdict (own_columns s) (accesses_to c s.accesses)
-    (first_race_of (own_columns s) starts s.accesses c))
+    (found_race_of_cell (own_columns s) starts s.accesses c))
     → (cells : ℕ) (r : Report)
     → Among r (reports_below (own_columns s) starts s.accesses cells) → NamesRace (own_columns s) s.accesses r
 reports_name_races s starts right zero r m = elim m [ ]
 reports_name_races s starts right (suc c) r m =
     elim (among_either r (reports_below (own_columns s) starts s.accesses c)
     (report_found (own_columns s) c (accesses_to c s.accesses)
-    (first_race_of (own_columns s) starts s.accesses c)) m) [
+    (found_race_of_cell (own_columns s) starts s.accesses c)) m) [
       | inl old ↦ reports_name_races s starts right c r old
-      | inr new ↦ report_names_race s c (first_race_of (own_columns s) starts s.accesses c) (right c) r new
+      | inr new ↦ report_names_race s c (found_race_of_cell (own_columns s) starts s.accesses c) (right c) r new
     ]
 
 -- a cell with a race has a report
@@ -85,7 +85,7 @@ record HasReport (c : ℕ) (reports : List Report) : Type 0 where
   of_cell : report.cell ≡ cell_id c
 
 -- what a history finds is reported
-race_is_reported : (s : State) (c : ℕ) (v : Option FirstRace)
+race_is_reported : (s : State) (c : ℕ) (v : Option FoundRace)
     → IsRightVerdict (own_columns s) (accesses_to c s.accesses) v
     → HasRacesAt (own_columns s) (accesses_to c s.accesses)
     → HasReport c (report_found (own_columns s) c (accesses_to c s.accesses) v)
@@ -99,18 +99,18 @@ race_is_reported s c (Some race) h r = record {
 -- a race is reported among the reports of all cells
 race_is_reported_below : (s : State) (starts : List NodeId) (c cells : ℕ) → c < cells
     → HasReport c (report_found (own_columns s) c (accesses_to c s.accesses)
-    (first_race_of (own_columns s) starts s.accesses c))
+    (found_race_of_cell (own_columns s) starts s.accesses c))
     → HasReport c (reports_below (own_columns s) starts s.accesses cells)
 race_is_reported_below s starts c zero l h = absurd (omega (arith, l))
 race_is_reported_below s starts c (suc cells) l h = elim (cases_eq c cells) [
   | inl e ↦ subst (λ d. HasReport c (reports_below (own_columns s) starts s.accesses d
       ++ report_found (own_columns s) d (accesses_to d s.accesses)
-      (first_race_of (own_columns s) starts s.accesses d))) e
+      (found_race_of_cell (own_columns s) starts s.accesses d))) e
       (record {
         report = h.report;
         among = among_right h.report (reports_below (own_columns s) starts s.accesses c)
             (report_found (own_columns s) c (accesses_to c s.accesses)
-            (first_race_of (own_columns s) starts s.accesses c)) h.among;
+            (found_race_of_cell (own_columns s) starts s.accesses c)) h.among;
         of_cell = h.of_cell;
       })
   | inr o ↦ (
@@ -119,7 +119,7 @@ race_is_reported_below s starts c (suc cells) l h = elim (cases_eq c cells) [
         report = g.report;
         among = among_left g.report (reports_below (own_columns s) starts s.accesses cells)
             (report_found (own_columns s) cells (accesses_to cells s.accesses)
-            (first_race_of (own_columns s) starts s.accesses cells)) g.among;
+            (found_race_of_cell (own_columns s) starts s.accesses cells)) g.among;
         of_cell = g.of_cell;
       })
 ]
@@ -128,14 +128,14 @@ race_is_reported_below s starts c (suc cells) l h = elim (cases_eq c cells) [
 pub reports_are_right : ReportsAreRight
 reports_are_right p limit events s cells r within =
     let right : (c : ℕ) → IsRightVerdict (own_columns s) (accesses_to c s.accesses)
-    (first_race_of (own_columns s) (starts_of events) s.accesses c) =
+    (found_race_of_cell (own_columns s) (starts_of events) s.accesses c) =
     λ c. histories_find_the_first_race p limit events s r c in
     record {
       name = λ x m. reports_name_races s (starts_of events) right cells x m;
       all = λ a b race. (
           let c : ℕ = a.access.cell.0 in
           let h = race_is_reported_below s (starts_of events) c cells (within a race.first)
-          (race_is_reported s c (first_race_of (own_columns s) (starts_of events) s.accesses c) (right c)
+          (race_is_reported s c (found_race_of_cell (own_columns s) (starts_of events) s.accesses c) (right c)
           (race_at (own_columns s) s.accesses a b c refl race)) in
           (h.report, h.among, h.of_cell));
     }

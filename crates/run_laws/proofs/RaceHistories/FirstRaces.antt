@@ -4,10 +4,10 @@ use Rattle.std.proofs.Common.{List, ◌<◌, ◌≤◌, suc, length, ◌+◌, []
 use Rattle.std.proofs.lemmas.Bool.{ltb-true, cases_lt, ltb-false, cases_eq}
 use Rattle.std.specs.declared.option.Option.{Option}
 use Rattle.std.specs.declared.option.Option.TheVariants.{Some, None}
-use Rattle.pipe_model.specs.AccessHistory.{race_with, later, AccessHistory, check_access}
-use Rattle.pipe_model.specs.CellRaces.{NotedAccess, noted_access, access_at, KindsConflict}
-use Rattle.pipe_model.specs.AccessHistory.{updated_history, FirstRace, race_or, first_race_from, first_race, empty_history}
-use Rattle.pipe_model.specs.Columns.{at}
+use Rattle.pipe_model.specs.Orders.AccessHistory.{race_with, later, AccessHistory, check_access}
+use Rattle.pipe_model.specs.Races.CellRaces.{NotedAccess, noted_access, access_at, KindsConflict}
+use Rattle.pipe_model.specs.Orders.AccessHistory.{updated_history, FoundRace, race_or, found_race_from, found_race, empty_history}
+use Rattle.pipe_model.specs.Races.Columns.{at}
 use Rattle.pipe_model.specs.declared.access.AccessKind.{AccessKind}
 use Rattle.pipe_model.specs.declared.access.AccessKind.TheVariants.{Write, Read}
 use Rattle.pipe_model.specs.declared.node.NodeId.{NodeId}
@@ -312,7 +312,7 @@ module _ (down right : NodeId → ℕ) where
       }
 
       -- what is found is the first race that the orders tell
-      abbrev pub IsRight : Option FirstRace → Type 0
+      abbrev pub IsRight : Option FoundRace → Type 0
       IsRight found = IsRightInOrders down right accesses found
 
       -- the accesses from number n on
@@ -322,7 +322,7 @@ module _ (down right : NodeId → ℕ) where
 
       -- first_race_from_is, by what the history finds
       first_race_by : (n : ℕ) (x : NodeId) (kind : AccessKind) (kept : AccessHistory) (found : Option NotedAccess)
-          (rest : Option FirstRace)
+          (rest : Option FoundRace)
           → IsHistory n kept → n < length accesses → access_at accesses n ≡ noted_access x kind
           → check_access down right kept x kind ≡ found
           → ((m k : ℕ) → m < n → RacesInOrders down right accesses m k → ⊥)
@@ -362,7 +362,7 @@ module _ (down right : NodeId → ℕ) where
       -- the first race from number n on
       pub first_race_from_is : (xs : List NotedAccess) (n : ℕ) (kept : AccessHistory) → IsRest n xs → IsHistory n kept
           → ((m k : ℕ) → m < n → RacesInOrders down right accesses m k → ⊥)
-          → IsRight (first_race_from down right n kept xs)
+          → IsRight (found_race_from down right n kept xs)
       first_race_from_is [] n kept rest h before = λ m k r. (
           let w = r.within in
           let l = rest.long in
@@ -373,7 +373,7 @@ module _ (down right : NodeId → ℕ) where
           let z : n ≡ n + 0 = omega arith in
           ap (access_at accesses) z ∙ rest.each 0 (omega arith)) in
           first_race_by n x.who x.kind kept (check_access down right kept x.who x.kind)
-          (first_race_from down right (suc n) (updated_history down right kept x.who x.kind) xs) h (omega arith)
+          (found_race_from down right (suc n) (updated_history down right kept x.who x.kind) xs) h (omega arith)
           here refl before
           (λ none e. first_race_from_is xs (suc n) (updated_history down right kept x.who x.kind)
           (record {
@@ -391,7 +391,7 @@ module _ (down right : NodeId → ℕ) where
           ]))
 
       -- the first race
-      pub first_race_is : IsRight (first_race down right accesses)
+      pub first_race_is : IsRight (found_race down right accesses)
       first_race_is = first_race_from_is accesses 0 empty_history (record {
         long = omega arith;
         each = λ t l. (

@@ -3,9 +3,9 @@ use Rattle.std.proofs.Common.{ℕ, true, ◌≡◌, eqb, ltb, ◌&&◌, inl, ap�
 use Rattle.std.proofs.lemmas.Bool.{or_cases, and_parts, eqb-true, ltb-true, or_left, and_from, or_right, lt-ltb}
 use Rattle.std.specs.declared.option.Option.{Option}
 use Rattle.std.specs.declared.option.Option.TheVariants.{Some, None}
-use Rattle.pipe_model.specs.AccessHistory.{is_ordered, race_with}
-use Rattle.pipe_model.specs.CellRaces.{NotedAccess, noted_access}
-use Rattle.pipe_model.specs.Columns.{at}
+use Rattle.pipe_model.specs.Orders.AccessHistory.{is_ordered, race_with}
+use Rattle.pipe_model.specs.Races.CellRaces.{NotedAccess, noted_access}
+use Rattle.pipe_model.specs.Races.Columns.{at}
 use Rattle.pipe_model.specs.declared.access.AccessKind.{AccessKind}
 use Rattle.pipe_model.specs.declared.node.NodeId.{NodeId}
 use Rattle.run_laws.specs.OrderRaces.{IsOrdered}

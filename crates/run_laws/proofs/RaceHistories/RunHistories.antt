@@ -2,13 +2,13 @@
 use Rattle.std.proofs.Common.{List, ◌≡◌, inl, arith, inr, ap₂, ℕ}
 use Rattle.std.specs.declared.option.Option.{Option}
 use Rattle.std.specs.declared.option.Option.TheVariants.{None, Some}
-use Rattle.pipe_model.specs.AccessHistory.{FirstRace, first_race}
-use Rattle.pipe_model.specs.CellRaces.{NotedAccess, access_at, accesses_to, RacesAt}
-use Rattle.pipe_model.specs.Columns.{AreColumns, at}
-use Rattle.pipe_model.specs.HistoryRaces.{IsRightVerdict}
-use Rattle.pipe_model.specs.Starts.{AreStarts, IsStarted, starts_of}
-use Rattle.pipe_model.specs.State.{own_columns}
-use Rattle.pipe_model.specs.TwoOrders.{down_place, right_place}
+use Rattle.pipe_model.specs.Orders.AccessHistory.{FoundRace, found_race}
+use Rattle.pipe_model.specs.Races.CellRaces.{NotedAccess, access_at, accesses_to, RacesAt}
+use Rattle.pipe_model.specs.Races.Columns.{AreColumns, at}
+use Rattle.pipe_model.specs.Orders.HistoryRaces.{IsRightVerdict}
+use Rattle.pipe_model.specs.Orders.Starts.{AreStarts, IsStarted, starts_of}
+use Rattle.pipe_model.specs.Runs.State.{own_columns}
+use Rattle.pipe_model.specs.Orders.TwoOrders.{down_place, right_place}
 use Rattle.pipe_model.specs.declared.node.Node.{Node}
 use Rattle.pipe_model.specs.declared.node.NodeId.{NodeId}
 use Rattle.run_laws.proofs.ListOrders.BothOrders.{falls_cases, goes_cases, both_is_precedes}
@@ -98,7 +98,7 @@ module _ (columns : List (List Node)) (starts : List NodeId) (accesses : List No
       }
 
   -- what is right by the orders is right
-  right_verdict : (race : Option FirstRace)
+  right_verdict : (race : Option FoundRace)
       → IsRight (down_place starts) (right_place columns starts) accesses are_orders race
       → IsRightVerdict columns accesses race
   right_verdict None t = λ n k r. t n k (race_to_orders n k r)
@@ -109,9 +109,9 @@ module _ (columns : List (List Node)) (starts : List NodeId) (accesses : List No
 
   -- the first race that is found is right
   first_race_is_right : IsRightVerdict columns accesses
-      (first_race (down_place starts) (right_place columns starts) accesses)
+      (found_race (down_place starts) (right_place columns starts) accesses)
   first_race_is_right =
-      right_verdict (first_race (down_place starts) (right_place columns starts) accesses)
+      right_verdict (found_race (down_place starts) (right_place columns starts) accesses)
       (first_race_is (down_place starts) (right_place columns starts) accesses are_orders)
 
 -- the law of first races

@@ -1,8 +1,8 @@
 -- Frames of iterations that have ended.
 use Rattle.std.proofs.Common.{List, ℕ, Some, true, ◌≡◌, ℤ, refl, [], suc, arith, ◌∷◌}
 use Rattle.std.proofs.lemmas.Bool.{false≢true}
-use Rattle.pipe_model.specs.Allowed.{HasPassed}
-use Rattle.pipe_model.specs.State.{Frame, frame_at, is_completed, Status, Running, Pending, Completed, alive_one, alive_in}
+use Rattle.pipe_model.specs.Runs.Allowed.{HasPassed}
+use Rattle.pipe_model.specs.Runs.State.{Frame, frame_at, is_completed, Status, Running, Pending, Completed, alive_one, alive_in}
 use Rattle.pipe_model.specs.declared.node.Node.{Node}
 
 -- all iterations have ended

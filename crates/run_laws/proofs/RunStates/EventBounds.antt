@@ -3,13 +3,13 @@ use Rattle.std.proofs.Common.{ℕ, ◌≡◌, ◌+◌, ◌*◌, List, [], ◌∷
 use Rattle.std.proofs.Common.{false, inl, inr}
 use Rattle.std.proofs.lemmas.Bool.{false≢true, cases_lt}
 use Rattle.std.proofs.lemmas.List.{length_push}
-use Rattle.pipe_model.specs.Allowed.{Allowed}
-use Rattle.pipe_model.specs.Behaviour.{Behaviour, behaviour_after_all, Offers, Accessed, behaviour_after, Reading, Writing, Staging, Ending}
-use Rattle.pipe_model.specs.Behaviour.{Staged, Ended}
-use Rattle.pipe_model.specs.Pipeline.{HasBoundedWork, Pipeline}
-use Rattle.pipe_model.specs.Run.{Run, EmptyRun, RunThen}
-use Rattle.pipe_model.specs.State.{Status, Running, Pending, Completed, Frame, frame_at, update_frame, fresh_frame, with_action}
-use Rattle.pipe_model.specs.State.{enter_pending, State, next_state}
+use Rattle.pipe_model.specs.Runs.Allowed.{Allowed}
+use Rattle.pipe_model.specs.Pipelines.Behaviour.{Behaviour, behaviour_after_all, Offers, Accessed, behaviour_after, Reading, Writing, Staging, Ending}
+use Rattle.pipe_model.specs.Pipelines.Behaviour.{Staged, Ended}
+use Rattle.pipe_model.specs.Pipelines.Pipeline.{HasBoundedWork, Pipeline}
+use Rattle.pipe_model.specs.Runs.Run.{Run, EmptyRun, RunThen}
+use Rattle.pipe_model.specs.Runs.State.{Status, Running, Pending, Completed, Frame, frame_at, update_frame, fresh_frame, with_action}
+use Rattle.pipe_model.specs.Runs.State.{enter_pending, State, next_state}
 use Rattle.pipe_model.specs.declared.event.Event.{Event}
 use Rattle.pipe_model.specs.declared.event.Event.TheVariants.{Begin, Access, Advance, Enter, Finish, Stop}
 use Rattle.pipe_model.specs.declared.node.Kind.{Kind}

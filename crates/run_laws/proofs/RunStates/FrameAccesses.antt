@@ -2,9 +2,9 @@
 use Rattle.std.proofs.Common.{List, ℕ, Some, ◌≡◌, [], ◌∷◌, inl, refl, inr, suc, ◌++◌, ap, ◌∙◌, sym}
 use Rattle.std.proofs.lemmas.List.Concat.{flat_map-append}
 use Rattle.std.specs.List.{flat_map}
-use Rattle.pipe_model.specs.Behaviour.{accesses_in}
-use Rattle.pipe_model.specs.Races.{Among}
-use Rattle.pipe_model.specs.State.{Frame, frame_at, update_frame}
+use Rattle.pipe_model.specs.Pipelines.Behaviour.{accesses_in}
+use Rattle.pipe_model.specs.Races.DeterminacyRaces.{Among}
+use Rattle.pipe_model.specs.Runs.State.{Frame, frame_at, update_frame}
 use Rattle.pipe_model.specs.declared.access.Access.{Access}
 use Rattle.run_laws.proofs.RunStates.Frames.{parted}
 use Rattle.pipe_model.proofs.Members.{none_among, among_either}

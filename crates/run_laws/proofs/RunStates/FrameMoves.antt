@@ -4,10 +4,10 @@ use Rattle.std.proofs.Common.{subst, ap, ◌≢◌, ◌⊎◌, sym, pos, zero}
 use Rattle.std.proofs.lemmas.Bool.{cases_lt, cases_eq}
 use Rattle.std.proofs.lemmas.Int.{ints}
 use Rattle.std.proofs.lemmas.List.{get_or_append_left, get_or_push, length_push}
-use Rattle.pipe_model.specs.Allowed.{ContinuesLoop, HasPassed, LeftHasPassed, MayBegin}
-use Rattle.pipe_model.specs.Behaviour.{Action, node_of}
-use Rattle.pipe_model.specs.Columns.{node_at, no_node, IsRising}
-use Rattle.pipe_model.specs.State.{Frame, Pending, frame_at, Running, with_action, Completed, enter_pending, update_frame, fresh_frame, State}
+use Rattle.pipe_model.specs.Runs.Allowed.{ContinuesLoop, HasPassed, LeftHasPassed, MayBegin}
+use Rattle.pipe_model.specs.Pipelines.Behaviour.{Action, node_of}
+use Rattle.pipe_model.specs.Races.Columns.{node_at, no_node, IsRising}
+use Rattle.pipe_model.specs.Runs.State.{Frame, Pending, frame_at, Running, with_action, Completed, enter_pending, update_frame, fresh_frame, State}
 use Rattle.pipe_model.specs.declared.column.ColumnEnd.{ColumnEnd}
 use Rattle.pipe_model.specs.declared.node.Kind.{Kind}
 use Rattle.pipe_model.specs.declared.node.Kind.TheVariants.{Wait, Zero}

@@ -1,12 +1,12 @@
 -- The trace of each frame: it is performed, makes the frame's column, and ends where the frame has ended.
 use Rattle.std.proofs.Common.{List, [], ◌∷◌, ℕ, ◌≡◌, ◌++◌, Some, inl, inr, subst, ap, append-nil, ◌∙◌, pos, ℤ, sym, refl, true}
 use Rattle.std.proofs.lemmas.Bool.{false≢true}
-use Rattle.pipe_model.specs.Allowed.{OffersAt, IsRunning, MayEnter, Allowed}
-use Rattle.pipe_model.specs.Behaviour.{node_of, Action, HasNoEnd, Performs, column_of, Offers, behaviour_after_all, nodes_in, Accessed, Staged, Ended}
-use Rattle.pipe_model.specs.Pipeline.{Pipeline}
-use Rattle.pipe_model.specs.Run.{Run, EmptyRun, RunThen}
-use Rattle.pipe_model.specs.State.{Status, Running, Pending, Completed, Frame, frame_at, update_frame, State, trace_in, next_state}
-use Rattle.pipe_model.specs.State.{with_action, enter_pending, is_completed}
+use Rattle.pipe_model.specs.Runs.Allowed.{OffersAt, IsRunning, MayEnter, Allowed}
+use Rattle.pipe_model.specs.Pipelines.Behaviour.{node_of, Action, HasNoEnd, Performs, column_of, Offers, behaviour_after_all, nodes_in, Accessed, Staged, Ended}
+use Rattle.pipe_model.specs.Pipelines.Pipeline.{Pipeline}
+use Rattle.pipe_model.specs.Runs.Run.{Run, EmptyRun, RunThen}
+use Rattle.pipe_model.specs.Runs.State.{Status, Running, Pending, Completed, Frame, frame_at, update_frame, State, trace_in, next_state}
+use Rattle.pipe_model.specs.Runs.State.{with_action, enter_pending, is_completed}
 use Rattle.pipe_model.specs.declared.access.Access.{Access as Cell_access}
 use Rattle.pipe_model.specs.declared.column.ColumnEnd.{ColumnEnd}
 use Rattle.pipe_model.specs.declared.event.Event.{Event}

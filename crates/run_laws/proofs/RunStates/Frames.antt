@@ -1,7 +1,7 @@
 -- Looking up and updating a frame.
 use Rattle.std.proofs.Common.{List, ℕ, ◌≡◌, ◌∷◌, ◌++◌, length, ◌+◌, Some, [], zero, refl, ap, suc, arith, ◌≢◌, ◌<◌, map, None, ◌≤◌}
-use Rattle.pipe_model.specs.Columns.{nodes_at}
-use Rattle.pipe_model.specs.State.{Frame, update_frame, frame_at}
+use Rattle.pipe_model.specs.Races.Columns.{nodes_at}
+use Rattle.pipe_model.specs.Runs.State.{Frame, update_frame, frame_at}
 
 -- the frames before and after a frame, which stay where it is updated
 pub record IsParted (fs : List Frame) (i : ℕ) (f : Frame) (g : Frame → Frame) : Type 0 where

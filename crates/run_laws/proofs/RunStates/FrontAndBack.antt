@@ -1,9 +1,9 @@
 -- A run told from the front and from the back.
 use Rattle.std.proofs.Common.{List, ◌≡◌, [], ◌∷◌, ◌++◌, refl, ℕ, ap, sym, ◌∙◌, append-nil, subst, append_assoc}
-use Rattle.pipe_model.specs.Allowed.{Allowed}
-use Rattle.pipe_model.specs.Pipeline.{Pipeline}
-use Rattle.pipe_model.specs.Run.{state_from, Run, EmptyRun, RunThen, AllowedFrom}
-use Rattle.pipe_model.specs.State.{State, next_state, initial_state}
+use Rattle.pipe_model.specs.Runs.Allowed.{Allowed}
+use Rattle.pipe_model.specs.Pipelines.Pipeline.{Pipeline}
+use Rattle.pipe_model.specs.Runs.Run.{state_from, Run, EmptyRun, RunThen, AllowedFrom}
+use Rattle.pipe_model.specs.Runs.State.{State, next_state, initial_state}
 use Rattle.pipe_model.specs.declared.event.Event.{Event}
 use Rattle.run_laws.specs.RunLaws.{RunsFromTheFront}
 

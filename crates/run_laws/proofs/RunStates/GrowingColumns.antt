@@ -2,15 +2,15 @@
 use Rattle.std.proofs.Common.{List, ℕ, ◌≡◌, ◌≢◌, refl, [], zero, ◌∷◌, suc, ap, Some, length, ◌+◌, ◌<◌, arith, inl, inr, subst, sym, ◌≤◌, ◌++◌}
 use Rattle.std.proofs.lemmas.Bool.{cases_eq}
 use Rattle.std.proofs.lemmas.Int.{ints}
-use Rattle.pipe_model.specs.Columns.{nodes_at, node_at}
-use Rattle.pipe_model.specs.State.{Frame, update_frame, frame_at}
+use Rattle.pipe_model.specs.Races.Columns.{nodes_at, node_at}
+use Rattle.pipe_model.specs.Runs.State.{Frame, update_frame, frame_at}
 use Rattle.pipe_model.specs.declared.node.Node.{Node}
 use Rattle.run_laws.proofs.RunStates.FrameMoves.{IsSound, IsMove}
 use Rattle.run_laws.proofs.RunStates.Frames.{nodes_at_frame, frame_at_updated, frame_at_within, frame_at_exists, nodes_at_past}
-use Rattle.run_laws.proofs.RunStates.LaterEdges.{columns_of_frames, Extends}
+use Rattle.run_laws.proofs.RunStates.LaterEdges.{columns_of_frames, ExtendsColumns}
 use Rattle.run_laws.proofs.RunStates.RunningInstances.{frame_of_node, awaited_is_passed}
-use Rattle.pipe_model.specs.State.{with_action, Status}
-use Rattle.pipe_model.specs.Behaviour.{Action}
+use Rattle.pipe_model.specs.Runs.State.{with_action, Status}
+use Rattle.pipe_model.specs.Pipelines.Behaviour.{Action}
 
 -- an update changes no other column
 pub nodes_at_other : (fs : List Frame) (i j : ℕ) (u : Frame → Frame) → j ≢ i
@@ -38,7 +38,7 @@ left_column_begun fs i s l =
 
 -- an event of one iteration extends the columns
 pub extends_moved : (fs : List Frame) (i : ℕ) (f : Frame) (u : Frame → Frame) → IsSound fs → frame_at fs i ≡ Some f
-    → IsMove fs i f (u f) → Extends (columns_of_frames fs) (columns_of_frames (update_frame fs i u))
+    → IsMove fs i f (u f) → ExtendsColumns (columns_of_frames fs) (columns_of_frames (update_frame fs i u))
 extends_moved fs i f u s e m =
     let before : nodes_at (columns_of_frames fs) i ≡ f.nodes = nodes_at_frame fs i f e in
     let now : nodes_at (columns_of_frames (update_frame fs i u)) i ≡ (u f).nodes = nodes_at_moved fs i f u e in
@@ -86,7 +86,7 @@ nodes_at_begun (f ∷ fs) x (suc j) n = nodes_at_begun fs x j (λ e. n (ap (λ k
 
 -- a beginning extends the columns
 pub extends_begun : (fs : List Frame) (x : Frame) → IsSound fs
-    → Extends (columns_of_frames fs) (columns_of_frames (fs ++ x ∷ []))
+    → ExtendsColumns (columns_of_frames fs) (columns_of_frames (fs ++ x ∷ []))
 extends_begun fs x s =
     let none : (j : ℕ) → length fs ≤ j → length (nodes_at (columns_of_frames fs) j) ≡ 0 =
     λ j l. ap (λ (y : List Node). length y) (nodes_at_past fs j (omega (arith, l))) in

@@ -1,15 +1,15 @@
--- How many iterations have begun, have ended and are alive.
+-- How many iterations have begun_count, have ended and are alive.
 use Rattle.std.proofs.Common.{List, ◌≡◌, ◌+◌, [], ◌∷◌, ◌++◌, arith, ℕ, Some, zero, suc, length, ◌≤◌, ap, ◌∙◌, refl, subst, sym, map, inl, inr}
 use Rattle.std.proofs.lemmas.Bool.{cases_lt}
 use Rattle.std.proofs.lemmas.List.{length_push, length-map}
-use Rattle.pipe_model.specs.Allowed.{Allowed}
-use Rattle.pipe_model.specs.Behaviour.{Accessed, Staged, Ended}
-use Rattle.pipe_model.specs.Columns.{IsRising, nodes_at}
-use Rattle.pipe_model.specs.Pipeline.{Pipeline}
-use Rattle.pipe_model.specs.Run.{Run, EmptyRun, RunThen}
-use Rattle.pipe_model.specs.State.{Frame, frame_at, alive_in, update_frame, alive_one, fresh_frame, State, alive, next_state, with_action}
-use Rattle.pipe_model.specs.State.{Running, Pending, enter_pending, Completed}
-use Rattle.pipe_model.specs.Throttling.{begun, finished, IsThrottled}
+use Rattle.pipe_model.specs.Runs.Allowed.{Allowed}
+use Rattle.pipe_model.specs.Pipelines.Behaviour.{Accessed, Staged, Ended}
+use Rattle.pipe_model.specs.Races.Columns.{IsRising, nodes_at}
+use Rattle.pipe_model.specs.Pipelines.Pipeline.{Pipeline}
+use Rattle.pipe_model.specs.Runs.Run.{Run, EmptyRun, RunThen}
+use Rattle.pipe_model.specs.Runs.State.{Frame, frame_at, alive_in, update_frame, alive_one, fresh_frame, State, alive, next_state, with_action}
+use Rattle.pipe_model.specs.Runs.State.{Running, Pending, enter_pending, Completed}
+use Rattle.pipe_model.specs.Runs.Throttling.{begun_count, ended_count, IsThrottled}
 use Rattle.pipe_model.specs.declared.event.Event.{Event}
 use Rattle.pipe_model.specs.declared.event.Event.TheVariants.{Begin, Access, Advance, Enter, Finish, Stop}
 use Rattle.run_laws.proofs.RunStates.FrameMoves.{IsSound}
@@ -18,8 +18,8 @@ use Rattle.run_laws.proofs.RunStates.RunInvariant.{run_consistent}
 use Rattle.run_laws.proofs.RunStates.FrontAndBack.{front_is_run}
 use Rattle.run_laws.specs.RunLaws.{RunsKeepRules}
 
--- how many have begun after one event more
-begun-push : (es : List Event) (e : Event) → begun (es ++ e ∷ []) ≡ begun es + begun (e ∷ [])
+-- how many have begun_count after one event more
+begun-push : (es : List Event) (e : Event) → begun_count (es ++ e ∷ []) ≡ begun_count es + begun_count (e ∷ [])
 begun-push [] e = omega arith
 begun-push (Begin i ∷ es) e = let h = begun-push es e in omega (arith, h)
 begun-push (Access i a ∷ es) e = begun-push es e
@@ -29,7 +29,7 @@ begun-push (Finish i d ∷ es) e = begun-push es e
 begun-push (Stop ∷ es) e = begun-push es e
 
 -- how many have ended after one event more
-finished-push : (es : List Event) (e : Event) → finished (es ++ e ∷ []) ≡ finished es + finished (e ∷ [])
+finished-push : (es : List Event) (e : Event) → ended_count (es ++ e ∷ []) ≡ ended_count es + ended_count (e ∷ [])
 finished-push [] e = omega arith
 finished-push (Begin i ∷ es) e = finished-push es e
 finished-push (Access i a ∷ es) e = finished-push es e
@@ -50,16 +50,16 @@ alive_in-begun : (fs : List Frame) → alive_in (fs ++ fresh_frame ∷ []) ≡ a
 alive_in-begun [] = omega arith
 alive_in-begun (x ∷ fs) = let h = alive_in-begun fs in omega (arith, h)
 
--- begun is ended and alive, and at most the limit is alive
+-- begun_count is ended and alive, and at most the limit is alive
 record Counts (limit : ℕ) (events : List Event) (s : State) : Type 0 where
-  frames : begun events ≡ length s.frames
-  counted : begun events ≡ finished events + alive s
+  frames : begun_count events ≡ length s.frames
+  counted : begun_count events ≡ ended_count events + alive s
   throttled : alive s ≤ limit
 
 -- the counts stay right after an event of one iteration
 counts_moved : (limit : ℕ) (events : List Event) (s t : State) (e : Event) (i : ℕ) (f : Frame) (u : Frame → Frame)
     → Counts limit events s → frame_at s.frames i ≡ Some f → t.frames ≡ update_frame s.frames i u
-    → begun (e ∷ []) ≡ 0 → finished (e ∷ []) + alive_one (u f).status ≡ alive_one f.status
+    → begun_count (e ∷ []) ≡ 0 → ended_count (e ∷ []) + alive_one (u f).status ≡ alive_one f.status
     → Counts limit (events ++ e ∷ []) t
 counts_moved limit events s t e i f u c is frames none moved =
     let b = begun-push events e in

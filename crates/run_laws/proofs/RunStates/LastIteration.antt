@@ -1,11 +1,11 @@
 -- The iteration that always closes the loop stays in its instance 0, so none follows it.
 use Rattle.std.proofs.Common.{List, length, ◌≡◌, true, Some, ℤ, ap, ◌∙◌, ℕ, inl, subst, sym, inr, refl, arith}
-use Rattle.pipe_model.specs.Allowed.{Allowed, ContinuesLoop}
-use Rattle.pipe_model.specs.Behaviour.{Behaviour, is_closing, behaviour_after_all, Offers, Accessed, behaviour_after, Reading, Writing}
-use Rattle.pipe_model.specs.Behaviour.{Staging, Ending, Staged, Ended}
-use Rattle.pipe_model.specs.Pipeline.{AlwaysClosesLoop, Pipeline}
-use Rattle.pipe_model.specs.Run.{Run, EmptyRun, RunThen}
-use Rattle.pipe_model.specs.State.{Status, Running, Pending, Completed, Frame, frame_at, update_frame, State, next_state, with_action, enter_pending}
+use Rattle.pipe_model.specs.Runs.Allowed.{Allowed, ContinuesLoop}
+use Rattle.pipe_model.specs.Pipelines.Behaviour.{Behaviour, closes_at_once, behaviour_after_all, Offers, Accessed, behaviour_after, Reading, Writing}
+use Rattle.pipe_model.specs.Pipelines.Behaviour.{Staging, Ending, Staged, Ended}
+use Rattle.pipe_model.specs.Pipelines.Pipeline.{AlwaysClosesLoop, Pipeline}
+use Rattle.pipe_model.specs.Runs.Run.{Run, EmptyRun, RunThen}
+use Rattle.pipe_model.specs.Runs.State.{Status, Running, Pending, Completed, Frame, frame_at, update_frame, State, next_state, with_action, enter_pending}
 use Rattle.pipe_model.specs.declared.event.Event.{Event}
 use Rattle.pipe_model.specs.declared.event.Event.TheVariants.{Begin, Access, Advance, Enter, Finish, Stop}
 use Rattle.pipe_model.specs.declared.node.Kind.{Kind}
@@ -18,7 +18,7 @@ use Rattle.run_laws.proofs.RunStates.FrameTraces.{action_offered}
 abbrev pub StaysInFirst : Status → List Node → Behaviour → Type 0
 StaysInFirst Running nodes d = (length nodes ≡ 1) × AlwaysClosesLoop d
 StaysInFirst (Pending k n) nodes d = ⊥
-StaysInFirst (Completed e) nodes d = (length nodes ≡ 1) × (is_closing e ≡ true)
+StaysInFirst (Completed e) nodes d = (length nodes ≡ 1) × (closes_at_once e ≡ true)
 
 -- the last iteration does so
 abbrev pub LastStays : Pipeline → List Frame → Type 0
@@ -42,11 +42,11 @@ closes_names_no_stage (Staging j m d) k n h o = h
 closes_names_no_stage (Ending e) k n h o = cc
 
 -- the end of what always closes the loop closes it
-closes_by_end : (d : Behaviour) (e : _) → AlwaysClosesLoop d → Offers d (Ended e) → is_closing e ≡ true
+closes_by_end : (d : Behaviour) (e : _) → AlwaysClosesLoop d → Offers d (Ended e) → closes_at_once e ≡ true
 closes_by_end (Reading c go) e h o = absurd (let q = o.1 in cc)
 closes_by_end (Writing c v d) e h o = absurd (cc)
 closes_by_end (Staging j m d) e h o = absurd h
-closes_by_end (Ending f) e h o = let same : e ≡ f = cc in ap is_closing same ∙ h
+closes_by_end (Ending f) e h o = let same : e ≡ f = cc in ap closes_at_once same ∙ h
 
 -- the last iteration stays in its instance 0 where an event that changes it keeps it there
 stays_moved : (p : Pipeline) (fs : List Frame) (i : ℕ) (f : Frame) (u : Frame → Frame) → LastStays p fs

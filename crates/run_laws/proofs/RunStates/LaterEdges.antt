@@ -2,10 +2,10 @@
 use Rattle.std.proofs.Common.{List, map, length, ◌<◌, ℕ, ◌≤◌, ◌≡◌, ◌+◌, ◌<ℤ◌, zero, subst, ap, inl, inr, arith}
 use Rattle.std.proofs.lemmas.Bool.{cases_lt}
 use Rattle.std.proofs.lemmas.Int.{ints}
-use Rattle.pipe_model.specs.Columns.{nodes_at, node_at, at}
-use Rattle.pipe_model.specs.Dag.{Edge, CrossEdge, HeadCross, AcrossEdge, WaitCross, DownEdge, Precedes, ByEdge, ByPath}
-use Rattle.pipe_model.specs.Races.{Among, IsRaceFree}
-use Rattle.pipe_model.specs.State.{Frame}
+use Rattle.pipe_model.specs.Races.Columns.{nodes_at, node_at, at}
+use Rattle.pipe_model.specs.Races.Dag.{Edge, CrossEdge, HeadCross, AcrossEdge, WaitCross, DownEdge, Precedes, ByEdge, ByPath}
+use Rattle.pipe_model.specs.Races.DeterminacyRaces.{Among, IsRaceFree}
+use Rattle.pipe_model.specs.Runs.State.{Frame}
 use Rattle.pipe_model.specs.declared.access.NodeAccess.{NodeAccess}
 use Rattle.pipe_model.specs.declared.node.Kind.TheVariants.{Wait}
 use Rattle.pipe_model.specs.declared.node.Node.{Node}
@@ -20,7 +20,7 @@ abbrev pub HasInstance : List (List Node) → NodeId → Type 0
 HasInstance columns x = x.index < length (nodes_at columns x.iteration)
 
 -- later columns: what was added has numbers above all that is waited for
-pub record Extends (columns more : List (List Node)) : Type 0 where
+pub record ExtendsColumns (columns more : List (List Node)) : Type 0 where
   pub longer : (i : ℕ) → length (nodes_at columns i) ≤ length (nodes_at more i)
   pub same : (i k : ℕ) → k < length (nodes_at columns i)
       → node_at (nodes_at more i) k ≡ node_at (nodes_at columns i) k
@@ -36,7 +36,7 @@ pub record IsOldEdge (columns : List (List Node)) (x y : NodeId) : Type 0 where
   pub edge : Edge columns x y
 
 -- an edge across to an old instance is an old one
-old_crossing : (columns more : List (List Node)) (i j k : ℕ) → Extends columns more
+old_crossing : (columns more : List (List Node)) (i j k : ℕ) → ExtendsColumns columns more
     → CrossEdge (nodes_at more i) (nodes_at more (i + 1)) j k → k < length (nodes_at columns (i + 1))
     → IsOldEdge columns (at i j) (at (i + 1) k)
 old_crossing columns more i zero zero x (HeadCross a b) l =
@@ -67,7 +67,7 @@ old_crossing columns more i j k x (WaitCross j' k' inside kind last) l =
     }
 
 -- an edge to an old instance is an old one
-pub old_edge : (columns more : List (List Node)) (x y : NodeId) → Extends columns more → Edge more x y
+pub old_edge : (columns more : List (List Node)) (x y : NodeId) → ExtendsColumns columns more → Edge more x y
     → HasInstance columns y → IsOldEdge columns x y
 old_edge columns more x y e (DownEdge i k h) l = record {
   old = (
@@ -83,7 +83,7 @@ pub record IsOldPath (columns : List (List Node)) (x y : NodeId) : Type 0 where
   pub path : Precedes columns x y
 
 -- a path to an old instance is an old one
-pub old_path : (columns more : List (List Node)) (x y : NodeId) → Extends columns more → Precedes more x y
+pub old_path : (columns more : List (List Node)) (x y : NodeId) → ExtendsColumns columns more → Precedes more x y
     → HasInstance columns y → IsOldPath columns x y
 old_path columns more x y e (ByEdge edge) l =
     let w = old_edge columns more x y e edge l in
@@ -94,7 +94,7 @@ old_path columns more x y e (ByPath {y = m} p edge) l =
     record { old = h.old; path = ByPath h.path w.edge }
 
 -- where the later columns have no race the earlier have none
-pub no_race_before : (columns more : List (List Node)) (accesses all : List NodeAccess) → Extends columns more
+pub no_race_before : (columns more : List (List Node)) (accesses all : List NodeAccess) → ExtendsColumns columns more
     → ((a : NodeAccess) → Among a accesses → Among a all)
     → ((a : NodeAccess) → Among a accesses → HasInstance columns a.node)
     → IsRaceFree more all → IsRaceFree columns accesses

@@ -2,14 +2,14 @@
 use Rattle.std.proofs.Common.{List, Bool, true, length, ◌≡◌, false, ℕ, Some, inl, inr, ℤ, subst, refl, sym, ◌<◌, ◌⊎◌, [], ◌∷◌, arith, zero}
 use Rattle.std.proofs.Common.{ap, ◌∙◌, suc, ◌≢◌, ◌++◌}
 use Rattle.std.proofs.lemmas.Bool.{false≢true, cases_Bool, cases_lt}
-use Rattle.pipe_model.specs.Allowed.{Allowed, IsRunning, OffersAt, LeftHasPassed, ClosesLoop, ContinuesLoop}
-use Rattle.pipe_model.specs.Behaviour.{Behaviour, behaviour_after_all, Offers, Accessed, behaviour_after, Reading, Writing, Staging, Ending}
-use Rattle.pipe_model.specs.Behaviour.{Staged, node_of, Ended, Action, read_access, write_access, is_closing}
-use Rattle.pipe_model.specs.Pipeline.{HasLegalStages, Pipeline, IsWellFormed}
-use Rattle.pipe_model.specs.Run.{Run, EmptyRun, RunThen, IsFinished}
-use Rattle.pipe_model.specs.State.{Status, Running, Pending, Completed, Frame, frame_at, update_frame, State, next_state, with_action}
-use Rattle.pipe_model.specs.State.{enter_pending, is_completed, trace_in, accesses_of}
-use Rattle.pipe_model.specs.Store.{value_after}
+use Rattle.pipe_model.specs.Runs.Allowed.{Allowed, IsRunning, OffersAt, LeftHasPassed, ClosesLoop, ContinuesLoop}
+use Rattle.pipe_model.specs.Pipelines.Behaviour.{Behaviour, behaviour_after_all, Offers, Accessed, behaviour_after, Reading, Writing, Staging, Ending}
+use Rattle.pipe_model.specs.Pipelines.Behaviour.{Staged, node_of, Ended, Action, read_access, write_access, closes_at_once}
+use Rattle.pipe_model.specs.Pipelines.Pipeline.{HasLegalStages, Pipeline, IsWellFormed}
+use Rattle.pipe_model.specs.Runs.Run.{Run, EmptyRun, RunThen, IsFinished}
+use Rattle.pipe_model.specs.Runs.State.{Status, Running, Pending, Completed, Frame, frame_at, update_frame, State, next_state, with_action}
+use Rattle.pipe_model.specs.Runs.State.{enter_pending, is_completed, trace_in, accesses_of}
+use Rattle.pipe_model.specs.Pipelines.Store.{value_after}
 use Rattle.pipe_model.specs.declared.event.Event.{Event}
 use Rattle.pipe_model.specs.declared.event.Event.TheVariants.{Begin, Access, Advance, Enter, Finish, Stop}
 use Rattle.pipe_model.specs.declared.node.Kind.{Kind}
@@ -245,7 +245,7 @@ closed_or_continues : (w : Status) (nodes : List Node) → is_completed w ≡ tr
     → ClosesLoop w nodes ⊎ ContinuesLoop w nodes
 closed_or_continues Running nodes o l = absurd (false≢true o)
 closed_or_continues (Pending k n) nodes o l = absurd (false≢true o)
-closed_or_continues (Completed e) nodes o l = elim (cases_Bool (is_closing e)) [
+closed_or_continues (Completed e) nodes o l = elim (cases_Bool (closes_at_once e)) [
   | inl shut ↦ elim (cases_lt 1 (length nodes)) [
     | inl more ↦ inr (λ q. more)
     | inr one ↦ inl (shut, omega (arith, one, l))

@@ -1,15 +1,15 @@
 -- Events of one iteration that make no access.
 use Rattle.std.proofs.Common.{List, ℕ, Some, ◌≡◌, ℤ, refl, append-nil, ◌∙◌, [], ◌∷◌, subst, sym, ap, arith}
-use Rattle.pipe_model.specs.Allowed.{MayAdvance, MayFinish, MayEnter}
-use Rattle.pipe_model.specs.Behaviour.{accesses_in, Staged, Ended}
-use Rattle.pipe_model.specs.State.{State, Frame, frame_at, update_frame, next_state, with_action, Pending, Completed, enter_pending, own_columns}
+use Rattle.pipe_model.specs.Runs.Allowed.{MayAdvance, MayFinish, MayEnter}
+use Rattle.pipe_model.specs.Pipelines.Behaviour.{accesses_in, Staged, Ended}
+use Rattle.pipe_model.specs.Runs.State.{State, Frame, frame_at, update_frame, next_state, with_action, Pending, Completed, enter_pending, own_columns}
 use Rattle.pipe_model.specs.declared.event.Event.TheVariants.{Advance, Finish, Enter}
 use Rattle.pipe_model.specs.declared.node.Node.{Node}
 use Rattle.pipe_model.specs.declared.node.NodeId.{NodeId}
 use Rattle.run_laws.proofs.Iterations.TraceParts.{accesses_in-append}
 use Rattle.run_laws.proofs.RunStates.FrameMoves.{IsMove, moves_pending, moves_completed, enter_pending_is, moves_entered, IsSound}
 use Rattle.run_laws.proofs.RunStates.GrowingColumns.{extends_moved}
-use Rattle.run_laws.proofs.RunStates.LaterEdges.{Extends, columns_of_frames, HasInstance}
+use Rattle.run_laws.proofs.RunStates.LaterEdges.{ExtendsColumns, columns_of_frames, HasInstance}
 
 -- an event of one iteration that makes no access
 pub record IsQuiet (s : State) (fs : List Frame) : Type 0 where
@@ -63,12 +63,12 @@ enter_is_quiet s i may =
 
 -- such an event extends the columns
 pub quiet_extends : (s : State) (fs : List Frame) → IsSound s.frames → IsQuiet s fs
-    → Extends (own_columns s) (columns_of_frames fs)
+    → ExtendsColumns (own_columns s) (columns_of_frames fs)
 quiet_extends s fs sound q =
-    subst (λ gs. Extends (own_columns s) (columns_of_frames gs)) (sym q.result)
+    subst (λ gs. ExtendsColumns (own_columns s) (columns_of_frames gs)) (sym q.result)
     (extends_moved s.frames q.place q.frame q.update sound q.is q.moves)
 
 -- an instance stays in columns that are extended
-pub instance_stays : (columns more : List (List Node)) (x : NodeId) → Extends columns more → HasInstance columns x
+pub instance_stays : (columns more : List (List Node)) (x : NodeId) → ExtendsColumns columns more → HasInstance columns x
     → HasInstance more x
 instance_stays columns more x e l = let h = e.longer x.iteration in omega (arith, h, l)

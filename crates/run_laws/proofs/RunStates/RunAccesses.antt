@@ -2,15 +2,15 @@
 use Rattle.std.proofs.Common.{List, ℕ, Some, ◌≡◌, ◌⊎◌, inl, subst, inr, ◌∙◌, suc, length, ap, arith, ◌+◌, [], ◌∷◌, ◌++◌, map, refl}
 use Rattle.std.proofs.lemmas.Bool.{cases_eq}
 use Rattle.std.proofs.lemmas.List.{map-append}
-use Rattle.pipe_model.specs.Allowed.{IsRunning, Allowed}
-use Rattle.pipe_model.specs.Behaviour.{nodes_in, Accessed, Staged, Ended, accesses_in}
-use Rattle.pipe_model.specs.Columns.{at}
-use Rattle.pipe_model.specs.Pipeline.{Pipeline}
-use Rattle.pipe_model.specs.Races.{Among, Here}
-use Rattle.pipe_model.specs.Run.{Run, EmptyRun, RunThen}
-use Rattle.pipe_model.specs.SerialElision.{located, located_from}
-use Rattle.pipe_model.specs.State.{Frame, frame_at, State, update_frame, next_state, current_index, with_action, Running, fresh_frame}
-use Rattle.pipe_model.specs.State.{Pending, enter_pending, Completed, accesses_of}
+use Rattle.pipe_model.specs.Runs.Allowed.{IsRunning, Allowed}
+use Rattle.pipe_model.specs.Pipelines.Behaviour.{nodes_in, Accessed, Staged, Ended, accesses_in}
+use Rattle.pipe_model.specs.Races.Columns.{at}
+use Rattle.pipe_model.specs.Pipelines.Pipeline.{Pipeline}
+use Rattle.pipe_model.specs.Races.DeterminacyRaces.{Among, Here}
+use Rattle.pipe_model.specs.Runs.Run.{Run, EmptyRun, RunThen}
+use Rattle.pipe_model.specs.Pipelines.SerialElision.{located, located_from}
+use Rattle.pipe_model.specs.Runs.State.{Frame, frame_at, State, update_frame, next_state, current_index, with_action, Running, fresh_frame}
+use Rattle.pipe_model.specs.Runs.State.{Pending, enter_pending, Completed, accesses_of}
 use Rattle.pipe_model.specs.declared.access.Access.{Access as Cell_access}
 use Rattle.pipe_model.specs.declared.access.NodeAccess.{NodeAccess}
 use Rattle.pipe_model.specs.declared.event.Event.{Event}

@@ -1,12 +1,12 @@
 -- What every run keeps: sound frames, and accesses that its own instances made.
 use Rattle.std.proofs.Common.{ℕ, length, ◌<◌, Some, ◌≡◌, List, subst, sym, inl, ap, ◌∙◌, arith, inr, [], ◌∷◌, ◌++◌, ◌-◌, ◌+◌}
-use Rattle.pipe_model.specs.Allowed.{MayBegin, IsRunning, Allowed}
-use Rattle.pipe_model.specs.Behaviour.{accesses_in, Accessed}
-use Rattle.pipe_model.specs.Columns.{at}
-use Rattle.pipe_model.specs.Pipeline.{Pipeline}
-use Rattle.pipe_model.specs.Races.{Among, Here, IsRaceFree}
-use Rattle.pipe_model.specs.Run.{Run, EmptyRun, RunThen}
-use Rattle.pipe_model.specs.State.{State, Frame, own_columns, frame_at, next_state, fresh_frame, current_index, with_action, Running, initial_state}
+use Rattle.pipe_model.specs.Runs.Allowed.{MayBegin, IsRunning, Allowed}
+use Rattle.pipe_model.specs.Pipelines.Behaviour.{accesses_in, Accessed}
+use Rattle.pipe_model.specs.Races.Columns.{at}
+use Rattle.pipe_model.specs.Pipelines.Pipeline.{Pipeline}
+use Rattle.pipe_model.specs.Races.DeterminacyRaces.{Among, Here, IsRaceFree}
+use Rattle.pipe_model.specs.Runs.Run.{Run, EmptyRun, RunThen}
+use Rattle.pipe_model.specs.Runs.State.{State, Frame, own_columns, frame_at, next_state, fresh_frame, current_index, with_action, Running, initial_state}
 use Rattle.pipe_model.specs.declared.access.Access.{Access as Cell_access}
 use Rattle.pipe_model.specs.declared.access.NodeAccess.{NodeAccess}
 use Rattle.pipe_model.specs.declared.event.Event.{Event}
@@ -15,7 +15,7 @@ use Rattle.run_laws.proofs.Iterations.TraceParts.{accesses_in-append}
 use Rattle.run_laws.proofs.RunStates.FrameMoves.{IsSound, sound_moved, frame_at_moved, sound_begun, frame_at_begun, IsMove, moves_running}
 use Rattle.run_laws.proofs.RunStates.Frames.{nodes_at_frame}
 use Rattle.run_laws.proofs.RunStates.GrowingColumns.{extends_begun, extends_moved}
-use Rattle.run_laws.proofs.RunStates.LaterEdges.{HasInstance, columns_of_frames, Extends, no_race_before}
+use Rattle.run_laws.proofs.RunStates.LaterEdges.{HasInstance, columns_of_frames, ExtendsColumns, no_race_before}
 use Rattle.pipe_model.proofs.Members.{none_among, among_either, only_one, among_left, among_right}
 use Rattle.run_laws.proofs.RunStates.QuietEvents.{IsQuiet, instance_stays, quiet_extends, advance_is_quiet, enter_is_quiet, finish_is_quiet}
 
@@ -82,7 +82,7 @@ access_moves s i a r = moves_running s.frames i r.frame (Accessed a) r.runs
 
 -- an access extends the columns
 access_extends : (s : State) (i : ℕ) (a : Cell_access) → IsConsistent s → IsRunning s i
-    → Extends (own_columns s) (own_columns (next_state s (Access i a)))
+    → ExtendsColumns (own_columns s) (own_columns (next_state s (Access i a)))
 access_extends s i a k r =
     extends_moved s.frames i r.frame (with_action (Accessed a) Running) k.sound r.is (access_moves s i a r)
 
@@ -192,7 +192,7 @@ run_consistent {p} {limit} (RunThen {s = t} r e h) = consistent_after p limit t 
 
 -- no race after means no race before
 race_free_before : (s : State) (fs : List Frame) (all : List NodeAccess) → IsConsistent s
-    → Extends (own_columns s) (columns_of_frames fs) → ((a : NodeAccess) → Among a s.accesses → Among a all)
+    → ExtendsColumns (own_columns s) (columns_of_frames fs) → ((a : NodeAccess) → Among a s.accesses → Among a all)
     → IsRaceFree (columns_of_frames fs) all → IsRaceFree (own_columns s) s.accesses
 race_free_before s fs all k ext wide free =
     no_race_before (own_columns s) (columns_of_frames fs) s.accesses all ext wide k.located free

@@ -2,10 +2,10 @@
 use Rattle.std.proofs.Common.{List, ℕ, length, Some, ◌≡◌, ◌<◌, inl, inr, subst, arith, ◌+◌, suc, zero, ◌≤ℤ◌, ◌-◌, ◌<ℤ◌, ap}
 use Rattle.std.proofs.lemmas.Bool.{cases_lt}
 use Rattle.std.proofs.lemmas.Int.{ints}
-use Rattle.pipe_model.specs.Allowed.{HasPassed, ContinuesLoop}
-use Rattle.pipe_model.specs.Columns.{nodes_at, node_at}
-use Rattle.pipe_model.specs.Dag.{Edge, DownEdge, AcrossEdge, HeadCross, WaitCross, Precedes, ByEdge, ByPath, AreParallel}
-use Rattle.pipe_model.specs.State.{Frame, frame_at, Running}
+use Rattle.pipe_model.specs.Runs.Allowed.{HasPassed, ContinuesLoop}
+use Rattle.pipe_model.specs.Races.Columns.{nodes_at, node_at}
+use Rattle.pipe_model.specs.Races.Dag.{Edge, DownEdge, AcrossEdge, HeadCross, WaitCross, Precedes, ByEdge, ByPath, AreParallel}
+use Rattle.pipe_model.specs.Runs.State.{Frame, frame_at, Running}
 use Rattle.pipe_model.specs.declared.node.Kind.TheVariants.{Wait}
 use Rattle.pipe_model.specs.declared.node.Node.{Node}
 use Rattle.pipe_model.specs.declared.node.NodeId.{NodeId}

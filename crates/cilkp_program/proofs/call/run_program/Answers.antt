@@ -1,7 +1,7 @@
 use Rattle.std.proofs.Common.{ap, Some}
 use Rattle.language_laws.proofs.SpellablePrograms.{spelled_is_spellable}
 use Rattle.serial_elision.proofs.FirstForm.{plain_is_runnable}
-use Rattle.pipe_model.specs.SyntaxTree.{tree_of}
+use Rattle.pipe_model.specs.Language.SyntaxTree.{tree_of}
 use Rattle.cilkp_program.proofs.SerialDags.{outcome_of_run, told_accesses_inside, told_columns_are_few, told_columns_rise, told_log}
 use Rattle.cilkp_program.proofs.call.run_program.Goals as goal
 

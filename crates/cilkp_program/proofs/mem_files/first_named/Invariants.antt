@@ -1,5 +1,5 @@
 use Rattle.std.proofs.Common.{◌≡◌, drop}
-use Rattle.cilkp_program.specs.Stored.{content_of, named_bytes}
+use Rattle.cilkp_program.specs.MemoryFiles.{content_of, named_bytes}
 use Rattle.cilkp_program.proofs.mem_files.first_named.Given as goal
 
 abbrev pub invariant-loop-other : goal.invariant-loop-other

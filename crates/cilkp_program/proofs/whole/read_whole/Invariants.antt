@@ -1,5 +1,5 @@
 use Rattle.std.proofs.Common.{◌≡◌, ◌-◌, ◌+◌, length, IfSome}
-use Rattle.cilkp_program.specs.Wholes.{IsFrontOf}
+use Rattle.cilkp_program.specs.WholeFiles.{IsFrontOf}
 use Rattle.cilkp_program.proofs.whole.read_whole.Given as goal
 
 abbrev pub invariant-loop-part : goal.invariant-loop-part

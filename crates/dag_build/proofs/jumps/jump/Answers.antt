@@ -1,5 +1,5 @@
 use Rattle.std.proofs.Common.{◌≤◌, length, rules}
-use Rattle.pipe_model.specs.Columns.{nodes_at}
+use Rattle.pipe_model.specs.Races.Columns.{nodes_at}
 use Rattle.dag_build.proofs.Moves.{moves_past, table_at}
 use Rattle.dag_build.proofs.jumps.jump.Goals as goal
 

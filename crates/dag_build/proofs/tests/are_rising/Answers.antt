@@ -1,7 +1,7 @@
 use Rattle.std.proofs.Common.{◌≡◌, ◌<◌, ◌∙◌, [], ap, arith, below_more, length, sym}
 use Rattle.std.proofs.lemmas.List.{get_or-map}
 use Rattle.pipe_model.specs.declared.column.Column.{Column}
-use Rattle.pipe_model.specs.Columns.{nodes_at}
+use Rattle.pipe_model.specs.Races.Columns.{nodes_at}
 use Rattle.dag_build.specs.NodeColumns.{node_columns}
 use Rattle.dag_build.proofs.tests.are_rising.Goals as goal
 

@@ -1,5 +1,5 @@
 use Rattle.std.proofs.Common.{ℕ, ◌<◌}
-use Rattle.pipe_model.specs.Columns.{nodes_at, IsRising}
+use Rattle.pipe_model.specs.Races.Columns.{nodes_at, IsRising}
 use Rattle.dag_build.specs.NodeColumns.{node_columns}
 use Rattle.dag_build.proofs.tests.are_rising.Given as goal
 

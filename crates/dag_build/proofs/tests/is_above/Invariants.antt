@@ -1,5 +1,5 @@
 use Rattle.std.proofs.Common.{ℕ, ◌<◌, ◌<ℤ◌}
-use Rattle.pipe_model.specs.Columns.{node_at}
+use Rattle.pipe_model.specs.Races.Columns.{node_at}
 use Rattle.dag_build.proofs.tests.is_above.Given as goal
 
 abbrev pub invariant-loop-j : goal.invariant-loop-j

@@ -1,11 +1,11 @@
 use Rattle.std.proofs.Common.{refl, [], ◌∷◌}
 use Rattle.std.specs.Prelude.{codes}
-use Rattle.pipe_model.specs.Grammar.{LetIs, Tighter, Named, Single, FullExpression}
-use Rattle.pipe_model.specs.Tokens.{Blank, Taken, Stops}
-use Rattle.pipe_model.specs.Words.{word_let, equals, semicolon}
+use Rattle.pipe_model.specs.Language.Grammar.{LetIs, Tighter, Named, Single, FullExpression}
+use Rattle.pipe_model.specs.Language.Tokens.{Blank, Taken, Stops}
+use Rattle.pipe_model.specs.Language.Words.{word_let, equals, semicolon}
 use Rattle.pipe_model.specs.declared.symbol.Symbol.TheVariants as symbols
-use Rattle.pipe_model.proofs.WrittenTokens.{word_token, spaced_token, closed_token}
-use Rattle.language_laws.specs.Examples.{n, t}
+use Rattle.grammar_laws.proofs.WrittenTokens.{word_token, spaced_token, closed_token}
+use Rattle.language_laws.specs.LanguageExamples.{n, t}
 use Rattle.language_laws.proofs.examples.let_is_spelled.Goals as goal
 
 pub returns : goal.returns

@@ -1,4 +1,4 @@
-use Rattle.pipe_model.proofs.SourceRefusals.{refused_not_accepted}
+use Rattle.grammar_laws.proofs.SourceRefusals.{refused_not_accepted}
 use Rattle.language_laws.proofs.refusals.refused_sources_are_not_accepted.Goals as goal
 
 pub returns : goal.returns

@@ -1,4 +1,4 @@
-use Rattle.pipe_model.proofs.SourceRefusals.{one_refusal}
+use Rattle.grammar_laws.proofs.SourceRefusals.{one_refusal}
 use Rattle.language_laws.proofs.refusals.sources_have_one_refusal.Goals as goal
 
 pub returns : goal.returns

@@ -1,6 +1,6 @@
 use Rattle.std.proofs.Common.{rules, ◌≡◌, ◌∙◌, ap, length, Ok, Err}
 use Rattle.std.proofs.lemmas.Result.{err_from_is_err_and}
-use Rattle.pipe_model.specs.SyntaxTree.{tree_of}
+use Rattle.pipe_model.specs.Language.SyntaxTree.{tree_of}
 use Rattle.pipe_check.proofs.Regions.{few_cells, cells_fail, at_init, init_fits, init_fails, at_test, test_fits, test_fails, at_body, body_fits, body_fails, at_last}
 use Rattle.pipe_check.proofs.program.check_marks.Goals as goal
 

@@ -1,8 +1,8 @@
 use Rattle.std.proofs.Common.{◌≡◌, ◌<◌, ◌∙◌, sym, ap, arith, length}
 use Rattle.std.proofs.lemmas.Result.{err_from_is_err_and, on_ok_weaker}
-use Rattle.pipe_model.specs.Marks.{after_statements}
-use Rattle.pipe_model.specs.SpellablePrograms.{statement_count, statement_counts}
-use Rattle.pipe_model.specs.SyntaxTree.{expression_of, statement_of, statements_of}
+use Rattle.pipe_model.specs.Language.Marks.{after_statements}
+use Rattle.pipe_model.specs.Language.SpellablePrograms.{statement_count, statement_counts}
+use Rattle.pipe_model.specs.Language.SyntaxTree.{expression_of, statement_of, statements_of}
 use Rattle.pipe_model.proofs.NestedBlocks.{if_seen, while_seen}
 use Rattle.pipe_check.proofs.Statements.{none_left, block_refused, statement_fits, one_counts, statement_passed, block_left, test_refused, first_refused, second_decides, first_fits, second_fits, branch_left, loop_refused, body_decides, body_fits, loop_left}
 use Rattle.pipe_check.proofs.statement.+walk.Goals as goal

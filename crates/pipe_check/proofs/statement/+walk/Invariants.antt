@@ -1,8 +1,8 @@
 use Rattle.std.proofs.Common.{◌≡◌, ◌+◌, ◌*◌, length, drop}
-use Rattle.pipe_model.specs.CheckingRules.{first_fault}
-use Rattle.pipe_model.specs.Marks.{after_statements, marks_of_statements}
-use Rattle.pipe_model.specs.SpellablePrograms.{statement_count, statement_counts}
-use Rattle.pipe_model.specs.SyntaxTree.{statement_of, statements_of}
+use Rattle.pipe_model.specs.Language.CheckingRules.{first_fault}
+use Rattle.pipe_model.specs.Language.Marks.{after_statements, marks_of_statements}
+use Rattle.pipe_model.specs.Language.SpellablePrograms.{statement_count, statement_counts}
+use Rattle.pipe_model.specs.Language.SyntaxTree.{statement_of, statements_of}
 use Rattle.pipe_check.proofs.statement.+walk.Given as goal
 
 abbrev pub decreases-check_block : goal.decreases-check_block

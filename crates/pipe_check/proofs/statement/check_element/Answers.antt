@@ -1,5 +1,5 @@
 use Rattle.std.proofs.lemmas.Result.{err_from_is_err_and}
-use Rattle.pipe_model.specs.SyntaxTree.{expression_of}
+use Rattle.pipe_model.specs.Language.SyntaxTree.{expression_of}
 use Rattle.pipe_check.proofs.Elements.{index_refused, value_decides}
 use Rattle.pipe_check.proofs.statement.check_element.Goals as goal
 

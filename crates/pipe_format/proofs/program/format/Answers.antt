@@ -1,7 +1,7 @@
 use Rattle.std.proofs.Common.{◌≡◌, arith}
 use Rattle.std.proofs.lemmas.Grind.{common_steps}
-use Rattle.pipe_model.specs.CanonicalText.{program_text}
-use Rattle.pipe_model.specs.SyntaxTree.{tree_of}
+use Rattle.pipe_model.specs.Language.CanonicalText.{program_text}
+use Rattle.pipe_model.specs.Language.SyntaxTree.{tree_of}
 use Rattle.pipe_format.proofs.Spelled.{spells_as_sources}
 use Rattle.pipe_format.proofs.program.format.Goals as goal
 

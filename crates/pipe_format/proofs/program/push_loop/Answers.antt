@@ -1,4 +1,4 @@
-use Rattle.pipe_model.specs.SyntaxTree.{expression_of, statements_of}
+use Rattle.pipe_model.specs.Language.SyntaxTree.{expression_of, statements_of}
 use Rattle.pipe_format.proofs.Lines.{on_ok}
 use Rattle.pipe_format.proofs.Parts.{loop_by_parts}
 use Rattle.pipe_format.proofs.program.push_loop.Goals as goal

@@ -1,6 +1,6 @@
 use Rattle.std.proofs.Common.{rules, ◌≡◌, ◌∙◌, ◌+◌, ◌++◌, length, vec_len}
-use Rattle.pipe_model.specs.CanonicalText.{else_text, statements_text}
-use Rattle.pipe_model.specs.SyntaxTree.{If, While, expression_of, statement_of, statements_of}
+use Rattle.pipe_model.specs.Language.CanonicalText.{else_text, statements_text}
+use Rattle.pipe_model.specs.Language.SyntaxTree.{If, While, expression_of, statement_of, statements_of}
 use Rattle.pipe_model.proofs.NestedBlocks.{if_seen, while_seen}
 use Rattle.pipe_format.proofs.Lines.{on_ok, while_by_parts, if_by_parts, else_by_parts, no_else, has_some, has_none}
 use Rattle.pipe_format.proofs.statement.+block.Goals as goal

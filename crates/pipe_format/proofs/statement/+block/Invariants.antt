@@ -1,6 +1,6 @@
 use Rattle.std.proofs.Common.{◌≡◌, ◌++◌, drop}
-use Rattle.pipe_model.specs.CanonicalText.{statements_text}
-use Rattle.pipe_model.specs.SyntaxTree.{statements_of}
+use Rattle.pipe_model.specs.Language.CanonicalText.{statements_text}
+use Rattle.pipe_model.specs.Language.SyntaxTree.{statements_of}
 use Rattle.pipe_format.proofs.statement.+block.Given as goal
 
 abbrev pub invariant-push_block-loop-s : goal.invariant-push_block-loop-s

@@ -1,5 +1,5 @@
 use Rattle.std.proofs.Common.{◌≡◌, ◌<◌, ◌^◌, take}
-use Rattle.pipe_model.specs.Lexis.{number_of}
+use Rattle.pipe_model.specs.Language.Lexis.{number_of}
 use Rattle.pipe_lexer.proofs.number.number_value.Given as goal
 
 abbrev pub invariant-loop-digit : goal.invariant-loop-digit

@@ -1,6 +1,6 @@
 use Rattle.std.proofs.Common.{◌≡◌, rules, arith, [], ◌++◌, ◌-◌, length, length-drop, take, drop}
 use Rattle.std.proofs.lemmas.List.{take_all, nil_from_length}
-use Rattle.pipe_model.specs.Tokens.{IsTooLong}
+use Rattle.pipe_model.specs.Language.Tokens.{IsTooLong}
 use Rattle.pipe_lexer.specs.Pieces.{tokens_of, IsFlaw, IsPiece}
 use Rattle.pipe_lexer.proofs.ScanLaws.{at_end, at_flaw, past_piece}
 use Rattle.pipe_lexer.proofs.scan.tokens.Goals as goal

@@ -1,6 +1,6 @@
 use Rattle.std.proofs.Common.{◌≡◌, sym, rules, false, true, [], get_or, below_more, arith}
 use Rattle.std.specs.Str.{bytes_eq}
-use Rattle.pipe_model.specs.Lexis.{reserved_words}
+use Rattle.pipe_model.specs.Language.Lexis.{reserved_words}
 use Rattle.pipe_lexer.proofs.FirstPlace.{position_is, position_is_none}
 use Rattle.pipe_lexer.proofs.words.reserved_place.Goals as goal
 

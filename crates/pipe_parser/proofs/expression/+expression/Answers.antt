@@ -3,9 +3,9 @@ use mir.Val.{SFits}
 use Rattle.std.proofs.lemmas.Result.{err_from_is_err_and}
 use Rattle.std.proofs.lemmas.Int.{to_z-of_z}
 use Rattle.pipe_model.specs.declared.symbol.Symbol.TheVariants as terminals
-use Rattle.pipe_model.specs.Reading.{Reads, ReadsChain, Ends}
-use Rattle.pipe_model.specs.Grammar.{rank_of}
-use Rattle.pipe_model.specs.SyntaxTree.{expression_of}
+use Rattle.grammar_laws.specs.Reading.{Reads, ReadsChain, Ends}
+use Rattle.pipe_model.specs.Language.Grammar.{rank_of}
+use Rattle.pipe_model.specs.Language.SyntaxTree.{expression_of}
 use Rattle.pipe_parser.proofs.ExpressionFronts.{fault_chained, fault_closed, joins, passes_join, name_read, element_read, number_read, more_read, take_read, iter_read, negative_read, not_read, bracket_read}
 use Rattle.pipe_parser.proofs.Results.{if_ok, if_err}
 use Rattle.pipe_parser.proofs.expression.+expression.Goals as goal

@@ -1,8 +1,8 @@
 use Rattle.std.proofs.Common.{length, ◌+◌, ◌*◌, ◌≤◌, ◌≡◌, List, ◌∷◌}
 use Rattle.pipe_model.specs.declared.symbol.Symbol.{Symbol}
-use Rattle.pipe_model.specs.ExpressionMachine.{Want, Tail, ending}
-use Rattle.pipe_model.specs.SyntaxTree.{Expression, expression_of}
-use Rattle.pipe_model.specs.Reading.{Extends}
+use Rattle.grammar_laws.specs.ExpressionMachine.{Want, Tail, ending}
+use Rattle.pipe_model.specs.Language.SyntaxTree.{Expression, expression_of}
+use Rattle.grammar_laws.specs.Reading.{Extends}
 use Rattle.pipe_parser.proofs.expression.+expression.Given as goal
 
 abbrev pub decreases-extend : goal.decreases-extend

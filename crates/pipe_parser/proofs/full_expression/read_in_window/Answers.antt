@@ -1,6 +1,6 @@
 use Rattle.std.proofs.Common.{◌≡◌, ◌∙◌, ap, sym, ◌-◌, ◌<◌, length, arith, length-drop}
 use Rattle.std.proofs.lemmas.List.{length-take-le}
-use Rattle.pipe_model.specs.ExpressionMachine.{IsStuck}
+use Rattle.grammar_laws.specs.ExpressionMachine.{IsStuck}
 use Rattle.pipe_parser.specs.ExpressionFaults.{whole}
 use Rattle.pipe_parser.proofs.FullExpressions.{window_read, window_stuck, stuck_within, stuck_in_window, read_in_window}
 use Rattle.pipe_parser.proofs.full_expression.read_in_window.Goals as goal

@@ -1,5 +1,5 @@
 use Rattle.std.proofs.Common.{◌≡◌, ◌++◌, drop}
-use Rattle.pipe_model.specs.MarkPlaces.{mark_places}
+use Rattle.pipe_model.specs.Language.MarkPlaces.{mark_places}
 use Rattle.pipe_parser.proofs.parse.places_of_marks.Given as goal
 
 abbrev pub invariant-loop-token : goal.invariant-loop-token

@@ -1,5 +1,5 @@
 use Rattle.std.proofs.Common.{◌≡◌, arith}
-use Rattle.pipe_model.specs.ProgramMachine.{Outside, Unexpected, TooLong, judge, program}
+use Rattle.grammar_laws.specs.ProgramMachine.{Outside, Unexpected, TooLong, judge, program}
 use Rattle.pipe_parser.proofs.Parses.{spelled, unexpected_within, too_long_within, shallow_unexpected, shallow_too_long}
 use Rattle.pipe_parser.proofs.parse.read_shallow.Goals as goal
 

@@ -1,5 +1,5 @@
 use Rattle.std.proofs.Common.{rules, ◌≡◌, ◌≢◌, ◌<◌, arith, take}
-use Rattle.pipe_model.specs.ProgramMachine.{Outside, Unexpected, TooLong, judge, program}
+use Rattle.grammar_laws.specs.ProgramMachine.{Outside, Unexpected, TooLong, judge, program}
 use Rattle.pipe_parser.proofs.Parses.{cut_within, cut_long_within, cut_unexpected, cut_too_long, cut_too_deep, cut_read}
 use Rattle.pipe_parser.proofs.parse.refusal_up_to.Goals as goal
 

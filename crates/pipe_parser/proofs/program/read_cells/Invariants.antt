@@ -1,8 +1,8 @@
 use Rattle.std.proofs.Common.{◌≡◌, List, ◌∷◌, ◌++◌, length}
 use Rattle.pipe_model.specs.declared.symbol.Symbol.{Symbol}
 use Rattle.pipe_model.specs.declared.tree.Declaration.{Declaration}
-use Rattle.pipe_model.specs.ProgramMachine.{Want, Cells, Outside, judge}
-use Rattle.pipe_model.specs.Reading.{ReadsCells}
+use Rattle.grammar_laws.specs.ProgramMachine.{Want, Cells, Outside, judge}
+use Rattle.grammar_laws.specs.Reading.{ReadsCells}
 use Rattle.pipe_parser.proofs.program.read_cells.Given as goal
 
 -- whatever is read from the rest comes behind what was found

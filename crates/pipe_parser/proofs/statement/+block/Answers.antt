@@ -1,9 +1,9 @@
 use Rattle.std.proofs.Common.{rules, ◌≡◌, ◌∙◌, [], ◌∷◌, ◌++◌, arith}
 use Rattle.std.proofs.lemmas.Result.{err_from_is_err_and}
 use Rattle.pipe_model.specs.declared.symbol.Symbol.TheVariants as terminals
-use Rattle.pipe_model.specs.Reading.{ReadsOneMore}
+use Rattle.grammar_laws.specs.Reading.{ReadsOneMore}
 use Rattle.pipe_model.proofs.NestedBlocks.{if_seen, while_seen}
-use Rattle.pipe_model.proofs.ProgramPassing.{passes_statement}
+use Rattle.grammar_laws.proofs.ProgramPassing.{passes_statement}
 use Rattle.pipe_parser.proofs.Results.{if_ok}
 use Rattle.pipe_parser.proofs.StatementFronts.{before_one, block_read, fault_body, fault_then, fault_else, wait_read, continue_read, while_read, if_read, part_read, part_missing}
 use Rattle.pipe_parser.proofs.statement.+block.Goals as goal

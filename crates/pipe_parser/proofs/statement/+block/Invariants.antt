@@ -1,9 +1,9 @@
 use Rattle.std.proofs.Common.{length, ◌+◌, ◌*◌, ◌≤◌, ◌≡◌, List, ◌∷◌}
 use Rattle.pipe_model.specs.declared.symbol.Symbol.{Symbol}
-use Rattle.pipe_model.specs.ProgramMachine as machine
-use Rattle.pipe_model.specs.ProgramMachine.{Want, Outside, judge}
-use Rattle.pipe_model.specs.SyntaxTree.{Statements}
-use Rattle.pipe_model.specs.Reading.{ReadsStatements}
+use Rattle.grammar_laws.specs.ProgramMachine as machine
+use Rattle.grammar_laws.specs.ProgramMachine.{Want, Outside, judge}
+use Rattle.pipe_model.specs.Language.SyntaxTree.{Statements}
+use Rattle.grammar_laws.specs.Reading.{ReadsStatements}
 use Rattle.pipe_parser.proofs.StatementFronts.{before}
 use Rattle.pipe_parser.proofs.statement.+block.Given as goal
 

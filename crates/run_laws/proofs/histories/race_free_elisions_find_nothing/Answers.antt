@@ -1,4 +1,4 @@
-use Rattle.run_laws.proofs.RaceHistories.CellRaces.{race_free_elisions_find_nothing}
+use Rattle.run_laws.proofs.RaceHistories.SilentHistories.{race_free_elisions_find_nothing}
 use Rattle.run_laws.proofs.histories.race_free_elisions_find_nothing.Goals as goal
 
 pub returns : goal.returns

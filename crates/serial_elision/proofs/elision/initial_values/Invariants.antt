@@ -1,5 +1,5 @@
 use Rattle.std.proofs.Common.{◌≡◌, ◌∷◌, pos, take}
-use Rattle.pipe_model.specs.Programs.{declared_values}
+use Rattle.pipe_model.specs.Language.Programs.{declared_values}
 use Rattle.serial_elision.proofs.elision.initial_values.Given as goal
 
 abbrev pub invariant-loop-declaration : goal.invariant-loop-declaration

@@ -1,6 +1,6 @@
 use Rattle.std.proofs.lemmas.Result.{err_from_is_err_and}
-use Rattle.pipe_model.specs.SyntaxTree.{statements_of}
-use Rattle.serial_elision.specs.Answers.{environment_of, setting_at}
+use Rattle.pipe_model.specs.Language.SyntaxTree.{statements_of}
+use Rattle.serial_elision.specs.TreeResults.{environment_of, setting_at}
 use Rattle.serial_elision.proofs.Iterations.{body_breaks, body_ends}
 use Rattle.serial_elision.proofs.elision.run_body.Goals as goal
 

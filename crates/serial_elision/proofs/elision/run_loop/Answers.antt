@@ -1,7 +1,7 @@
 use Rattle.std.proofs.Common.{◌≡◌, ◌∙◌, ◌+◌, ◌-◌, ◌∷◌, [], ap, refl, sym, arith, suc, true, false}
 use Rattle.std.specs.Option.{option_or}
-use Rattle.pipe_model.specs.Programs.{pipeline_of}
-use Rattle.pipe_model.specs.SyntaxTree.{tree_of}
+use Rattle.pipe_model.specs.Language.Programs.{pipeline_of}
+use Rattle.pipe_model.specs.Language.SyntaxTree.{tree_of}
 use Rattle.serial_elision.specs.Elided.{is_last}
 use Rattle.serial_elision.specs.ElisionState.{ElisionState, first_node}
 use Rattle.serial_elision.proofs.Elided.{is_iteration, elided_push, elided_end}

@@ -1,6 +1,6 @@
 use Rattle.std.proofs.Common.{◌≡◌, ◌-◌, ◌+◌}
-use Rattle.pipe_model.specs.Programs.{pipeline_of}
-use Rattle.pipe_model.specs.SyntaxTree.{tree_of}
+use Rattle.pipe_model.specs.Language.Programs.{pipeline_of}
+use Rattle.pipe_model.specs.Language.SyntaxTree.{tree_of}
 use Rattle.serial_elision.specs.Elided.{AreElided}
 use Rattle.serial_elision.proofs.elision.run_loop.Given as goal
 

@@ -2,8 +2,8 @@ use Rattle.std.proofs.Common.{rules, w64}
 use mir.Val.{SFits}
 use Rattle.std.proofs.lemmas.Int.{to_z-of_z}
 use Rattle.std.proofs.lemmas.Result.{err_from_is_err_and}
-use Rattle.pipe_model.specs.SyntaxTree.{expression_of, statements_of}
-use Rattle.serial_elision.specs.Answers.{setting_at}
+use Rattle.pipe_model.specs.Language.SyntaxTree.{expression_of, statements_of}
+use Rattle.serial_elision.specs.TreeResults.{setting_at}
 use Rattle.serial_elision.proofs.Iterations.{test_breaks, test_gives}
 use Rattle.serial_elision.proofs.elision.run_whole.Goals as goal
 

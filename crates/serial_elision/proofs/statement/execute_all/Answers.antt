@@ -1,6 +1,6 @@
 use Rattle.std.proofs.Common.{◌<◌, ◌∙◌, sym, arith, length}
 use Rattle.std.proofs.lemmas.Result.{err_from_is_err_and}
-use Rattle.serial_elision.specs.Answers.{environment_of, setting_at}
+use Rattle.serial_elision.specs.TreeResults.{environment_of, setting_at}
 use Rattle.serial_elision.proofs.Statements.{runnable_step, statement_step, statement_breaks}
 use Rattle.serial_elision.proofs.statement.execute_all.Goals as goal
 

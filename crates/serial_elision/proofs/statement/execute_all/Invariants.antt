@@ -1,7 +1,7 @@
 use Rattle.std.proofs.Common.{◌≡◌, drop}
-use Rattle.pipe_model.specs.Evaluation.{execute_all}
-use Rattle.pipe_model.specs.SyntaxTree.{statements_of}
-use Rattle.serial_elision.specs.Answers.{environment_of, setting_at}
+use Rattle.pipe_model.specs.Language.Evaluation.{execute_all}
+use Rattle.pipe_model.specs.Language.SyntaxTree.{statements_of}
+use Rattle.serial_elision.specs.TreeResults.{environment_of, setting_at}
 use Rattle.serial_elision.specs.ElisionState.{perform}
 use Rattle.serial_elision.specs.Runnable.{AreRunnable}
 use Rattle.serial_elision.proofs.statement.execute_all.Given as goal

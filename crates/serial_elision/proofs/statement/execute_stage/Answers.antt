@@ -2,8 +2,8 @@ use Rattle.std.proofs.Common.{◌≡◌, ◌∙◌, ap, rules, w64}
 use mir.Val.{SFits}
 use Rattle.std.proofs.lemmas.Int.{to_z-of_z}
 use Rattle.std.proofs.lemmas.Result.{err_from_is_err_and}
-use Rattle.pipe_model.specs.SyntaxTree.{expression_of, stage_statement, Stage}
-use Rattle.serial_elision.specs.Answers.{setting_at}
+use Rattle.pipe_model.specs.Language.SyntaxTree.{expression_of, stage_statement, Stage}
+use Rattle.serial_elision.specs.TreeResults.{setting_at}
 use Rattle.serial_elision.specs.ElisionState.{Basis}
 use Rattle.serial_elision.proofs.Statements.{stage_left, stage_next}
 use Rattle.serial_elision.proofs.statement.execute_stage.Goals as goal

@@ -1,5 +1,5 @@
 use Rattle.std.proofs.Common.{◌≡◌, ◌+◌, drop}
-use Rattle.pipe_model.specs.Programs.{range_of}
+use Rattle.pipe_model.specs.Language.Programs.{range_of}
 use Rattle.serial_elision.proofs.value.cell_of.Given as goal
 
 abbrev pub invariant-loop-declaration : goal.invariant-loop-declaration

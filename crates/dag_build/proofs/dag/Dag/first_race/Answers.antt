@@ -1,7 +1,7 @@
 use Rattle.std.proofs.Common.{◌≡◌, ◌<◌, arith, rules, inl, inr, length, subst}
 use Rattle.std.proofs.lemmas.Bool.{cases_lt}
-use Rattle.pipe_model.specs.CellRaces.{RacesAt}
-use Rattle.dag_build.specs.CellRaces.{noted_all}
+use Rattle.pipe_model.specs.Races.CellRaces.{RacesAt}
+use Rattle.dag_build.specs.RacingAccesses.{noted_all}
 use Rattle.dag_build.proofs.FrontLaws.{fronts_moved, fronts_grown, joined_fronts-column}
 use Rattle.dag_build.proofs.dag.Dag.first_race.Goals as goal
 

@@ -1,7 +1,7 @@
 use Rattle.std.proofs.Common.{ℕ, ◌<◌, length}
-use Rattle.pipe_model.specs.CellRaces.{RacesAt}
+use Rattle.pipe_model.specs.Races.CellRaces.{RacesAt}
 use Rattle.dag_build.specs.AccessFronts.{AreFronts}
-use Rattle.dag_build.specs.CellRaces.{noted_all}
+use Rattle.dag_build.specs.RacingAccesses.{noted_all}
 use Rattle.dag_build.proofs.dag.Dag.first_race.Given as goal
 
 abbrev pub invariant-loop-later : goal.invariant-loop-later

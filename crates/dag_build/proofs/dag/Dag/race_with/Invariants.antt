@@ -1,6 +1,6 @@
 use Rattle.std.proofs.Common.{ℕ, ◌<◌}
-use Rattle.pipe_model.specs.CellRaces.{RacesAt}
-use Rattle.dag_build.specs.CellRaces.{noted_all}
+use Rattle.pipe_model.specs.Races.CellRaces.{RacesAt}
+use Rattle.dag_build.specs.RacingAccesses.{noted_all}
 use Rattle.dag_build.proofs.dag.Dag.race_with.Given as goal
 
 abbrev pub invariant-loop-earlier : goal.invariant-loop-earlier

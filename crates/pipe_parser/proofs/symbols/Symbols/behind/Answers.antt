@@ -1,6 +1,6 @@
 use Rattle.std.proofs.Common.{◌∙◌, ap, sym, map, drop}
 use Rattle.std.proofs.lemmas.List.{drop-map}
-use Rattle.pipe_model.specs.Tokens.{symbol_in}
+use Rattle.pipe_model.specs.Language.Tokens.{symbol_in}
 use Rattle.pipe_parser.proofs.symbols.Symbols.behind.Goals as goal
 
 pub returns : goal.returns

@@ -1,6 +1,6 @@
 use Rattle.std.proofs.Common.{◌∙◌, ap, sym, map, take}
 use Rattle.std.proofs.lemmas.List.{take-map}
-use Rattle.pipe_model.specs.Tokens.{symbol_in}
+use Rattle.pipe_model.specs.Language.Tokens.{symbol_in}
 use Rattle.pipe_parser.proofs.symbols.Symbols.front.Goals as goal
 
 pub returns : goal.returns

@@ -1,6 +1,6 @@
 use Rattle.std.proofs.Common.{◌≡◌, drop}
-use Rattle.pipe_model.specs.Evaluation.{local_value}
-use Rattle.serial_elision.specs.Scope.{values_of}
+use Rattle.pipe_model.specs.Language.Evaluation.{local_value}
+use Rattle.serial_elision.specs.LocalValues.{values_of}
 use Rattle.serial_elision.proofs.locals.Locals.value.Given as goal
 
 abbrev pub invariant-loop-local : goal.invariant-loop-local

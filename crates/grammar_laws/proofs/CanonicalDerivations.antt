@@ -1,0 +1,163 @@
+-- The pieces of the canonical text derive the program.
+use Rattle.std.proofs.Common.{◌≡◌, ℕ, zero, suc, ◌+◌, ◌-◌, ◌≤◌, ℤ, pos, negsuc, List, [], ◌∷◌, ◌++◌, refl, sym, arith, subst, Bool, true, false, nat_le, if◌then◌else◌, inl, inr, ◌⊎◌, Option, Some, None, ◌==◌}
+use Rattle.std.proofs.lemmas.Bool.Decides.{nat_tests}
+use Rattle.pipe_model.specs.declared.node.Kind.{Kind}
+use Rattle.pipe_model.specs.declared.node.Kind.TheVariants as kinds
+use Rattle.pipe_model.specs.declared.symbol.Symbol.{Symbol}
+use Rattle.pipe_model.specs.declared.symbol.Symbol.TheVariants as symbols
+use Rattle.pipe_model.specs.declared.tree.Declaration.{Declaration}
+use Rattle.grammar_laws.proofs.CanonicalSymbols.{one_place_symbol, symbols_at_level, two_place_symbols, expression_symbols, part_pieces, statement_pieces, statements_pieces, size_pieces, value_pieces, cells_pieces, program_pieces, IsWritable, IsWritableStatement, AreWritable, IsWritableProgram}
+use Rattle.pipe_model.specs.Language.CanonicalText.{level_in}
+use Rattle.pipe_model.specs.Language.SyntaxTree.{Expression, Number, Name, Element, And, Or, Binary, Unary, More, Take, Iter, binary_expression, Statement, Let, Assign, AssignElement, Emit, If, While, Stage, NextStage, Statements, Empty, Then, SyntaxTree}
+use Rattle.pipe_model.specs.Language.Grammar.{level_of, Derives, Numeral, Named, Indexed, CallsMore, CallsTake, CallsIter, Negative, Not, Bracketed, Tighter, Joined, Piece, DerivesStatement, LetIs, AssignIs, AssignElementIs, EmitIs, IfIs, WhileIs, WaitIs, WaitNextIs, ContinueIs, ContinueNextIs, DerivesStatements, NoStatement, OneMore, BlockIs, DerivesPart, NoPart, PartIs, DerivesSize, NoSize, SizeIs, DerivesValue, ValueIs, NegativeValueIs, DerivesCells, NoCell, CellIs, DerivesProgram, ProgramIs}
+
+-- ---- expressions
+
+-- from a rank to a looser one
+up : (more : ℕ) {rank : ℕ} {ts : List Symbol} {e : Expression} (to : ℕ) → to - rank ≡ more → rank ≤ to → Derives rank ts e → Derives to ts e
+up zero {rank} {ts} {e} to h l d = subst (λ r. Derives r ts e) (omega (arith, h, l)) d
+up (suc more) {rank} {ts} {e} to h l d = up more to (omega (arith, h)) (omega (arith, h)) (Tighter d)
+
+pub looser : {rank : ℕ} {ts : List Symbol} {e : Expression} (to : ℕ) → rank ≤ to → Derives rank ts e → Derives to ts e
+looser {rank} to l d = up (to - rank) to refl l d
+
+-- the levels of the operators that stand as such in a tree
+level_between : (code : ℕ) → 1 ≤ code → code ≤ 13 → (1 ≤ level_of code) × (level_of code ≤ 6)
+level_between zero l h = absurd (omega (arith, l))
+level_between (suc zero) l h = (omega arith, omega arith)
+level_between (suc (suc zero)) l h = (omega arith, omega arith)
+level_between (suc (suc (suc zero))) l h = (omega arith, omega arith)
+level_between (suc (suc (suc (suc zero)))) l h = (omega arith, omega arith)
+level_between (suc (suc (suc (suc (suc zero))))) l h = (omega arith, omega arith)
+level_between (suc (suc (suc (suc (suc (suc zero)))))) l h = (omega arith, omega arith)
+level_between (suc (suc (suc (suc (suc (suc (suc zero))))))) l h = (omega arith, omega arith)
+level_between (suc (suc (suc (suc (suc (suc (suc (suc zero)))))))) l h = (omega arith, omega arith)
+level_between (suc (suc (suc (suc (suc (suc (suc (suc (suc zero))))))))) l h = (omega arith, omega arith)
+level_between (suc (suc (suc (suc (suc (suc (suc (suc (suc (suc zero)))))))))) l h = (omega arith, omega arith)
+level_between (suc (suc (suc (suc (suc (suc (suc (suc (suc (suc (suc zero))))))))))) l h = (omega arith, omega arith)
+level_between (suc (suc (suc (suc (suc (suc (suc (suc (suc (suc (suc (suc zero)))))))))))) l h = (omega arith, omega arith)
+level_between (suc (suc (suc (suc (suc (suc (suc (suc (suc (suc (suc (suc (suc zero))))))))))))) l h = (omega arith, omega arith)
+level_between (suc (suc (suc (suc (suc (suc (suc (suc (suc (suc (suc (suc (suc (suc n)))))))))))))) l h = absurd (omega (arith, h))
+
+-- an expression's level is from 1 to 7
+pub level_bounds : (e : Expression) → IsWritable e → (1 ≤ level_in e) × (level_in e ≤ 7)
+level_bounds (Number n) h = (omega arith, omega arith)
+level_bounds (Name x) h = (omega arith, omega arith)
+level_bounds (Element x i) h = (omega arith, omega arith)
+level_bounds (Or a b) h = (omega arith, omega arith)
+level_bounds (And a b) h = (omega arith, omega arith)
+level_bounds (Binary code a b) h = let l = level_between code (omega (arith, h.0)) h.1 in (l.0, omega (arith, l.1))
+level_bounds (Unary code a) h = (omega arith, omega arith)
+level_bounds More h = (omega arith, omega arith)
+level_bounds Take h = (omega arith, omega arith)
+level_bounds Iter h = (omega arith, omega arith)
+
+bracketed_by : (b : Bool) (needed own : ℕ) (e : Expression) (ts : List Symbol) → (b ≡ true → needed ≤ own) → 1 ≤ own → Derives (7 - own) ts e
+    → Derives (7 - needed) (if b then ts else symbols.Sign 40 ∷ (ts ++ symbols.Sign 41 ∷ [])) e
+bracketed_by true needed own e ts h l d = looser (7 - needed) (let k = h refl in omega (arith, k)) d
+bracketed_by false needed own e ts h l d = looser (7 - needed) (omega arith) (Bracketed (looser 6 (omega (arith, l)) d))
+
+-- symbols where a level is needed
+at_level_derives : (needed own : ℕ) (e : Expression) (ts : List Symbol) → 1 ≤ own → Derives (7 - own) ts e → Derives (7 - needed) (symbols_at_level needed own ts) e
+at_level_derives needed own e ts l d = bracketed_by (nat_le needed own) needed own e ts (λ h. grind (arith, nat_tests, h)) l d
+
+one_place : (code : ℕ) (e : Expression) (ts : List Symbol) → ((code ≡ 1) ⊎ (code ≡ 2)) → Derives 0 ts e → Derives 0 (one_place_symbol code ∷ ts) (Unary code e)
+one_place code e ts (inl h) d = rw h (Negative d)
+one_place code e ts (inr h) d = rw h (Not d)
+
+two_place : (code : ℕ) (a b : Expression) (left right : List Symbol) → 1 ≤ level_of code → level_of code ≤ 6 → 1 ≤ level_in a → 1 ≤ level_in b
+    → Derives (7 - level_in a) left a → Derives (7 - level_in b) right b
+    → Derives (7 - level_of code) (two_place_symbols code (level_in a) (level_in b) left right) (binary_expression code a b)
+two_place code a b left right low high la lb d d' =
+    let rank : suc (7 - (level_of code + 1)) ≡ 7 - level_of code = omega (arith, low, high) in
+    let l = at_level_derives (level_of code) (level_in a) a left la d in
+    let r = at_level_derives (level_of code + 1) (level_in b) b right lb d' in
+    subst (λ k. Derives k (two_place_symbols code (level_in a) (level_in b) left right) (binary_expression code a b)) rank
+    (Joined code (sym rank) (subst (λ k. Derives k (symbols_at_level (level_of code) (level_in a) left) a) (sym rank) l) r)
+
+-- the operators that stand as such join as such
+joined_as : (code : ℕ) (a b : Expression) → 3 ≤ code → binary_expression code a b ≡ Binary code a b
+joined_as code a b h =
+    let one : (code == 1) ≡ false = grind (arith, nat_tests, h) in
+    let two : (code == 2) ≡ false = grind (arith, nat_tests, h) in
+    rw (one, two) refl
+
+-- the canonical symbols of an expression derive it, at the rank of its level
+pub expression_derived : (e : Expression) → IsWritable e → Derives (7 - level_in e) (expression_symbols e) e
+expression_derived (Number n) h = Numeral n
+expression_derived (Name x) h = Named x
+expression_derived (Element x i) h = let l = level_bounds i h.1 in Indexed x (looser 6 (omega (arith, l.0)) (expression_derived i h.1))
+expression_derived (Or a b) h =
+    let la = level_bounds a h.0 in let lb = level_bounds b h.1 in
+    two_place 1 a b _ _ (omega arith) (omega arith) la.0 lb.0 (expression_derived a h.0) (expression_derived b h.1)
+expression_derived (And a b) h =
+    let la = level_bounds a h.0 in let lb = level_bounds b h.1 in
+    two_place 2 a b _ _ (omega arith) (omega arith) la.0 lb.0 (expression_derived a h.0) (expression_derived b h.1)
+expression_derived (Binary code a b) h =
+    let la = level_bounds a h.2 in let lb = level_bounds b h.3 in let l = level_between code (omega (arith, h.0)) h.1 in
+    subst (λ x. Derives (7 - level_of code) (expression_symbols (Binary code a b)) x) (joined_as code a b h.0)
+    (two_place code a b (expression_symbols a) (expression_symbols b) l.0 l.1 la.0 lb.0 (expression_derived a h.2) (expression_derived b h.3))
+expression_derived (Unary code a) h =
+    let l = level_bounds a h.1 in one_place code a _ h.0 (at_level_derives 7 (level_in a) a (expression_symbols a) l.0 (expression_derived a h.1))
+expression_derived More h = CallsMore
+expression_derived Take h = CallsTake
+expression_derived Iter h = CallsIter
+
+-- a full expression
+full : (e : Expression) → IsWritable e → Derives 6 (expression_symbols e) e
+full e h = let l = level_bounds e h in looser 6 (omega (arith, l.0)) (expression_derived e h)
+
+-- ---- statements
+
+part_derived : (word : ℕ) (ss : Statements) (ps : List Piece) → DerivesStatements ps ss → DerivesPart word (part_pieces word ss ps) ss
+part_derived word Empty ps d = NoPart
+part_derived word (Then s ss) ps d = PartIs (BlockIs d)
+
+stage_derived : (kind : Kind) (e : Expression) → IsWritableStatement (Stage kind e) → DerivesStatement (statement_pieces (Stage kind e)) (Stage kind e)
+stage_derived kinds.Zero e h = absurd h.0
+stage_derived kinds.Wait e h = WaitIs (full e h.1)
+stage_derived kinds.Continue e h = ContinueIs (full e h.1)
+
+next_stage_derived : (kind : Kind) → IsWritableStatement (NextStage kind) → DerivesStatement (statement_pieces (NextStage kind)) (NextStage kind)
+next_stage_derived kinds.Zero h = absurd h
+next_stage_derived kinds.Wait h = WaitNextIs
+next_stage_derived kinds.Continue h = ContinueNextIs
+
+mutual
+  -- the canonical pieces of a statement derive it
+  pub statement_derived : (s : Statement) → IsWritableStatement s → DerivesStatement (statement_pieces s) s
+  statement_derived (Let x e) h = LetIs x (full e h.1)
+  statement_derived (Assign x e) h = AssignIs x (full e h.1)
+  statement_derived (AssignElement x i e) h = AssignElementIs x (full i h.1) (full e h.2)
+  statement_derived (Emit e) h = EmitIs (full e h)
+  statement_derived (If e a b) h =
+      IfIs (full e h.0) (BlockIs (statements_derived a h.1)) (part_derived 14 b (statements_pieces b) (statements_derived b h.2))
+  statement_derived (While e a) h = WhileIs (full e h.0) (BlockIs (statements_derived a h.1))
+  statement_derived (Stage kind e) h = stage_derived kind e h
+  statement_derived (NextStage kind) h = next_stage_derived kind h
+
+  -- the same of statements
+  pub statements_derived : (ss : Statements) → AreWritable ss → DerivesStatements (statements_pieces ss) ss
+  statements_derived Empty h = NoStatement
+  statements_derived (Then s ss) h = OneMore (statement_derived s h.0) (statements_derived ss h.1)
+
+-- ---- programs
+
+size_derived : (size : Option ℤ) → DerivesSize (size_pieces size) size
+size_derived None = NoSize
+size_derived (Some n) = SizeIs n
+
+value_derived : (value : ℤ) → DerivesValue (value_pieces value) value
+value_derived (pos n) = ValueIs (pos n)
+value_derived (negsuc n) = NegativeValueIs (suc n)
+
+cells_derived : (ds : List Declaration) → DerivesCells (cells_pieces ds) ds
+cells_derived [] = NoCell
+cells_derived (d ∷ ds) = CellIs d.name (size_derived d.size) (value_derived d.value) (cells_derived ds)
+
+-- the canonical pieces of a program derive it
+pub program_derived : (tree : SyntaxTree) → IsWritableProgram tree → DerivesProgram (program_pieces tree) tree
+program_derived tree h =
+    ProgramIs tree.limits.iterations tree.limits.stages tree.limits.steps tree.limits.emits (cells_derived tree.cells)
+    (part_derived 7 tree.init (statements_pieces tree.init) (statements_derived tree.init h.init)) (full tree.test h.test)
+    (BlockIs (statements_derived tree.body h.body)) (part_derived 11 tree.last (statements_pieces tree.last) (statements_derived tree.last h.last))

@@ -1,0 +1,256 @@
+-- Where the machine of expressions runs, there is an expression that goes on so.
+use Rattle.std.proofs.Common.{◌≡◌, ℕ, ◌<◌, ◌≤◌, List, [], ◌∷◌, ◌++◌, refl, sym, ap, ◌∙◌, append_assoc, append-nil, arith, subst, ◌⊎◌, inl, inr, Option, Some, None, Bool, true, false, ◌==◌, pos, if◌then◌else◌}
+use Rattle.std.proofs.lemmas.Bool.{cases_eq}
+use Rattle.pipe_model.specs.declared.symbol.Symbol.{Symbol}
+use Rattle.pipe_model.specs.declared.symbol.Symbol.TheVariants as symbols
+use Rattle.pipe_model.specs.Language.SyntaxTree.{Expression}
+use Rattle.pipe_model.specs.Language.Grammar.{Derives, Numeral, Named, Indexed, CallsMore, CallsTake, CallsIter, Negative, Not, Bracketed, rank_of}
+use Rattle.grammar_laws.specs.ExpressionMachine.{Want, Sign, Operand, Index, Tail, Move, Takes, Skips, Refuses, move, step, stepped, run, and_run, is_operator, is_call, may_end}
+use Rattle.grammar_laws.proofs.ExpressionGrowth.{grown, lifted}
+
+-- ---- what spells a list of wants
+pub data Completes : List Want → List Symbol → Type 0 where
+  Nothing : Completes [] []
+  OfSign : {wants : List Want} {ts : List Symbol} (sign : ℕ) → Completes wants ts → Completes (Sign sign ∷ wants) (symbols.Sign sign ∷ ts)
+  OfOperand : {wants : List Want} {us ts : List Symbol} {e : Expression} → Derives 0 us e → Completes wants ts → Completes (Operand ∷ wants) (us ++ ts)
+  OfNoIndex : {wants : List Want} {ts : List Symbol} → Completes wants ts → Completes (Index ∷ wants) ts
+  OfIndex : {wants : List Want} {us ts : List Symbol} {e : Expression} → Derives 6 us e → Completes wants ts
+      → Completes (Index ∷ wants) (symbols.Sign 91 ∷ (us ++ symbols.Sign 93 ∷ ts))
+  OfNoTail : {wants : List Want} {ts : List Symbol} → Completes wants ts → Completes (Tail ∷ wants) ts
+  OfTail : {wants : List Want} {us ts : List Symbol} {e : Expression} (code : ℕ) → is_operator code ≡ true → Derives 0 us e
+      → Completes (Tail ∷ wants) ts
+      → Completes (Tail ∷ wants) (symbols.Operator code ∷ (us ++ ts))
+
+-- symbols that spell the wants
+pub record Completion (wants : List Want) : Type 0 where
+  pub ts : List Symbol
+  pub completes : Completes wants ts
+
+one_more : (want : Want) (wants : List Want) → Completion wants → Completion (want ∷ wants)
+one_more (Sign sign) wants s = record { ts = symbols.Sign sign ∷ s.ts; completes = OfSign sign s.completes }
+one_more Operand wants s = record { ts = symbols.Number (pos 0) ∷ s.ts; completes = OfOperand (Numeral (pos 0)) s.completes }
+one_more Index wants s = record { ts = s.ts; completes = OfNoIndex s.completes }
+one_more Tail wants s = record { ts = s.ts; completes = OfNoTail s.completes }
+
+-- each list of wants is spelled by some symbols
+pub completion : (wants : List Want) → Completion wants
+completion [] = record { ts = []; completes = Nothing }
+completion (want ∷ wants) = one_more want wants (completion wants)
+
+-- what may end is spelled by no symbols
+pub completes_end : (wants : List Want) → may_end wants ≡ true → Completes wants []
+completes_end [] h = Nothing
+completes_end (Sign sign ∷ wants) h = absurd (cc (h))
+completes_end (Operand ∷ wants) h = absurd (cc (h))
+completes_end (Index ∷ wants) h = OfNoIndex (completes_end wants h)
+completes_end (Tail ∷ wants) h = OfNoTail (completes_end wants h)
+
+-- ---- an operand and operators behind it are an expression
+pub record First (wants : List Want) (left ts : List Symbol) : Type 0 where
+  pub taken : List Symbol
+  pub rest : List Symbol
+  pub e : Expression
+  pub derived : Derives 6 (left ++ taken) e
+  pub split : ts ≡ taken ++ rest
+  pub completes : Completes wants rest
+
+-- an operator has a rank from 1 to 6
+operator_rank : (code : ℕ) → is_operator code ≡ true → (0 < rank_of code) × (rank_of code ≤ 6)
+operator_rank code h = (grind (arith, h), grind (arith, h))
+
+joined_first : {wants : List Want} (left us ts : List Symbol) (code : ℕ) → First wants (left ++ symbols.Operator code ∷ us) ts
+    → First wants left (symbols.Operator code ∷ (us ++ ts))
+joined_first left us ts code w = record {
+  taken = symbols.Operator code ∷ (us ++ w.taken);
+  rest = w.rest;
+  e = w.e;
+  derived = subst (λ x. Derives 6 x w.e) (append_assoc left (symbols.Operator code ∷ us) w.taken) w.derived;
+  split = ap (λ x. symbols.Operator code ∷ x) (ap (λ x. us ++ x) w.split ∙ sym (append_assoc us w.taken w.rest));
+  completes = w.completes;
+}
+
+tail_first : {wants : List Want} (left : List Symbol) {ts : List Symbol} {e : Expression} → Derives 6 left e → Completes (Tail ∷ wants) ts
+    → First wants left ts
+tail_first left {e = e} d (OfNoTail {ts = ts} s) = record {
+  taken = [];
+  rest = ts;
+  e = e;
+  derived = subst (λ us. Derives 6 us e) (sym (append-nil left)) d;
+  split = refl;
+  completes = s;
+}
+tail_first left d (OfTail {us = us} {ts = ts} code h o s) =
+    let x = grown code (operator_rank code h).0 o d (operator_rank code h).1 in
+    joined_first left us ts code (tail_first (left ++ symbols.Operator code ∷ us) x.derived s)
+
+operand_first : {wants : List Want} (us ts : List Symbol) → First wants us ts → First wants [] (us ++ ts)
+operand_first us ts w = record {
+  taken = us ++ w.taken;
+  rest = w.rest;
+  e = w.e;
+  derived = w.derived;
+  split = ap (λ x. us ++ x) w.split ∙ sym (append_assoc us w.taken w.rest);
+  completes = w.completes;
+}
+
+-- an expression stands first
+pub first : {wants : List Want} {ts : List Symbol} → Completes (Operand ∷ Tail ∷ wants) ts → First wants [] ts
+first (OfOperand {us = us} {ts = ts} d s) = operand_first us ts (tail_first us (lifted 6 d) s)
+
+-- ---- a step back
+moved : {wants : List Want} {ts us : List Symbol} → ts ≡ us → Completes wants us → Completes wants ts
+moved {wants} h s = subst (Completes wants) (sym h) s
+
+-- an expression, and the sign that closes it
+record Closed (wants : List Want) (sign : ℕ) (ts : List Symbol) : Type 0 where
+  inside : List Symbol
+  rest : List Symbol
+  e : Expression
+  derived : Derives 6 inside e
+  split : ts ≡ inside ++ symbols.Sign sign ∷ rest
+  completes : Completes wants rest
+
+closed_by : {wants : List Want} {sign : ℕ} (inside : List Symbol) {e : Expression} {ts rest : List Symbol} → Derives 6 inside e → ts ≡ inside ++ rest
+    → Completes (Sign sign ∷ wants) rest
+    → Closed wants sign ts
+closed_by inside {e = e} d h (OfSign {ts = rest} sign s) = record { inside = inside; rest = rest; e = e; derived = d; split = h; completes = s }
+
+closed_first : {wants : List Want} {sign : ℕ} {ts : List Symbol} → Completes (Operand ∷ Tail ∷ Sign sign ∷ wants) ts → Closed wants sign ts
+closed_first s = let w = first s in closed_by w.taken w.derived w.split w.completes
+
+bracket_back : {wants : List Want} {ts : List Symbol} → Closed wants 41 ts → Completes (Operand ∷ wants) (symbols.Sign 40 ∷ ts)
+bracket_back c =
+    moved (ap (λ x. symbols.Sign 40 ∷ x) (c.split ∙ sym (append_assoc c.inside (symbols.Sign 41 ∷ []) c.rest)))
+    (OfOperand (Bracketed c.derived) c.completes)
+
+index_back : {wants : List Want} {ts : List Symbol} → Closed wants 93 ts → Completes (Index ∷ wants) (symbols.Sign 91 ∷ ts)
+index_back c = moved (ap (λ x. symbols.Sign 91 ∷ x) c.split) (OfIndex c.derived c.completes)
+
+name_back : {wants : List Want} {ts : List Symbol} (name : List ℕ) → Completes (Index ∷ wants) ts → Completes (Operand ∷ wants) (symbols.Name name ∷ ts)
+name_back name (OfNoIndex s) = OfOperand (Named name) s
+name_back name (OfIndex {us = us} {ts = ts} d s) =
+    moved (ap (λ x. symbols.Name name ∷ symbols.Sign 91 ∷ x) (sym (append_assoc us (symbols.Sign 93 ∷ []) ts))) (OfOperand (Indexed name d) s)
+
+negative_back : {wants : List Want} {ts : List Symbol} → Completes (Operand ∷ wants) ts → Completes (Operand ∷ wants) (symbols.Operator 10 ∷ ts)
+negative_back (OfOperand d s) = OfOperand (Negative d) s
+
+not_back : {wants : List Want} {ts : List Symbol} → Completes (Operand ∷ wants) ts → Completes (Operand ∷ wants) (symbols.Sign 33 ∷ ts)
+not_back (OfOperand d s) = OfOperand (Not d) s
+
+tail_back : {wants : List Want} {ts : List Symbol} (code : ℕ) → is_operator code ≡ true → Completes (Operand ∷ Tail ∷ wants) ts
+    → Completes (Tail ∷ wants) (symbols.Operator code ∷ ts)
+tail_back code h (OfOperand d s) = OfTail code h d s
+
+call_back : {wants : List Want} {ts : List Symbol} (word : ℕ) → ((word ≡ 17) ⊎ ((word ≡ 18) ⊎ (word ≡ 19))) → Completes (Sign 40 ∷ Sign 41 ∷ wants) ts
+    → Completes (Operand ∷ wants) (symbols.Word word ∷ ts)
+call_back word (inl h) (OfSign sign (OfSign sign' s)) = rw h (OfOperand CallsMore s)
+call_back word (inr (inl h)) (OfSign sign (OfSign sign' s)) = rw h (OfOperand CallsTake s)
+call_back word (inr (inr h)) (OfSign sign (OfSign sign' s)) = rw h (OfOperand CallsIter s)
+
+which_call : (word : ℕ) → is_call word ≡ true → (word ≡ 17) ⊎ ((word ≡ 18) ⊎ (word ≡ 19))
+which_call word h =
+    elim (cases_eq word 17) [
+      | inl e ↦ inl e
+      | inr e ↦ elim (cases_eq word 18) [ inl f ↦ inr (inl f) | inr f ↦ inr (inr (grind (arith, e, f, h))) ]
+    ]
+
+same_sign : (sign b : ℕ) → (b == sign) ≡ true → {wants : List Want} {ts : List Symbol} → Completes wants ts
+    → Completes (Sign sign ∷ wants) (symbols.Sign b ∷ ts)
+same_sign sign b h s = let e : b ≡ sign = grind (arith, h) in rw e (OfSign sign s)
+
+-- what spells the wants behind a symbol spells, behind it, the wants before
+abbrev MovesBack : Move → Want → Symbol → Type 0
+MovesBack (Takes more) want t = (wants : List Want) (ts : List Symbol) → Completes (more ++ wants) ts → Completes (want ∷ wants) (t ∷ ts)
+MovesBack Skips want t = (wants : List Want) (ts : List Symbol) → Completes wants ts → Completes (want ∷ wants) ts
+MovesBack Refuses want t = Unit {0}
+
+either : (b : Bool) (x y : Move) (want : Want) (t : Symbol) → (b ≡ true → MovesBack x want t) → (b ≡ false → MovesBack y want t)
+    → MovesBack (if b then x else y) want t
+either true x y want t f g = f refl
+either false x y want t f g = g refl
+
+operand_sign_back : (b : ℕ) → MovesBack (move Operand (symbols.Sign b)) Operand (symbols.Sign b)
+operand_sign_back b =
+    either (b == 40) (Takes (Operand ∷ Tail ∷ Sign 41 ∷ [])) (if b == 33 then Takes (Operand ∷ []) else Refuses) Operand (symbols.Sign b)
+    (λ h wants ts s. let e : b ≡ 40 = grind (arith, h) in rw e (bracket_back (closed_first s)))
+    (λ h. either (b == 33) (Takes (Operand ∷ [])) Refuses Operand (symbols.Sign b)
+    (λ i wants ts s. let e : b ≡ 33 = grind (arith, i) in rw e (not_back s)) (λ i. tt))
+
+-- the table is sound
+back : (want : Want) (t : Symbol) → MovesBack (move want t) want t
+back (Sign sign) (symbols.Sign b) = either (b == sign) (Takes []) Refuses (Sign sign) (symbols.Sign b) (λ h wants ts s. same_sign sign b h s) (λ h. tt)
+back (Sign sign) (symbols.Name name) = tt
+back (Sign sign) (symbols.Word word) = tt
+back (Sign sign) (symbols.Number n) = tt
+back (Sign sign) (symbols.Operator code) = tt
+back Operand (symbols.Number n) = λ wants ts s. OfOperand (Numeral n) s
+back Operand (symbols.Name name) = λ wants ts s. name_back name s
+back Operand (symbols.Word word) =
+    either (is_call word) (Takes (Sign 40 ∷ Sign 41 ∷ [])) Refuses Operand (symbols.Word word) (λ h wants ts s. call_back word (which_call word h) s)
+    (λ h. tt)
+back Operand (symbols.Operator code) =
+    either (code == 10) (Takes (Operand ∷ [])) Refuses Operand (symbols.Operator code)
+    (λ h wants ts s. let e : code ≡ 10 = grind (arith, h) in rw e (negative_back s)) (λ h. tt)
+back Operand (symbols.Sign b) = operand_sign_back b
+back Index (symbols.Sign b) =
+    either (b == 91) (Takes (Operand ∷ Tail ∷ Sign 93 ∷ [])) Skips Index (symbols.Sign b)
+    (λ h wants ts s. let e : b ≡ 91 = grind (arith, h) in rw e (index_back (closed_first s))) (λ h wants ts s. OfNoIndex s)
+back Index (symbols.Name name) = λ wants ts s. OfNoIndex s
+back Index (symbols.Word word) = λ wants ts s. OfNoIndex s
+back Index (symbols.Number n) = λ wants ts s. OfNoIndex s
+back Index (symbols.Operator code) = λ wants ts s. OfNoIndex s
+back Tail (symbols.Operator code) =
+    either (is_operator code) (Takes (Operand ∷ Tail ∷ [])) Skips Tail (symbols.Operator code) (λ h wants ts s. tail_back code h s)
+    (λ h wants ts s. OfNoTail s)
+back Tail (symbols.Name name) = λ wants ts s. OfNoTail s
+back Tail (symbols.Word word) = λ wants ts s. OfNoTail s
+back Tail (symbols.Number n) = λ wants ts s. OfNoTail s
+back Tail (symbols.Sign b) = λ wants ts s. OfNoTail s
+
+stepped_back : (m : Move) (want : Want) (t : Symbol) (wants : List Want) (below : Option (List Want)) → MovesBack m want t
+    → ((left : List Want) (ts : List Symbol) → below ≡ Some left → Completes left ts → Completes wants (t ∷ ts))
+    → (left : List Want) (ts : List Symbol) → stepped m wants below ≡ Some left → Completes left ts → Completes (want ∷ wants) (t ∷ ts)
+stepped_back (Takes more) want t wants below f g left ts h s = let e : more ++ wants ≡ left = cc (h) in f wants ts (rw e s)
+stepped_back Skips want t wants below f g left ts h s = f wants (t ∷ ts) (g left ts h s)
+stepped_back Refuses want t wants below f g left ts h s = absurd (cc (h))
+
+-- a step of the machine, back
+pub step_back : (wants : List Want) (t : Symbol) (left : List Want) (ts : List Symbol) → step wants t ≡ Some left → Completes left ts
+    → Completes wants (t ∷ ts)
+step_back [] t left ts h s = absurd (cc (h))
+step_back (want ∷ wants) t left ts h s =
+    stepped_back (move want t) want t wants (step wants t) (back want t) (λ left ts h s. step_back wants t left ts h s) left ts h s
+
+run_back_on : (o : Option (List Want)) (wants : List Want) (t : Symbol) (before ts : List Symbol) (left : List Want) → step wants t ≡ o
+    → ((mid : List Want) → run before mid ≡ Some left → Completes mid (before ++ ts)) → and_run o (run before) ≡ Some left
+    → Completes wants (t ∷ (before ++ ts))
+run_back_on None wants t before ts left e f h = absurd (cc (h))
+run_back_on (Some mid) wants t before ts left e f h = step_back wants t mid (before ++ ts) e (f mid h)
+
+-- a run of the machine, back
+pub run_back : (before ts : List Symbol) (wants left : List Want) → run before wants ≡ Some left → Completes left ts → Completes wants (before ++ ts)
+run_back [] ts wants left h s = let e : wants ≡ left = cc (h) in rw e s
+run_back (t ∷ before) ts wants left h s = run_back_on (step wants t) wants t before ts left refl (λ mid i. run_back before ts mid left i s) h
+
+-- ---- an expression that goes on from a front
+
+-- the symbols derive some expression
+pub record IsExpression (ts : List Symbol) : Type 0 where
+  pub e : Expression
+  pub derived : Derives 6 ts e
+
+nothing_more : (ts taken rest : List Symbol) → ts ≡ taken ++ rest → Completes [] rest → ts ≡ taken
+nothing_more ts taken rest h Nothing = h ∙ append-nil taken
+
+-- where the machine ran, what completes what has to come is the rest of an expression
+pub run_completed : (before more : List Symbol) (left : List Want) → run before (Operand ∷ Tail ∷ []) ≡ Some left → Completes left more
+    → IsExpression (before ++ more)
+run_completed before more left h s =
+    let w = first (run_back before more (Operand ∷ Tail ∷ []) left h s) in
+    record { e = w.e; derived = subst (λ x. Derives 6 x w.e) (sym (nothing_more (before ++ more) w.taken w.rest w.split w.completes)) w.derived }
+
+-- where it may end, the symbols are an expression
+pub run_ended : (before : List Symbol) (left : List Want) → run before (Operand ∷ Tail ∷ []) ≡ Some left → may_end left ≡ true → IsExpression before
+run_ended before left h i =
+    let x = run_completed before [] left h (completes_end left i) in
+    record { e = x.e; derived = subst (λ ts. Derives 6 ts x.e) (append-nil before) x.derived }

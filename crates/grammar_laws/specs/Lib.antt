@@ -1,0 +1,5 @@
+pub mod Reading
+pub mod ExpressionMachine
+pub mod ProgramMachine
+pub mod SpellingLaws
+pub mod TokenLaws

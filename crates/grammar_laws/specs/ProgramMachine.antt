@@ -1,0 +1,213 @@
+-- Programs one symbol at a time: what still has to come, with full expressions left to the machine of expressions, which count their symbols.
+-- The grammar says what a program is; this machine says at which symbol a reader has to stop, and why, and laws in proofs/ tie the two.
+use Rattle.std.specs.Prelude.{◌≡◌, ℕ, suc, List, [], ◌∷◌, ◌++◌, Bool, true, false, ◌==◌, Option, Some, None, ◌&&◌, ◌||◌, if◌then◌else◌, nat_le, ℤ, pos, negsuc, length}
+use Rattle.pipe_model.specs.declared.symbol.Symbol.{Symbol}
+use Rattle.pipe_model.specs.declared.symbol.Symbol.TheVariants as symbols
+use Rattle.grammar_laws.specs.ExpressionMachine as expression
+
+-- what has to come; `StageNumber`, `Statements`, `Part` (by its word), `Cells` and `Size` may be nothing
+pub data Want : Type 0 where
+  Sign : ℕ → Want
+  Word : ℕ → Want
+  AnyName : Want
+  AnyNumber : Want
+  Natural : Want  -- a number that is not negative
+  FullExpression : Want
+  StageNumber : Want
+  Target : Want  -- what stands behind a name that is assigned to
+  Statements : Want
+  Part : ℕ → Want
+  Cells : Want
+  Size : Want
+  Value : Want
+
+-- what a symbol does to a want: it begins it, so that the rest of it has to come; it begins a full expression;
+-- it leaves the want out; or it may not come
+pub data Move : Type 0 where
+  Takes : List Want → Move
+  Enters : Move
+  Skips : Move
+  Refuses : Move
+
+-- statements in braces
+abbrev pub block : List Want
+block = Sign 123 ∷ Statements ∷ Sign 125 ∷ []
+
+-- what a statement begins with its word
+abbrev pub statement_move : ℕ → Move
+statement_move word =
+    if word == 12 then Takes (AnyName ∷ Sign 61 ∷ FullExpression ∷ Sign 59 ∷ Statements ∷ [])
+    else (if word == 13 then Takes (Sign 40 ∷ FullExpression ∷ Sign 41 ∷ Sign 123 ∷ Statements ∷ Sign 125 ∷ Part 14 ∷ Statements ∷ [])
+    else (if word == 15 then Takes (Sign 40 ∷ FullExpression ∷ Sign 41 ∷ Sign 123 ∷ Statements ∷ Sign 125 ∷ Statements ∷ [])
+    else (if word == 16 then Takes (FullExpression ∷ Sign 59 ∷ Statements ∷ [])
+    else (if (word == 9) || (word == 10) then Takes (Sign 40 ∷ StageNumber ∷ Sign 41 ∷ Sign 59 ∷ Statements ∷ []) else Skips))))
+
+-- a number that is not negative may come where it has to
+abbrev pub natural_move : ℤ → Move
+natural_move (pos n) = Takes []
+natural_move (negsuc n) = Refuses
+
+-- the table of the machine
+abbrev pub move : Want → Symbol → Move
+move (Sign sign) (symbols.Sign b) = if b == sign then Takes [] else Refuses
+move (Sign sign) (symbols.Name name) = Refuses
+move (Sign sign) (symbols.Word k) = Refuses
+move (Sign sign) (symbols.Number n) = Refuses
+move (Sign sign) (symbols.Operator code) = Refuses
+move (Word word) (symbols.Word k) = if k == word then Takes [] else Refuses
+move (Word word) (symbols.Name name) = Refuses
+move (Word word) (symbols.Number n) = Refuses
+move (Word word) (symbols.Operator code) = Refuses
+move (Word word) (symbols.Sign b) = Refuses
+move AnyName (symbols.Name name) = Takes []
+move AnyName (symbols.Word k) = Refuses
+move AnyName (symbols.Number n) = Refuses
+move AnyName (symbols.Operator code) = Refuses
+move AnyName (symbols.Sign b) = Refuses
+move AnyNumber (symbols.Number n) = Takes []
+move AnyNumber (symbols.Name name) = Refuses
+move AnyNumber (symbols.Word k) = Refuses
+move AnyNumber (symbols.Operator code) = Refuses
+move AnyNumber (symbols.Sign b) = Refuses
+move Natural (symbols.Number n) = natural_move n
+move Natural (symbols.Name name) = Refuses
+move Natural (symbols.Word k) = Refuses
+move Natural (symbols.Operator code) = Refuses
+move Natural (symbols.Sign b) = Refuses
+move FullExpression t = Enters
+move StageNumber (symbols.Sign b) = if b == 41 then Skips else Enters
+move StageNumber (symbols.Name name) = Enters
+move StageNumber (symbols.Word k) = Enters
+move StageNumber (symbols.Number n) = Enters
+move StageNumber (symbols.Operator code) = Enters
+move Target (symbols.Sign b) =
+    if b == 61 then Takes (FullExpression ∷ Sign 59 ∷ [])
+    else (if b == 91 then Takes (FullExpression ∷ Sign 93 ∷ Sign 61 ∷ FullExpression ∷ Sign 59 ∷ []) else Refuses)
+move Target (symbols.Name name) = Refuses
+move Target (symbols.Word k) = Refuses
+move Target (symbols.Number n) = Refuses
+move Target (symbols.Operator code) = Refuses
+move Statements (symbols.Name name) = Takes (Target ∷ Statements ∷ [])
+move Statements (symbols.Word k) = statement_move k
+move Statements (symbols.Number n) = Skips
+move Statements (symbols.Operator code) = Skips
+move Statements (symbols.Sign b) = Skips
+move (Part word) (symbols.Word k) = if k == word then Takes block else Skips
+move (Part word) (symbols.Name name) = Skips
+move (Part word) (symbols.Number n) = Skips
+move (Part word) (symbols.Operator code) = Skips
+move (Part word) (symbols.Sign b) = Skips
+move Cells (symbols.Word k) = if k == 6 then Takes (AnyName ∷ Size ∷ Sign 61 ∷ Value ∷ Sign 59 ∷ Cells ∷ []) else Skips
+move Cells (symbols.Name name) = Skips
+move Cells (symbols.Number n) = Skips
+move Cells (symbols.Operator code) = Skips
+move Cells (symbols.Sign b) = Skips
+move Size (symbols.Sign b) = if b == 91 then Takes (AnyNumber ∷ Sign 93 ∷ []) else Skips
+move Size (symbols.Name name) = Skips
+move Size (symbols.Word k) = Skips
+move Size (symbols.Number n) = Skips
+move Size (symbols.Operator code) = Skips
+move Value (symbols.Number n) = Takes []
+move Value (symbols.Operator code) = if code == 10 then Takes (Natural ∷ []) else Refuses
+move Value (symbols.Name name) = Refuses
+move Value (symbols.Word k) = Refuses
+move Value (symbols.Sign b) = Refuses
+
+-- where the machine stands: outside full expressions, or inside one, behind so many of its symbols, with what of it has to come
+pub data MachineState : Type 0 where
+  Outside : List Want → MachineState
+  Inside : ℕ → List expression.Want → List Want → MachineState
+
+-- what a full expression has to be
+abbrev pub whole : List expression.Want
+whole = expression.Operand ∷ expression.Tail ∷ []
+
+-- behind the first symbol of a full expression
+abbrev pub entered : Option (List expression.Want) → List Want → Option MachineState
+entered None wants = None
+entered (Some inner) wants = Some (Inside 1 inner wants)
+
+-- where the machine stands after a move
+abbrev pub stepped : Move → Symbol → List Want → Option MachineState → Option MachineState
+stepped (Takes more) t wants below = Some (Outside (more ++ wants))
+stepped Enters t wants below = entered (expression.step whole t) wants
+stepped Skips t wants below = below
+stepped Refuses t wants below = None
+
+-- where the machine stands after a symbol that no full expression goes on with
+abbrev pub step : List Want → Symbol → Option MachineState
+step [] t = None
+step (want ∷ wants) t = stepped (move want t) t wants (step wants t)
+
+-- where the machine stands after a symbol inside a full expression, which goes on or, where it may, has ended
+abbrev pub continued : Option (List expression.Want) → Bool → ℕ → List Want → Option MachineState → Option MachineState
+continued (Some inner) may_end n wants outside = Some (Inside (suc n) inner wants)
+continued None true n wants outside = outside
+continued None false n wants outside = None
+
+-- where the machine stands after a symbol, where it may come
+abbrev pub next : MachineState → Symbol → Option MachineState
+next (Outside wants) t = step wants t
+next (Inside n inner wants) t = continued (expression.step inner t) (expression.may_end inner) n wants (step wants t)
+
+abbrev pub and_run : Option MachineState → (MachineState → Option MachineState) → Option MachineState
+and_run None go = None
+and_run (Some s) go = go s
+
+-- where the machine stands after symbols, where they may come
+abbrev pub run : List Symbol → MachineState → Option MachineState
+run [] s = Some s
+run (t ∷ ts) s = and_run (next s t) (run ts)
+
+-- nothing has to come
+abbrev pub may_end : List Want → Bool
+may_end [] = true
+may_end (Sign sign ∷ wants) = false
+may_end (Word word ∷ wants) = false
+may_end (AnyName ∷ wants) = false
+may_end (AnyNumber ∷ wants) = false
+may_end (Natural ∷ wants) = false
+may_end (FullExpression ∷ wants) = false
+may_end (StageNumber ∷ wants) = may_end wants
+may_end (Target ∷ wants) = false
+may_end (Statements ∷ wants) = may_end wants
+may_end (Part word ∷ wants) = may_end wants
+may_end (Cells ∷ wants) = may_end wants
+may_end (Size ∷ wants) = may_end wants
+may_end (Value ∷ wants) = false
+
+-- the symbols may end here
+abbrev pub is_final : MachineState → Bool
+is_final (Outside wants) = may_end wants
+is_final (Inside n inner wants) = expression.may_end inner && may_end wants
+
+-- what becomes of symbols: they are accepted, or with so many of them left the first of these may not come (0 left: they end too
+-- early), or it is one too many of a full expression
+pub data Verdict : Type 0 where
+  Accepted : Verdict
+  Unexpected : ℕ → Verdict
+  TooLong : ℕ → Verdict
+
+-- a full expression has at most so many symbols
+abbrev pub judged_in : ℕ → MachineState → ℕ → (MachineState → Verdict) → Verdict
+judged_in longest (Outside wants) left go = go (Outside wants)
+judged_in longest (Inside n inner wants) left go = if nat_le n longest then go (Inside n inner wants) else TooLong left
+
+abbrev pub judged : ℕ → Option MachineState → ℕ → (MachineState → Verdict) → Verdict
+judged longest None left go = Unexpected left
+judged longest (Some s) left go = judged_in longest s left go
+
+-- what becomes of symbols whose full expressions may have so many symbols
+abbrev pub judge : ℕ → List Symbol → MachineState → Verdict
+judge longest [] s = if is_final s then Accepted else Unexpected 0
+judge longest (t ∷ ts) s = judged longest (next s t) (length (t ∷ ts)) (judge longest ts)
+
+-- what a program has to be
+abbrev pub program : List Want
+program =
+    Word 1 ∷ Word 2 ∷ AnyNumber ∷ Sign 44 ∷ Word 3 ∷ AnyNumber ∷ Sign 44 ∷ Word 4 ∷ AnyNumber ∷ Sign 44 ∷ Word 5 ∷ AnyNumber ∷ Sign 59
+    ∷ Cells ∷ Part 7 ∷ Word 8 ∷ Sign 40 ∷ FullExpression ∷ Sign 41 ∷ Sign 123 ∷ Statements ∷ Sign 125 ∷ Part 11 ∷ []
+
+-- whatever has to come below, symbols that begin with these wants are refused so
+pub record IsRejected (longest : ℕ) (wants : List Want) (ts : List Symbol) (verdict : Verdict) : Type 0 where
+  pub refused : (below : List Want) → judge longest ts (Outside (wants ++ below)) ≡ verdict

@@ -1,0 +1,23 @@
+//! Tokens and lexical faults.
+
+ghost use Rattle.grammar_laws.specs.TokenLaws.{SourcesHaveOneListOfTokens, SourcesHaveOneFault, SourcesWithTokensHaveNoFault, TokensStandInTheirSource};
+
+/// A source has one list of tokens at most.
+pub fn sources_have_one_list_of_tokens()
+    ensures { SourcesHaveOneListOfTokens }
+{}
+
+/// A source has one lexical fault at most.
+pub fn sources_have_one_fault()
+    ensures { SourcesHaveOneFault }
+{}
+
+/// A source with tokens within the bounds has no fault.
+pub fn sources_with_tokens_have_no_fault()
+    ensures { SourcesWithTokensHaveNoFault }
+{}
+
+/// Each token of a source stands in it, and its text there is that of its symbol.
+pub fn tokens_stand_in_their_source()
+    ensures { TokensStandInTheirSource }
+{}

@@ -1,5 +1,0 @@
-use Rattle.pipe_model.proofs.OneSourceSpelling.{one_source_spelling}
-use Rattle.language_laws.proofs.spelling.sources_spell_one_program.Goals as goal
-
-pub returns : goal.returns
-returns c = one_source_spelling

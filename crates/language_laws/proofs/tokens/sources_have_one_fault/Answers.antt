@@ -1,5 +1,0 @@
-use Rattle.pipe_model.proofs.TokenLaws.{one_fault}
-use Rattle.language_laws.proofs.tokens.sources_have_one_fault.Goals as goal
-
-pub returns : goal.returns
-returns c = one_fault

@@ -1,5 +1,0 @@
-use Rattle.pipe_model.proofs.TokenLaws.{no_fault}
-use Rattle.language_laws.proofs.tokens.sources_with_tokens_have_no_fault.Goals as goal
-
-pub returns : goal.returns
-returns c = no_fault

@@ -1,0 +1,18 @@
+-- The language: symbols, grammar, rules, evaluation, canonical text, and what a source is refused for.
+pub mod SyntaxTree
+pub mod Lexis
+pub mod Tokens
+pub mod Words
+pub mod Grammar
+pub mod Spelling
+pub mod SourceSpelling
+pub mod SpellablePrograms
+pub mod Interaction
+pub mod Evaluation
+pub mod Programs
+pub mod CanonicalText
+pub mod Marks
+pub mod MarkPlaces
+pub mod CheckingRules
+pub mod SourceRefusals
+pub mod FirstForm

@@ -1,0 +1,132 @@
+-- The grammar of the whole language: which symbols derive which expression, and which pieces derive which statements and program,
+-- one constructor a line of the grammar. A piece is one symbol, or the symbols of a full expression: one that is no part of another.
+-- The bounds on brackets and on full expressions stand beside the grammar (Spelling), not in it.
+use Rattle.std.specs.Prelude.{◌≡◌, ℕ, suc, ◌-◌, ℤ, pos, List, [], ◌∷◌, ◌++◌, slice_index, Option, Some, None}
+use Rattle.std.proofs.Math.IntN.{neg_ℤ}
+use Rattle.pipe_model.specs.declared.node.Kind.TheVariants as kinds
+use Rattle.pipe_model.specs.declared.symbol.Symbol.{Symbol}
+use Rattle.pipe_model.specs.declared.symbol.Symbol.TheVariants as symbols
+use Rattle.pipe_model.specs.declared.tree.Declaration.{Declaration}
+use Rattle.pipe_model.specs.Language.SyntaxTree.{Expression, Number, Name, Element, Unary, More, Take, Iter, binary_expression, Statement, Let, Assign, AssignElement, Emit, If, While, Stage, NextStage, Statements, Empty, Then, SyntaxTree}
+use Rattle.pipe_model.specs.Language.Words.{word_limits, word_iterations, word_stages, word_steps, word_emits, word_cell, word_pipe_while, word_pipe_wait, word_pipe_continue, word_let, word_if, word_while, word_emit, word_more, word_take, word_iter, minus, exclamation, open_round, close_round, comma, semicolon, equals, open_square, close_square, open_brace, close_brace}
+
+-- the level of each two-place operator by its code from 1 to 13; 0 where no operator has the code
+abbrev pub level_of : ℕ → ℕ
+level_of code = slice_index (0 ∷ 1 ∷ 2 ∷ 3 ∷ 3 ∷ 4 ∷ 4 ∷ 4 ∷ 4 ∷ 5 ∷ 5 ∷ 6 ∷ 6 ∷ 6 ∷ []) code
+
+-- how loosely an operator binds, from 1 for the tightest to 6 for the loosest, and 7 for no operator
+abbrev pub rank_of : ℕ → ℕ
+rank_of code = 7 - level_of code
+
+-- the symbols derive the expression at a rank: an operand at rank 0, and at a higher rank operands of the rank below with
+-- operators of this rank between them, which group from the left
+pub data Derives : ℕ → List Symbol → Expression → Type 0 where
+  Numeral : (n : ℤ) → Derives 0 (symbols.Number n ∷ []) (Number n)
+  Named : (name : List ℕ) → Derives 0 (symbols.Name name ∷ []) (Name name)
+  Indexed : {inside : List Symbol} {e : Expression} (name : List ℕ) → Derives 6 inside e
+      → Derives 0 (symbols.Name name ∷ open_square ∷ (inside ++ close_square ∷ [])) (Element name e)
+  CallsMore : Derives 0 (word_more ∷ open_round ∷ close_round ∷ []) More
+  CallsTake : Derives 0 (word_take ∷ open_round ∷ close_round ∷ []) Take
+  CallsIter : Derives 0 (word_iter ∷ open_round ∷ close_round ∷ []) Iter
+  Negative : {ts : List Symbol} {e : Expression} → Derives 0 ts e → Derives 0 (minus ∷ ts) (Unary 1 e)
+  Not : {ts : List Symbol} {e : Expression} → Derives 0 ts e → Derives 0 (exclamation ∷ ts) (Unary 2 e)
+  Bracketed : {inside : List Symbol} {e : Expression} → Derives 6 inside e → Derives 0 (open_round ∷ (inside ++ close_round ∷ [])) e
+  Tighter : {rank : ℕ} {ts : List Symbol} {e : Expression} → Derives rank ts e → Derives (suc rank) ts e
+  Joined : {rank : ℕ} {left right : List Symbol} {a b : Expression} (code : ℕ) → rank_of code ≡ suc rank
+      → Derives (suc rank) left a → Derives rank right b → Derives (suc rank) (left ++ symbols.Operator code ∷ right) (binary_expression code a b)
+
+-- a piece of a program
+pub data Piece : Type 0 where
+  Single : Symbol → Piece
+  FullExpression : List Symbol → Piece
+
+-- the symbols of pieces
+abbrev pub flat : List Piece → List Symbol
+flat [] = []
+flat (Single t ∷ ps) = t ∷ flat ps
+flat (FullExpression ts ∷ ps) = ts ++ flat ps
+
+mutual
+  -- a statement
+  pub data DerivesStatement : List Piece → Statement → Type 0 where
+    LetIs : {ts : List Symbol} {e : Expression} (name : List ℕ) → Derives 6 ts e
+        → DerivesStatement (Single word_let ∷ Single (symbols.Name name) ∷ Single equals ∷ FullExpression ts ∷ Single semicolon ∷ []) (Let name e)
+    AssignIs : {ts : List Symbol} {e : Expression} (name : List ℕ) → Derives 6 ts e
+        → DerivesStatement (Single (symbols.Name name) ∷ Single equals ∷ FullExpression ts ∷ Single semicolon ∷ []) (Assign name e)
+    AssignElementIs : {us ts : List Symbol} {index e : Expression} (name : List ℕ) → Derives 6 us index → Derives 6 ts e
+        → DerivesStatement
+        (Single (symbols.Name name) ∷ Single open_square ∷ FullExpression us ∷ Single close_square ∷ Single equals ∷ FullExpression ts ∷ Single semicolon ∷ [])
+        (AssignElement name index e)
+    EmitIs : {ts : List Symbol} {e : Expression} → Derives 6 ts e
+        → DerivesStatement (Single word_emit ∷ FullExpression ts ∷ Single semicolon ∷ []) (Emit e)
+    IfIs : {ts : List Symbol} {ps qs : List Piece} {e : Expression} {a b : Statements} → Derives 6 ts e → DerivesBlock ps a → DerivesPart 14 qs b
+        → DerivesStatement (Single word_if ∷ Single open_round ∷ FullExpression ts ∷ Single close_round ∷ (ps ++ qs)) (If e a b)
+    WhileIs : {ts : List Symbol} {ps : List Piece} {e : Expression} {a : Statements} → Derives 6 ts e → DerivesBlock ps a
+        → DerivesStatement (Single word_while ∷ Single open_round ∷ FullExpression ts ∷ Single close_round ∷ ps) (While e a)
+    WaitIs : {ts : List Symbol} {e : Expression} → Derives 6 ts e
+        → DerivesStatement (Single word_pipe_wait ∷ Single open_round ∷ FullExpression ts ∷ Single close_round ∷ Single semicolon ∷ []) (Stage kinds.Wait e)
+    WaitNextIs : DerivesStatement (Single word_pipe_wait ∷ Single open_round ∷ Single close_round ∷ Single semicolon ∷ []) (NextStage kinds.Wait)
+    ContinueIs : {ts : List Symbol} {e : Expression} → Derives 6 ts e
+        → DerivesStatement (Single word_pipe_continue ∷ Single open_round ∷ FullExpression ts ∷ Single close_round ∷ Single semicolon ∷ [])
+        (Stage kinds.Continue e)
+    ContinueNextIs : DerivesStatement (Single word_pipe_continue ∷ Single open_round ∷ Single close_round ∷ Single semicolon ∷ [])
+        (NextStage kinds.Continue)
+
+  -- statements one after the other
+  pub data DerivesStatements : List Piece → Statements → Type 0 where
+    NoStatement : DerivesStatements [] Empty
+    OneMore : {ps qs : List Piece} {s : Statement} {ss : Statements} → DerivesStatement ps s → DerivesStatements qs ss
+        → DerivesStatements (ps ++ qs) (Then s ss)
+
+  -- statements in braces
+  pub data DerivesBlock : List Piece → Statements → Type 0 where
+    BlockIs : {ps : List Piece} {ss : Statements} → DerivesStatements ps ss → DerivesBlock (Single open_brace ∷ (ps ++ Single close_brace ∷ [])) ss
+
+  -- a part that may be missing: its word, which is `else`, `init` or `final`, and a block
+  pub data DerivesPart : ℕ → List Piece → Statements → Type 0 where
+    NoPart : {word : ℕ} → DerivesPart word [] Empty
+    PartIs : {word : ℕ} {ps : List Piece} {ss : Statements} → DerivesBlock ps ss → DerivesPart word (Single (symbols.Word word) ∷ ps) ss
+
+-- the size of an array, which may be missing
+pub data DerivesSize : List Piece → Option ℤ → Type 0 where
+  NoSize : DerivesSize [] None
+  SizeIs : (n : ℤ) → DerivesSize (Single open_square ∷ Single (symbols.Number n) ∷ Single close_square ∷ []) (Some n)
+
+-- a declared value
+pub data DerivesValue : List Piece → ℤ → Type 0 where
+  ValueIs : (n : ℤ) → DerivesValue (Single (symbols.Number n) ∷ []) n
+  NegativeValueIs : (n : ℕ) → DerivesValue (Single minus ∷ Single (symbols.Number (pos n)) ∷ []) (neg_ℤ (pos n))
+
+-- the declaration of a cell
+abbrev pub declaration : List ℕ → Option ℤ → ℤ → Declaration
+declaration name size value = record { name = name; size = size; value = value }
+
+-- declarations one after the other
+pub data DerivesCells : List Piece → List Declaration → Type 0 where
+  NoCell : DerivesCells [] []
+  CellIs : {ps qs rs : List Piece} {size : Option ℤ} {value : ℤ} {ds : List Declaration} (name : List ℕ)
+      → DerivesSize ps size → DerivesValue qs value → DerivesCells rs ds
+      → DerivesCells (Single word_cell ∷ Single (symbols.Name name) ∷ (ps ++ Single equals ∷ (qs ++ Single semicolon ∷ rs))) (declaration name size value ∷ ds)
+
+-- the line of limits, before what follows it
+abbrev pub limits_before : (iterations stages steps emits : ℤ) → List Piece → List Piece
+limits_before iterations stages steps emits ps =
+    Single word_limits ∷ Single word_iterations ∷ Single (symbols.Number iterations) ∷ Single comma ∷ Single word_stages ∷ Single (symbols.Number stages)
+    ∷ Single comma ∷ Single word_steps ∷ Single (symbols.Number steps) ∷ Single comma ∷ Single word_emits ∷ Single (symbols.Number emits)
+    ∷ Single semicolon ∷ ps
+
+-- a program: limits, cells, what runs before the loop, the loop with its test and body, and what runs after it
+pub data DerivesProgram : List Piece → SyntaxTree → Type 0 where
+  ProgramIs : {cs is bs ls : List Piece} {ts : List Symbol} {cells : List Declaration} {init body last : Statements} {test : Expression}
+      (iterations stages steps emits : ℤ) → DerivesCells cs cells → DerivesPart 7 is init → Derives 6 ts test → DerivesBlock bs body → DerivesPart 11 ls last
+      → DerivesProgram
+      (limits_before iterations stages steps emits
+      (cs ++ (is ++ Single word_pipe_while ∷ Single open_round ∷ FullExpression ts ∷ Single close_round ∷ (bs ++ ls))))
+      (record {
+        limits = record { iterations = iterations; stages = stages; steps = steps; emits = emits };
+        cells = cells;
+        init = init;
+        test = test;
+        body = body;
+        last = last;
+      })

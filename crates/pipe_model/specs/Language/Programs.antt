@@ -1,0 +1,53 @@
+-- The pipeline that a program is, from its tree and its input.
+use Rattle.std.specs.Prelude.{ℕ, ℤ, pos, negsuc, List, [], ◌∷◌, ◌++◌, Option, Some, None, ◌+◌, ◌*◌, if◌then◌else◌, replicate}
+use Rattle.std.specs.Str.{bytes_eq}
+use Rattle.pipe_model.specs.declared.tree.Declaration.{Declaration}
+use Rattle.pipe_model.specs.Language.Evaluation.{CellRange, Setting, run_iteration}
+use Rattle.pipe_model.specs.Language.Interaction.{with_budget}
+use Rattle.pipe_model.specs.Pipelines.Pipeline.{Pipeline}
+use Rattle.pipe_model.specs.Language.SyntaxTree.{SyntaxTree}
+
+-- the number, or 0 where it is negative
+abbrev pub natural : ℤ → ℕ
+natural (pos n) = n
+natural (negsuc n) = 0
+
+-- how many cells a declaration has
+abbrev pub declared_size : Option ℤ → ℕ
+declared_size None = 1
+declared_size (Some n) = natural n
+
+-- the declared values, cell after cell
+abbrev pub declared_values : List Declaration → List ℤ
+declared_values [] = []
+declared_values (d ∷ ds) = replicate (declared_size d.size) d.value ++ declared_values ds
+
+-- the cells of a name, where the first declaration's first cell is `next`
+abbrev pub range_of : ℕ → List Declaration → List ℕ → Option CellRange
+range_of next [] x = None
+range_of next (d ∷ ds) x = if bytes_eq d.name x then Some (record { first = next; size = declared_size d.size }) else range_of (next + declared_size d.size) ds x
+
+-- where iteration i of the program runs; no loop of an iteration makes as many turns as all its instances may make steps
+abbrev pub setting_of : SyntaxTree → List ℤ → ℕ → Setting
+setting_of tree input i = record {
+  cells = range_of 2 tree.cells;
+  turns = natural tree.limits.stages * (natural tree.limits.steps + 1);
+  world = record {
+    input = input;
+    iteration = i;
+    iterations = tree.limits.iterations;
+    stages = natural tree.limits.stages;
+    emits = natural tree.limits.emits;
+  };
+}
+
+-- the pipeline of a program without `init`: declared cells follow the input's cursor and the output, each instance has its budget of steps,
+-- and the iteration after the last that is allowed closes the loop
+abbrev pub pipeline_of : SyntaxTree → List ℤ → Pipeline
+pipeline_of tree input = record {
+  initial_values = pos 0 ∷ pos 0 ∷ declared_values tree.cells;
+  output_limit = natural tree.limits.emits;
+  preamble = [];
+  behaviour = λ i. with_budget (natural tree.limits.steps) (natural tree.limits.steps) (run_iteration (setting_of tree input i) tree.test tree.body);
+  last_iteration = natural tree.limits.iterations;
+}

@@ -1,0 +1,87 @@
+-- Which symbols spell which program, within the bounds on brackets and full expressions, and the first fault of symbols that spell none.
+use Rattle.std.specs.Prelude.{◌≡◌, ◌<◌, ◌≤◌, ◌-◌, ℕ, Bool, List, [], ◌∷◌, ◌++◌, length, ◌==◌, ◌||◌, false}
+use Rattle.std.specs.List.{count_by}
+use Rattle.pipe_model.specs.declared.symbol.Symbol.{Symbol}
+use Rattle.pipe_model.specs.declared.symbol.Symbol.TheVariants as symbols
+use Rattle.pipe_model.specs.Language.Grammar.{Piece, Single, FullExpression, flat, DerivesProgram}
+use Rattle.pipe_model.specs.Language.SyntaxTree.{SyntaxTree}
+
+-- `(`, `[` or `{`
+abbrev pub is_opening_bracket : Symbol → Bool
+is_opening_bracket (symbols.Sign b) = (b == 40) || ((b == 91) || (b == 123))
+is_opening_bracket (symbols.Name name) = false
+is_opening_bracket (symbols.Word k) = false
+is_opening_bracket (symbols.Number n) = false
+is_opening_bracket (symbols.Operator code) = false
+
+-- `)`, `]` or `}`
+abbrev pub is_closing_bracket : Symbol → Bool
+is_closing_bracket (symbols.Sign b) = (b == 41) || ((b == 93) || (b == 125))
+is_closing_bracket (symbols.Name name) = false
+is_closing_bracket (symbols.Word k) = false
+is_closing_bracket (symbols.Number n) = false
+is_closing_bracket (symbols.Operator code) = false
+
+-- how many brackets of the symbols are still open at their end
+abbrev pub open_brackets : List Symbol → ℕ
+open_brackets ts = count_by is_opening_bracket ts - count_by is_closing_bracket ts
+
+-- at each point at most 64 brackets are open
+pub record IsShallow (ts : List Symbol) : Type 0 where
+  pub shallow : (before after : List Symbol) → ts ≡ before ++ after → open_brackets before ≤ 64
+
+-- each full expression has at most so many symbols
+abbrev pub AreShort : ℕ → List Piece → Type 0
+AreShort longest [] = Unit {0}
+AreShort longest (Single t ∷ ps) = AreShort longest ps
+AreShort longest (FullExpression ts ∷ ps) = (length ts ≤ longest) × AreShort longest ps
+
+-- the symbols spell the program
+pub record Spells (ts : List Symbol) (tree : SyntaxTree) : Type 0 where
+  pub pieces : List Piece
+  pub split : ts ≡ flat pieces
+  pub derived : DerivesProgram pieces tree
+  pub short : AreShort 256 pieces
+  pub shallow : IsShallow ts
+
+-- the symbols are a front of the symbols of some program, by the grammar alone
+pub record IsProgramPrefix (before : List Symbol) : Type 0 where
+  pub after : List Symbol
+  pub pieces : List Piece
+  pub tree : SyntaxTree
+  pub derived : DerivesProgram pieces tree
+  pub split : before ++ after ≡ flat pieces
+
+-- the last of the symbols is number 257 of a full expression
+pub record EndsTooLong (ts : List Symbol) : Type 0 where
+  pub before : List Piece
+  pub inside : List Symbol
+  pub more : List Symbol
+  pub after : List Piece
+  pub tree : SyntaxTree
+  pub derived : DerivesProgram (before ++ FullExpression (inside ++ more) ∷ after) tree
+  pub many : length inside ≡ 257
+  pub split : ts ≡ flat before ++ inside
+
+-- none of the symbols breaks a rule
+pub record BreaksNoRule (ts : List Symbol) : Type 0 where
+  pub front : IsProgramPrefix ts
+  pub shallow : IsShallow ts
+  pub short : (before after : List Symbol) → ts ≡ before ++ after → EndsTooLong before → ⊥
+
+-- the rules that a symbol may break
+pub data GrammarRule : Type 0 where
+  Expected : GrammarRule
+  Shallow : GrammarRule
+  Short : GrammarRule
+
+-- the first symbol that breaks a rule stands behind so many others; at one symbol the rules count in their order
+pub data FirstFault : List Symbol → GrammarRule → ℕ → Type 0 where
+  UnexpectedSymbol : (before : List Symbol) (t : Symbol) (after : List Symbol) → BreaksNoRule before → (IsProgramPrefix (before ++ t ∷ []) → ⊥)
+      → FirstFault (before ++ t ∷ after) Expected (length before)
+  UnexpectedEnd : (ts : List Symbol) → BreaksNoRule ts
+      → ((pieces : List Piece) (tree : SyntaxTree) → DerivesProgram pieces tree → ts ≡ flat pieces → ⊥) → FirstFault ts Expected (length ts)
+  TooDeep : (before : List Symbol) (t : Symbol) (after : List Symbol) → BreaksNoRule before → IsProgramPrefix (before ++ t ∷ [])
+      → 64 < open_brackets (before ++ t ∷ []) → FirstFault (before ++ t ∷ after) Shallow (length before)
+  TooLong : (before : List Symbol) (t : Symbol) (after : List Symbol) → BreaksNoRule before → open_brackets (before ++ t ∷ []) ≤ 64
+      → EndsTooLong (before ++ t ∷ []) → FirstFault (before ++ t ∷ after) Short (length before)

@@ -1,0 +1,8 @@
+-- Runs: states, events, which events are allowed, throttling, and logs.
+pub mod State
+pub mod Allowed
+pub mod Run
+pub mod Throttling
+pub mod RunLogs
+pub mod ControlRun
+pub mod TicketLogs

@@ -1,0 +1,27 @@
+-- Runs: lists of events, each allowed in the state that those before it have made. The last event stands last.
+use Rattle.std.specs.Prelude.{◌≡◌, ℕ, List, [], ◌∷◌, ◌++◌, true, false, Some}
+use Rattle.pipe_model.specs.declared.event.Event.{Event}
+use Rattle.pipe_model.specs.Pipelines.Pipeline.{Pipeline}
+use Rattle.pipe_model.specs.Runs.State.{Frame, State, initial_state, frame_at, next_state, is_completed}
+use Rattle.pipe_model.specs.Runs.Allowed.{ClosesLoop, Allowed}
+
+-- the events are a run, which leads to the state
+pub data Run (p : Pipeline) (limit : ℕ) : List Event → State → Type 0 where
+  EmptyRun : Run p limit [] initial_state
+  RunThen : {events : List Event} {s : State} → Run p limit events s → (e : Event) → Allowed p limit s e → Run p limit (events ++ e ∷ []) (next_state s e)
+
+-- all iterations have ended, one of them has closed the loop, and the run was not stopped
+pub record IsFinished (s : State) : Type 0 where
+  pub over : (i : ℕ) (f : Frame) → frame_at s.frames i ≡ Some f → is_completed f.status ≡ true
+  pub shut : (i : ℕ) × (f : Frame) × (frame_at s.frames i ≡ Some f) × ClosesLoop f.status f.nodes
+  pub going : s.stopped ≡ false
+
+-- the state that events make of a state, whether they are allowed or not
+abbrev pub state_from : State → List Event → State
+state_from s [] = s
+state_from s (e ∷ es) = state_from (next_state s e) es
+
+-- the events are allowed one after the other, from a state on: a run told from the front
+abbrev pub AllowedFrom : Pipeline → ℕ → State → List Event → Type 0
+AllowedFrom p limit s [] = Unit {0}
+AllowedFrom p limit s (e ∷ es) = Allowed p limit s e × AllowedFrom p limit (next_state s e) es
