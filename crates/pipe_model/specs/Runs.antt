@@ -6,3 +6,5 @@ pub mod Throttling
 pub mod RunLogs
 pub mod ControlRun
 pub mod TicketLogs
+pub mod StageCounters
+pub mod StageEnds

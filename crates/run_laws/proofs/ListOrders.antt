@@ -17,6 +17,7 @@ pub mod Reach
 pub mod RightChildren
 pub mod RightFirst
 pub mod RunOrders
+pub mod SoundStarts
 pub mod StableLeftParents
 pub mod StartNumbers
 pub mod StartPlaces

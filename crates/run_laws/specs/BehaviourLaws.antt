@@ -12,8 +12,8 @@ use Rattle.pipe_model.specs.declared.column.ColumnEnd.{ColumnEnd}
 abbrev pub InterpretersAreSerial : Type 0
 InterpretersAreSerial =
     (p : Pipeline) (base : List Access) (budget : ℕ) (tree : Interaction ColumnEnd) (k : Progress)
-    → interpreted_actions (interpret p base budget tree k)
-    ≡ k.actions ++ serial_trace p (with_budget budget k.left tree) (base ++ accesses_in k.actions)
+    → interpreted_actions (interpret p.store base budget tree k)
+    ≡ k.actions ++ serial_trace p.store (with_budget budget k.left tree) (base ++ accesses_in k.actions)
 
 -- what a behaviour performs is what it does with the replies that stand in it:
 -- the actions with any replies are performed; a performed trace begins the actions with its own replies; and more
@@ -33,5 +33,5 @@ BehavioursPerform = (behaviour : Behaviour) → PerformsByReplies behaviour
 abbrev pub BindsAreInterpretedInTurn : Type 0 → Type 0 → Type 0
 BindsAreInterpretedInTurn A B =
     (p : Pipeline) (base : List Access) (budget : ℕ) (tree : Interaction A) (next : A → Interaction B) (k : Progress)
-    → interpret p base budget (bind tree next) k
-    ≡ interpreted_bind (interpret p base budget tree k) (λ a j. interpret p base budget (next a) j)
+    → interpret p.store base budget (bind tree next) k
+    ≡ interpreted_bind (interpret p.store base budget tree k) (λ a j. interpret p.store base budget (next a) j)

@@ -3,7 +3,9 @@ use Rattle.std.specs.Prelude.{ℕ, List, ◌≡◌, map}
 use Rattle.pipe_model.specs.Pipelines.Pipeline.{Pipeline}
 use Rattle.pipe_model.specs.Runs.Run.{Run, IsFinished}
 use Rattle.pipe_model.specs.Runs.State.{State, own_columns}
-use Rattle.pipe_model.specs.Runs.TicketLogs.{BookEntry, ShardEntry, TimedAction, LogEntry, ClosedLogs, IsMerge, event_of}
+use Rattle.pipe_model.specs.Runs.TicketLogs.{TimedAction, LogEntry, ClosedLogs, IsMerge, event_of}
+use Rattle.pipe_model.specs.declared.ticket.BookEntry.{BookEntry}
+use Rattle.pipe_model.specs.declared.ticket.ShardEntry.{ShardEntry}
 use Rattle.pipe_model.specs.declared.event.Event.{Event}
 
 -- the events are a run, with the columns of this state of the control part, and finished where that is

@@ -1,8 +1,9 @@
 -- Laws of the two orders of a list of starts, and of a run (Xu, Lee, Agrawal 2018): together they are the order of
--- the dag. The lists are order-maintenance lists (Bender et al. 2002), told by their insertion logs.
+-- the dag. The lists are order-maintenance lists (Bender et al. 2002), given by their insertion logs.
 use Rattle.std.specs.Prelude.{None, if◌then◌else◌, nat_lt, List, ◌↔◌, ℕ, ◌≡◌, length, suc, ◌+◌, ◌<◌, Some, [], ◌∷◌, ◌++◌, true}
-use Rattle.pipe_model.specs.Runs.Allowed.{Allowed}
+use Rattle.pipe_model.specs.Runs.Allowed.{ControlAllows}
 use Rattle.pipe_model.specs.Races.Columns.{node_at, AreColumns, IsNodeOf, nodes_at, at}
+use Rattle.pipe_model.specs.Runs.ControlRun.{ControlRun}
 use Rattle.pipe_model.specs.Races.Dag.{Precedes, CrossEdge}
 use Rattle.pipe_model.specs.Orders.LeftParent.{left_parent, last_up_to, joined_at}
 use Rattle.pipe_model.specs.Orders.OrderList.{insert_after, IsLog, has, list_of_log, StandsBefore}
@@ -17,6 +18,11 @@ use Rattle.pipe_model.specs.declared.node.Kind.TheVariants.{Wait, Continue}
 use Rattle.pipe_model.specs.declared.node.Node.{Node}
 use Rattle.pipe_model.specs.declared.node.NodeId.{NodeId}
 
+-- a law of each run of a pipeline, and of each run of the control part
+pub record OfEachRun (Law : ℕ → List Event → State → Type 0) : Type 0 where
+  pub runs : (p : Pipeline) (limit : ℕ) (events : List Event) (s : State) → Run p limit events s → Law limit events s
+  pub control_runs : (limit : ℕ) (events : List Event) (c : State) → ControlRun limit events c → Law limit events c
+
 -- what the starts of a run are: the instances of its own columns, each once, each after all that have an edge to it
 pub record HasStarts (events : List Event) (s : State) : Type 0 where
   pub columns : AreColumns (own_columns s)
@@ -25,9 +31,7 @@ pub record HasStarts (events : List Event) (s : State) : Type 0 where
 
 -- the events of a run start the instances of its own columns
 abbrev pub StartedNodesAreOwnNodes : Type 0
-StartedNodesAreOwnNodes =
-    (p : Pipeline) (limit : ℕ) (events : List Event) (s : State) → Run p limit events s
-    → HasStarts events s
+StartedNodesAreOwnNodes = OfEachRun (λ limit events s. HasStarts events s)
 
 -- before in both orders is exactly precedes, for any list of starts that respects the edges
 abbrev pub BothOrdersOfStarts : Type 0
@@ -38,10 +42,9 @@ BothOrdersOfStarts =
 
 -- before in both orders is exactly precedes, in every run
 abbrev pub BothOrdersArePrecedes : Type 0
-BothOrdersArePrecedes =
-    (p : Pipeline) (limit : ℕ) (events : List Event) (s : State) → Run p limit events s
-    → (x y : NodeId) → IsNodeOf (own_columns s) x → IsNodeOf (own_columns s) y
-    → IsBeforeInBoth (own_columns s) (starts_of events) x y ↔ Precedes (own_columns s) x y
+BothOrdersArePrecedes = OfEachRun (λ limit events s.
+    (x y : NodeId) → IsNodeOf (own_columns s) x → IsNodeOf (own_columns s) y
+    → IsBeforeInBoth (own_columns s) (starts_of events) x y ↔ Precedes (own_columns s) x y)
 
 -- no two instances take one element of a list
 pub record TakesEachOnce (columns : List (List Node)) (starts : List NodeId) : Type 0 where
@@ -52,18 +55,15 @@ pub record TakesEachOnce (columns : List (List Node)) (starts : List NodeId) : T
 
 -- each placeholder is taken at most once, in every run
 abbrev pub PlaceholdersAreTakenOnce : Type 0
-PlaceholdersAreTakenOnce =
-    (p : Pipeline) (limit : ℕ) (events : List Event) (s : State) → Run p limit events s
-    → TakesEachOnce (own_columns s) (starts_of events)
+PlaceholdersAreTakenOnce = OfEachRun (λ limit events s. TakesEachOnce (own_columns s) (starts_of events))
 
 -- the left parent is the source of the left edge, where that does not precede the instance above
 abbrev pub LeftParentsAreSources : Type 0
-LeftParentsAreSources =
-    (p : Pipeline) (limit : ℕ) (events : List Event) (s : State) → Run p limit events s
-    → (i j k : ℕ) → i + 1 < length (own_columns s) → suc k < length (nodes_at (own_columns s) (i + 1))
+LeftParentsAreSources = OfEachRun (λ limit events s.
+    (i j k : ℕ) → i + 1 < length (own_columns s) → suc k < length (nodes_at (own_columns s) (i + 1))
     → (left_parent (own_columns s) (suc i) (suc k) ≡ Some j)
     ↔ (CrossEdge (nodes_at (own_columns s) i) (nodes_at (own_columns s) (i + 1)) j (suc k)
-    × (Precedes (own_columns s) (at i j) (at (suc i) k) → ⊥))
+    × (Precedes (own_columns s) (at i j) (at (suc i) k) → ⊥)))
 
 -- the left parent of an instance below a head, told by a search of the left column: if it waits it is the place that is
 -- found, where that is after the one that precedes the instance above already, and if it continues there is none
@@ -93,16 +93,12 @@ pub record AddsEntries (events : List Event) (s : State) (e : Event) : Type 0 wh
 
 -- the logs of a run grow at their end
 abbrev pub LogsGrowAtTheirEnd : Type 0
-LogsGrowAtTheirEnd =
-    (p : Pipeline) (limit : ℕ) (events : List Event) (s : State) (e : Event) → Run p limit events s
-    → Allowed p limit s e
-    → AddsEntries events s e
+LogsGrowAtTheirEnd = OfEachRun (λ limit events s. (e : Event) → ControlAllows limit s e → AddsEntries events s e)
 
 -- each entry of both logs of a run names an element that stands already
 abbrev pub LogsNameWhatStands : Type 0
-LogsNameWhatStands =
-    (p : Pipeline) (limit : ℕ) (events : List Event) (s : State) → Run p limit events s
-    → IsLog 1 (down_first_log (starts_of events)) × IsLog 1 (right_first_log (own_columns s) (starts_of events))
+LogsNameWhatStands = OfEachRun (λ limit events s.
+    IsLog 1 (down_first_log (starts_of events)) × IsLog 1 (right_first_log (own_columns s) (starts_of events)))
 
 -- a longer log changes the order of no two elements that were there
 abbrev pub LongerLogsKeepTheOrder : Type 0

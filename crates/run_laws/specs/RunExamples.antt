@@ -13,7 +13,7 @@ use Rattle.pipe_model.specs.Pipelines.Behaviour.{Behaviour, Reading, Writing, St
 use Rattle.pipe_model.specs.Pipelines.Pipeline.{Pipeline}
 use Rattle.pipe_model.specs.Pipelines.SerialElision.{serial_events}
 use Rattle.pipe_model.specs.Races.Dag.{CrossEdge, Edge, Precedes, AreParallel}
-use Rattle.pipe_model.specs.Runs.State.{Running, Pending}
+use Rattle.pipe_model.specs.declared.status.Status.TheVariants.{Running, Pending}
 use Rattle.pipe_model.specs.Runs.Allowed.{HasPassed}
 use Rattle.pipe_model.specs.Orders.LeftParent.{left_parent}
 use Rattle.pipe_model.specs.Orders.OrderList.{list_of_log}
@@ -96,8 +96,7 @@ two_iterations (suc i) = Ending Closed
 -- a pipeline of these iterations
 abbrev pub small_pipeline : Pipeline
 small_pipeline = record {
-  initial_values = [];
-  output_limit = 0;
+  store = record { values = []; output_limit = 0 };
   preamble = [];
   behaviour = two_iterations;
   last_iteration = 1;

@@ -4,12 +4,14 @@ ghost use Rattle.run_laws.specs.BehaviourLaws.{BindsAreInterpretedInTurn, Interp
 
 /// An interpreter that runs an interaction tree step by step, and answers each read from the accesses so far,
 /// makes the serial trace of the tree's behaviour. So code that is proved against the tree makes the serial elision.
+#[tactic(auto, using(crate::proofs::Iterations::Interpreters::interpreters_are_serial))]
 pub fn interpreters_are_serial()
     ensures { InterpretersAreSerial }
 {}
 
 /// What a behaviour performs action by action is what it does with the replies that stand in the actions, and
 /// more replies only add actions at the end.
+#[tactic(auto, using(crate::proofs::Iterations::PerformedActions::behaviours_perform))]
 pub fn behaviours_perform()
     ensures { BehavioursPerform }
 {}

@@ -4,18 +4,21 @@ ghost use Rattle.run_laws.specs.RunLaws.{RunsKeepRules, RunsFromTheFront, RunsNe
 
 /// In every run the iterations that have begun are those that have ended and those that are alive, at most `limit`
 /// are alive, the stage numbers of an iteration rise, and each access is made by an instance that was started.
+#[tactic(auto, using(crate::proofs::RunStates::IterationCounts::runs_keep_rules))]
 pub fn runs_keep_rules()
     ensures { RunsKeepRules }
 {}
 
 /// A run is told from the front as well: each event is allowed in the state that the events before it make, and the
 /// run leads to the state that its events make.
+#[tactic(auto, using(crate::proofs::RunStates::FrontAndBack::runs_from_the_front))]
 pub fn runs_from_the_front()
     ensures { RunsFromTheFront }
 {}
 
 /// A run of a well-formed pipeline, with a limit of at least 1, that is neither finished nor stopped goes on: an event
 /// other than a stop is allowed.
+#[tactic(auto, using(crate::proofs::RunStates::Progress::runs_never_stick))]
 pub fn runs_never_stick()
     ensures { RunsNeverStick }
 {}

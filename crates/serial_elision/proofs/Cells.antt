@@ -7,10 +7,9 @@ use Rattle.pipe_model.specs.declared.access.NodeAccess.{NodeAccess}
 use Rattle.pipe_model.specs.declared.node.NodeId.{NodeId}
 use Rattle.pipe_model.specs.Pipelines.Behaviour.{read_access, write_access}
 use Rattle.pipe_model.specs.Runs.State.{accesses_of}
-use Rattle.pipe_model.specs.Pipelines.Store.{written, wrote, wrote_as, last_or, value_after}
+use Rattle.pipe_model.specs.Pipelines.Store.{written, wrote, wrote_as, last_or, value_after, InitialStore}
 use Rattle.serial_elision.specs.Caching.{AreLastWritten, IsConsistentStore}
 use Rattle.serial_elision.specs.declared.store.Store.TheInside.{Inside}
-use Rattle.serial_elision.specs.ElisionState.{cells_of}
 
 -- what two lists of accesses write, one after the other
 pub written-append : (c : ℕ) (xs ys : List Access) → written c (xs ++ ys) ≡ written c xs ++ written c ys
@@ -81,9 +80,9 @@ pub emit_counts : (ns more : List NodeAccess) (made : NodeAccess) (at : NodeId) 
 emit_counts ns more made at v m e = rw (e, m, written_push 1 ns at (write_access 1 v), length-append (written 1 (accesses_of ns)) (v ∷ []))
 
 -- the cell of the output has the number of its writes
-pub output_value : (declared : List ℤ) (limit emitted : ℕ) (accesses : List Access) → emitted ≡ length (written 1 accesses) → emitted ≤ limit
-    → value_after (cells_of declared limit) accesses 1 ≡ pos emitted
-output_value declared limit emitted accesses e h = ap pos (omega arith)
+pub output_value : (store : InitialStore) (emitted : ℕ) (accesses : List Access) → emitted ≡ length (written 1 accesses)
+    → emitted ≤ store.output_limit → value_after store accesses 1 ≡ pos emitted
+output_value store emitted accesses e h = ap pos (omega arith)
 
 -- what is written by one access more of a list
 pub written_more : (ns : List NodeAccess) (i : ℕ) (d : NodeAccess) → i < length ns

@@ -12,7 +12,7 @@ use Rattle.pipe_model.specs.declared.node.Node.{Node}
 use Rattle.pipe_model.specs.declared.trap.TrapAt.{TrapAt}
 use Rattle.pipe_model.specs.declared.trap.TrapPlace.TheVariants.{At}
 use Rattle.pipe_model.specs.Races.Columns.{at, node_at}
-use Rattle.pipe_model.specs.Pipelines.Behaviour.{Behaviour, Reading, Writing, Staging, Ending, Action, Accessed, Staged, Ended, accesses_in, closes_loop, column_of, nodes_in, read_access, trace_end, write_access}
+use Rattle.pipe_model.specs.Pipelines.Behaviour.{Action, Accessed, Staged, Ended, accesses_in, closes_loop, column_of, nodes_in, trace_end}
 use Rattle.pipe_model.specs.Language.Evaluation.{run_iteration}
 use Rattle.pipe_model.specs.Language.Interaction.{Interaction, with_budget}
 use Rattle.pipe_model.specs.Pipelines.ElisionResults.{ended_column, first_of_both, first_trap, trap_at_end}
@@ -20,11 +20,10 @@ use Rattle.pipe_model.specs.Pipelines.Pipeline.{Pipeline}
 use Rattle.pipe_model.specs.Language.Programs.{natural, pipeline_of, setting_of}
 use Rattle.pipe_model.specs.Pipelines.SerialElision.{located, located_from, serial_trace, serial_traces_from, unless}
 use Rattle.pipe_model.specs.Runs.State.{accesses_of}
-use Rattle.pipe_model.specs.Pipelines.Store.{value_after}
 use Rattle.pipe_model.specs.Language.SyntaxTree.{SyntaxTree}
 use Rattle.serial_elision.specs.TreeResults.{basis_of}
 use Rattle.serial_elision.specs.Elided.{AreElided, IsEnd, is_last, trap_in}
-use Rattle.serial_elision.specs.ElisionState.{Basis, ElisionState, cells_of, first_node, perform}
+use Rattle.serial_elision.specs.ElisionState.{Basis, ElisionState, first_node, perform}
 use Rattle.serial_elision.proofs.Traces.{IsTraced, closes_after, leads_to_end}
 
 -- the accesses of a trace, with their instances and without
@@ -38,23 +37,6 @@ accesses_of-located i k (Ended e ∷ t) = accesses_of-located i k t
 first_of_three : (a b c : Option TrapAt) → first_of_both (first_of_both a b) c ≡ first_of_both a (first_of_both b c)
 first_of_three None b c = refl
 first_of_three (Some t) b c = refl
-
--- the cells of two pipelines have the same values
-same_value : (p q : Pipeline) (accesses : List Access) (c : ℕ) → p.initial_values ≡ q.initial_values → p.output_limit ≡ q.output_limit
-    → value_after p accesses c ≡ value_after q accesses c
-same_value p q accesses c e f =
-    ap (λ declared. value_after (cells_of declared p.output_limit) accesses c) e ∙ ap (λ limit. value_after (cells_of q.initial_values limit) accesses c) f
-
--- and so iterations have the same traces
-pub same_trace : (p q : Pipeline) (b : Behaviour) (before : List Access) → p.initial_values ≡ q.initial_values → p.output_limit ≡ q.output_limit
-    → serial_trace p b before ≡ serial_trace q b before
-same_trace p q (Reading c go) before e f =
-    let v : ℤ = value_after q before c in
-    ap (λ x. Accessed (read_access c x) ∷ serial_trace p (go x) (before ++ read_access c x ∷ [])) (same_value p q before c e f)
-    ∙ ap (λ t. Accessed (read_access c v) ∷ t) (same_trace p q (go v) (before ++ read_access c v ∷ []) e f)
-same_trace p q (Writing c v d) before e f = ap (λ t. Accessed (write_access c v) ∷ t) (same_trace p q d (before ++ write_access c v ∷ []) e f)
-same_trace p q (Staging kind n d) before e f = ap (λ t. Staged kind n ∷ t) (same_trace p q d before e f)
-same_trace p q (Ending e') before e f = refl
 
 -- what is kept at the end of iteration i, told by its trace t
 pub record IsIteration (i : ℕ) (before : List NodeAccess) (t : List Action) (e : ColumnEnd) (k : ElisionState) : Type 0 where
@@ -90,17 +72,15 @@ closes_by_nodes (n ∷ ns) (ends.Trapped t) = two_are_not_one n ns
 pub is_iteration : (tree : SyntaxTree) (input : List ℤ) (i : ℕ) (k j : ElisionState) (e : ColumnEnd) → k.basis ≡ basis_of tree → k.iteration ≡ i
     → k.nodes ≡ first_node ∷ [] → k.left ≡ k.basis.budget
     → IsEnd e j (perform (run_iteration (setting_of tree input i) tree.test tree.body) k)
-    → IsIteration i k.accesses (serial_trace (pipeline_of tree input) ((pipeline_of tree input).behaviour i) (accesses_of k.accesses)) e j
+    → IsIteration i k.accesses (serial_trace (pipeline_of tree input).store ((pipeline_of tree input).behaviour i) (accesses_of k.accesses)) e j
 is_iteration tree input i k j e basis iteration nodes left h =
     let d : Interaction ColumnEnd = run_iteration (setting_of tree input i) tree.test tree.body in
     let before : List Access = accesses_of k.accesses in
-    let t : List Action = serial_trace (pipeline_of tree input) (with_budget (natural tree.limits.steps) (natural tree.limits.steps) d) before in
+    let t : List Action = serial_trace (pipeline_of tree input).store (with_budget (natural tree.limits.steps) (natural tree.limits.steps) d) before in
     let begun : 0 < length k.nodes = rw nodes (lit< tt) in
-    let own : serial_trace (cells_of k.basis.initial_values k.basis.output_limit) (with_budget k.basis.budget k.left d) before ≡ t =
-    ap (λ n. serial_trace (cells_of k.basis.initial_values k.basis.output_limit) (with_budget k.basis.budget n d) before) left
-    ∙ ap (λ (b : Basis). serial_trace (cells_of b.initial_values b.output_limit) (with_budget b.budget b.budget d) before) basis
-    ∙ same_trace (cells_of (basis_of tree).initial_values (basis_of tree).output_limit) (pipeline_of tree input)
-    (with_budget (natural tree.limits.steps) (natural tree.limits.steps) d) before refl refl in
+    let own : serial_trace k.basis.store (with_budget k.basis.budget k.left d) before ≡ t =
+    ap (λ n. serial_trace k.basis.store (with_budget k.basis.budget n d) before) left
+    ∙ ap (λ (b : Basis). serial_trace b.store (with_budget b.budget b.budget d) before) basis in
     let here : IsTraced t k.basis k.iteration k.accesses k.nodes (perform d k) =
     subst (λ (x : List Action). IsTraced x k.basis k.iteration k.accesses k.nodes (perform d k)) own (leads_to_end d k begun) in
     let from : IsTraced t k.basis i k.accesses k.nodes (perform d k) = subst (λ (x : ℕ). IsTraced t k.basis x k.accesses k.nodes (perform d k)) iteration
@@ -127,11 +107,11 @@ rest_after p n m i t before after false e closed open' same = rw (e, open' refl,
 
 -- one iteration more
 pub elided_more : (p : Pipeline) (n m i : ℕ) (columns : List Column) (trap : Option TrapAt) (before : List NodeAccess) (e : ColumnEnd) (k : ElisionState)
-    → AreElided p (suc n) i columns trap before → IsIteration i before (serial_trace p (p.behaviour i) (accesses_of before)) e k
+    → AreElided p (suc n) i columns trap before → IsIteration i before (serial_trace p.store (p.behaviour i) (accesses_of before)) e k
     → (is_last k.nodes e ≡ true → m ≡ zero) → (is_last k.nodes e ≡ false → m ≡ n)
     → AreElided p m (i + 1) (columns ++ record { nodes = k.nodes; end = Some e } ∷ []) (first_of_both trap (trap_in i k.nodes e)) k.accesses
 elided_more p n m i columns trap before e k h one closed open' =
-    let t : List Action = serial_trace p (p.behaviour i) (accesses_of before) in
+    let t : List Action = serial_trace p.store (p.behaviour i) (accesses_of before) in
     let c : Column = record { nodes = k.nodes; end = Some e } in
     let rest : List (List Action) = unless (closes_loop t) (serial_traces_from p n (i + 1) (accesses_of before ++ accesses_in t)) in
     let accesses : accesses_of k.accesses ≡ accesses_of before ++ accesses_in t =
@@ -160,7 +140,7 @@ or_is_first (Some t) b = refl
 -- one iteration more, as the loop keeps it
 pub elided_push : (p : Pipeline) (n m i : ℕ) (columns pushed : List Column) (trap now : Option TrapAt) (before : List NodeAccess) (e : ColumnEnd) (k : ElisionState)
     (nodes : List Node)
-    → AreElided p (suc n) i columns trap before → IsIteration i before (serial_trace p (p.behaviour i) (accesses_of before)) e k
+    → AreElided p (suc n) i columns trap before → IsIteration i before (serial_trace p.store (p.behaviour i) (accesses_of before)) e k
     → (is_last k.nodes e ≡ true → m ≡ zero) → (is_last k.nodes e ≡ false → m ≡ n)
     → nodes ≡ k.nodes → pushed ≡ columns ++ record { nodes = nodes; end = Some e } ∷ [] → now ≡ option_or trap (trap_in k.iteration k.nodes e)
     → AreElided p m (i + 1) pushed now k.accesses

@@ -148,9 +148,9 @@ traces_tell_events i (t ∷ ts) w =
     ∙ ap (λ es. trace_events i t ++ es) (traces_tell_events (i + 1) ts w.1))
 
 -- the trace of a behaviour to its end is whole
-serial_trace_is_whole : (p : Pipeline) (d : Behaviour) (before : List Access) → IsWhole (serial_trace p d before)
+serial_trace_is_whole : (p : Pipeline) (d : Behaviour) (before : List Access) → IsWhole (serial_trace p.store d before)
 serial_trace_is_whole p (Reading c go) before =
-    serial_trace_is_whole p (go (value_after p before c)) (before ++ read_access c (value_after p before c) ∷ [])
+    serial_trace_is_whole p (go (value_after p.store before c)) (before ++ read_access c (value_after p.store before c) ∷ [])
 serial_trace_is_whole p (Writing c v d) before = serial_trace_is_whole p d (before ++ write_access c v ∷ [])
 serial_trace_is_whole p (Staging k n d) before = serial_trace_is_whole p d before
 serial_trace_is_whole p (Ending e) before = refl
@@ -163,7 +163,7 @@ unless_is_whole false ts w = w
 serial_traces_are_whole : (p : Pipeline) (n i : ℕ) (before : List Access) → AreWhole (serial_traces_from p n i before)
 serial_traces_are_whole p zero i before = tt
 serial_traces_are_whole p (suc n) i before =
-    let t : List Action = serial_trace p (p.behaviour i) before in (
+    let t : List Action = serial_trace p.store (p.behaviour i) before in (
       serial_trace_is_whole p (p.behaviour i) before,
       unless_is_whole (closes_loop t) _ (serial_traces_are_whole p n (i + 1) (before ++ accesses_in t)),
     )
@@ -180,7 +180,7 @@ unless_is_shorter false ts n w = w
 serial_traces_are_few : (p : Pipeline) (n i : ℕ) (before : List Access) → length (serial_traces_from p n i before) ≤ n
 serial_traces_are_few p zero i before = omega arith
 serial_traces_are_few p (suc n) i before =
-    let t : List Action = serial_trace p (p.behaviour i) before in
+    let t : List Action = serial_trace p.store (p.behaviour i) before in
     let h = unless_is_shorter (closes_loop t) _ n (serial_traces_are_few p n (i + 1) (before ++ accesses_in t)) in
     omega (arith, h)
 

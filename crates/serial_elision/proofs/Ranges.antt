@@ -30,8 +30,8 @@ declared_length (d ∷ ds) h =
     rw plain (omega (arith, more))
 
 -- the basis of a program has its plain cells
-pub has_cells : (p : Program) (b : Basis) → b ≡ basis_of (tree_of p) → All IsPlainCell p.cells → length b.initial_values ≡ length p.cells + 2
-has_cells p b e h = ap (λ (x : Basis). length x.initial_values) e ∙ omega (arith, declared_length p.cells h)
+pub has_cells : (p : Program) (b : Basis) → b ≡ basis_of (tree_of p) → All IsPlainCell p.cells → length b.store.values ≡ length p.cells + 2
+has_cells p b e h = ap (λ (x : Basis). length x.store.values) e ∙ omega (arith, declared_length p.cells h)
 
 -- the values of two lists of declarations, one after the other
 declared-append : (ds es : List Declaration) → declared_values (ds ++ es) ≡ declared_values ds ++ declared_values es

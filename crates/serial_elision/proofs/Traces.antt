@@ -10,10 +10,9 @@ use Rattle.pipe_model.specs.declared.node.Node.{Node}
 use Rattle.pipe_model.specs.declared.trap.Trap.TheVariants.{Budget}
 use Rattle.pipe_model.specs.Pipelines.Behaviour.{Action, Accessed, Staged, Ended, closes_loop, closes_at_once, node_of, nodes_in, read_access, trace_end, write_access}
 use Rattle.pipe_model.specs.Language.Interaction.{Interaction, Return, Raise, Step, Get, Set, Stage, spend_step, with_budget, Interpreted, Raised}
-use Rattle.pipe_model.specs.Pipelines.Pipeline.{Pipeline}
 use Rattle.pipe_model.specs.Pipelines.SerialElision.{located, serial_trace}
 use Rattle.pipe_model.specs.Runs.State.{accesses_of}
-use Rattle.serial_elision.specs.ElisionState.{Basis, ElisionState, cell_value, cells_of, end_of, state_of, with_access, made_here, perform}
+use Rattle.serial_elision.specs.ElisionState.{Basis, ElisionState, cell_value, end_of, state_of, with_access, made_here, perform}
 
 -- an iteration that ends so, after these instances beyond the first, closes the loop
 abbrev pub closes_after : List Node → ColumnEnd → Bool
@@ -29,13 +28,9 @@ pub record IsTraced (t : List Action) (b : Basis) (i : ℕ) (before : List NodeA
   pub ended : trace_end t ≡ Some (end_of ran)
   pub closes : closes_loop t ≡ closes_after (nodes_in t) (end_of ran)
 
--- the pipeline of the kept cells
-abbrev own : ElisionState → Pipeline
-own k = cells_of k.basis.initial_values k.basis.output_limit
-
 -- the trace of what is still to be done
 abbrev trace_of : Interaction ColumnEnd → ElisionState → List Action
-trace_of d k = serial_trace (own k) (with_budget k.basis.budget k.left d) (accesses_of k.accesses)
+trace_of d k = serial_trace k.basis.store (with_budget k.basis.budget k.left d) (accesses_of k.accesses)
 
 -- the trace of what is still to be done leads to the end
 abbrev LeadsToEnd : Interaction ColumnEnd → ElisionState → Type 0
@@ -72,7 +67,7 @@ accesses_push k a = map-append (λ (n : NodeAccess). n.access) k.accesses (made_
 
 -- a step before the rest
 step_first : (n : ℕ) (d : Interaction ColumnEnd) (k : ElisionState) → ((j : ElisionState) → 0 < length j.nodes → LeadsToEnd d j) → 0 < length k.nodes
-    → IsTraced (serial_trace (own k) (with_budget k.basis.budget n (Step d)) (accesses_of k.accesses)) k.basis k.iteration k.accesses k.nodes
+    → IsTraced (serial_trace k.basis.store (with_budget k.basis.budget n (Step d)) (accesses_of k.accesses)) k.basis k.iteration k.accesses k.nodes
     (spend_step n (Raised Budget k) (λ m. perform d (record k { left = m })))
 step_first zero d k h w = ends_here (ends.Trapped Budget) k (Raised Budget k) refl refl
 step_first (suc n) d k h w = h (record k { left = n }) w

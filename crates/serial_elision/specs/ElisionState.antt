@@ -8,18 +8,16 @@ use Rattle.pipe_model.specs.declared.column.ColumnEnd.TheVariants as ends
 use Rattle.pipe_model.specs.declared.node.Kind.TheVariants.{Zero}
 use Rattle.pipe_model.specs.declared.node.Node.{Node}
 use Rattle.pipe_model.specs.declared.trap.Trap.TheVariants.{Budget}
-use Rattle.pipe_model.specs.Pipelines.Behaviour.{Ending, node_of, read_access, write_access}
+use Rattle.pipe_model.specs.Pipelines.Behaviour.{node_of, read_access, write_access}
 use Rattle.pipe_model.specs.Races.Columns.{node_at, at}
 use Rattle.pipe_model.specs.Language.Evaluation.{StagePosition}
 use Rattle.pipe_model.specs.Language.Interaction.{Interaction, Interpreted, Return, Raise, Returned, Raised, Step, Get, Set, Stage, spend_step}
-use Rattle.pipe_model.specs.Pipelines.Pipeline.{Pipeline}
 use Rattle.pipe_model.specs.Runs.State.{accesses_of}
-use Rattle.pipe_model.specs.Pipelines.Store.{value_after}
+use Rattle.pipe_model.specs.Pipelines.Store.{InitialStore, value_after}
 
--- what no step changes: the declared values, and the limits on emitted numbers, on instances of an iteration and on steps of an instance
+-- what no step changes: the store before the first access, and the limits on instances of an iteration and on steps of an instance
 pub record Basis : Type 0 where
-  pub initial_values : List ℤ
-  pub output_limit : ℕ
+  pub store : InitialStore
   pub stages : ℕ
   pub budget : ℕ
 
@@ -39,19 +37,9 @@ first_node = node_of Zero (pos 0)
 abbrev pub position_of : List Node → StagePosition
 position_of nodes = record { number = (node_at nodes (length nodes - 1)).number; count = length nodes }
 
--- cells with these declared values, and an output of at most so many numbers: all that the value of a cell is told from
-abbrev pub cells_of : List ℤ → ℕ → Pipeline
-cells_of initial_values output_limit = record {
-  initial_values = initial_values;
-  output_limit = output_limit;
-  preamble = [];
-  behaviour = λ i. Ending ends.End;
-  last_iteration = 0;
-}
-
 -- the value of cell c
 abbrev pub cell_value : ElisionState → ℕ → ℤ
-cell_value k c = value_after (cells_of k.basis.initial_values k.basis.output_limit) (accesses_of k.accesses) c
+cell_value k c = value_after k.basis.store (accesses_of k.accesses) c
 
 -- the access, made by the current instance
 abbrev pub made_here : ElisionState → Access → NodeAccess

@@ -1,10 +1,10 @@
 -- What calls answer, beside what the trees of the definitions do.
-use Rattle.std.specs.Prelude.{◌≡◌, ℕ, ℤ, pos, List, ◌∷◌, Result, Ok, Err, Option, Some, None}
+use Rattle.std.specs.Prelude.{◌≡◌, ℕ, ℤ, List, Result, Ok, Err, Option, Some, None}
 use Rattle.pipe_model.specs.declared.node.Node.{Node}
 use Rattle.pipe_model.specs.declared.trap.Trap.{Trap}
 use Rattle.pipe_model.specs.Language.Evaluation.{CellRange, Environment, Local, Setting}
 use Rattle.pipe_model.specs.Language.Interaction.{Interaction, Return, Raise, Interpreted, Returned, Raised}
-use Rattle.pipe_model.specs.Language.Programs.{declared_values, natural, setting_of}
+use Rattle.pipe_model.specs.Language.Programs.{natural, setting_of, store_of}
 use Rattle.pipe_model.specs.Language.SyntaxTree.{SyntaxTree, tree_of}
 use Rattle.serial_elision.specs.declared.halt.Halt.{Halt}
 use Rattle.serial_elision.specs.declared.halt.Halt.TheVariants as halts
@@ -18,8 +18,7 @@ setting_at place = setting_of (tree_of place.program.now) place.input.now place.
 -- what a run of the program never changes
 abbrev pub basis_of : SyntaxTree → Basis
 basis_of tree = record {
-  initial_values = pos 0 ∷ pos 0 ∷ declared_values tree.cells;
-  output_limit = natural tree.limits.emits;
+  store = store_of tree;
   stages = natural tree.limits.stages;
   budget = natural tree.limits.steps;
 }

@@ -9,7 +9,7 @@ ghost use Rattle.serial_elision.specs.TreeResults.{Meets, Leaves};
 ghost use Rattle.pipe_model.specs.Runs.State.{accesses_of};
 ghost use Rattle.pipe_model.specs.Pipelines.Store.{output_of, wrote, written};
 ghost use Rattle.serial_elision.specs.Elided.{is_last, trap_in};
-ghost use Rattle.serial_elision.specs.ElisionState.{ElisionState, cells_of, cell_value, with_access, perform, position_of, first_node};
+ghost use Rattle.serial_elision.specs.ElisionState.{ElisionState, cell_value, with_access, perform, position_of, first_node};
 
 use crate::halt::Halt;
 use pipe_model::access::{Access, AccessKind, CellId, NodeAccess, NodeAccesses};
@@ -46,7 +46,7 @@ impl Model for Store {
     ghost use Rattle.serial_elision.specs.Caching.{IsConsistentStore};
 
     ghost view = { λ s. record {
-      basis = record { initial_values = s.initial_values.items; output_limit = s.output_limit; stages = s.stages; budget = s.budget };
+      basis = record { store = record { values = s.initial_values.items; output_limit = s.output_limit }; stages = s.stages; budget = s.budget };
       accesses = s.accesses.items;
       iteration = s.iteration;
       nodes = s.nodes.items;
@@ -67,7 +67,7 @@ impl Store {
     ) -> Result<Self, NoMemory>
         requires { 0 < stages }
         ensures { IfOk result (λ store. store ≡ record {
-          basis = record { initial_values = initial_values.items; output_limit = output_limit; stages = stages; budget = budget };
+          basis = record { store = record { values = initial_values.items; output_limit = output_limit }; stages = stages; budget = budget };
           accesses = [];
           iteration = 0;
           nodes = first_node ∷ [];
@@ -136,7 +136,7 @@ impl Store {
 
     /// Reads a cell other than the output; where memory is refused nothing changes.
     pub fn read(&mut self, cell: u32) -> Result<i64, NoMemory>
-        requires there { cell < length self.old.basis.initial_values }
+        requires there { cell < length self.old.basis.store.values }
         requires no_output { cell ≢ 1 }
         ensures value { IfOk result (λ v. v ≡ cell_value self.old cell) }
         ensures ok { IfOk result (λ v. self.new ≡ with_access self.old (read_access cell v)) }
@@ -150,7 +150,7 @@ impl Store {
 
     /// Writes a cell other than the output; where memory is refused nothing changes.
     pub fn write(&mut self, cell: u32, value: i64) -> Result<(), NoMemory>
-        requires there { cell < length self.old.basis.initial_values }
+        requires there { cell < length self.old.basis.store.values }
         requires no_output { cell ≢ 1 }
         ensures ok { OnOk result (self.new ≡ with_access self.old (write_access cell value)) }
         ensures err { OnErr result (self.new ≡ self.old) }
@@ -163,8 +163,8 @@ impl Store {
 
     /// Reads how many numbers were emitted, and emits one more where the limit allows it.
     pub fn emit(&mut self, value: i64) -> Result<(), Halt>
-        requires there { 1 < length self.old.basis.initial_values }
-        ensures meets { Meets result (perform (evaluation.emit self.old.basis.output_limit value) self.old) self.new }
+        requires there { 1 < length self.old.basis.store.values }
+        ensures meets { Meets result (perform (evaluation.emit self.old.basis.store.output_limit value) self.old) self.new }
         ensures basis { self.new.basis ≡ self.old.basis }
         ensures nodes { self.new.nodes ≡ self.old.nodes }
     {
@@ -262,7 +262,7 @@ impl Store {
     /// What was emitted.
     pub fn output(&self, alloc: Global) -> Result<Numbers, NoMemory>
         ensures { IfOk result
-            (λ output. output ≡ output_of (cells_of self.now.basis.initial_values self.now.basis.output_limit)
+            (λ output. output ≡ output_of self.now.basis.store
             (accesses_of self.now.accesses)) }
     {
         emitted_by(alloc, self.accesses.as_slice())

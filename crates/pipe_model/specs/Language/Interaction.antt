@@ -10,8 +10,7 @@ use Rattle.pipe_model.specs.declared.trap.Trap.TheVariants.{Budget}
 use Rattle.pipe_model.specs.declared.node.Kind.{Kind}
 use Rattle.pipe_model.specs.declared.column.ColumnEnd.TheVariants as ends
 use Rattle.pipe_model.specs.Pipelines.Behaviour.{Behaviour, Reading, Writing, Staging, Ending, Action, Accessed, Staged, Ended, read_access, write_access, accesses_in}
-use Rattle.pipe_model.specs.Pipelines.Pipeline.{Pipeline}
-use Rattle.pipe_model.specs.Pipelines.Store.{value_after}
+use Rattle.pipe_model.specs.Pipelines.Store.{InitialStore, value_after}
 
 -- a tree returns, raises a trap, takes a step of the budget, reads a cell, writes a cell, or goes to a next stage
 pub data Interaction (A : Type 0) : Type 0 where
@@ -66,17 +65,17 @@ abbrev pub progress_with : Progress → Action → Progress
 progress_with k i = record k { actions = k.actions ++ i ∷ [] }
 
 -- the value of cell c after the accesses before the iteration and those of the iteration so far
-abbrev pub value_seen : Pipeline → List Access → Progress → ℕ → ℤ
-value_seen p base k c = value_after p (base ++ accesses_in k.actions) c
+abbrev pub value_seen : InitialStore → List Access → Progress → ℕ → ℤ
+value_seen store base k c = value_after store (base ++ accesses_in k.actions) c
 
 -- what an interpreter does with a tree
-abbrev pub interpret : {A : Type 0} → Pipeline → List Access → ℕ → Interaction A → Progress → Interpreted Progress A
-interpret p base budget (Return a) k = Returned a k
-interpret p base budget (Raise t) k = Raised t k
-interpret p base budget (Step d) k = spend_step k.left (Raised Budget k) (λ n. interpret p base budget d (record k { left = n }))
-interpret p base budget (Get c go) k = interpret p base budget (go (value_seen p base k c)) (progress_with k (Accessed (read_access c (value_seen p base k c))))
-interpret p base budget (Set c v d) k = interpret p base budget d (progress_with k (Accessed (write_access c v)))
-interpret p base budget (Stage kind n d) k = interpret p base budget d (record { actions = k.actions ++ Staged kind n ∷ []; left = budget })
+abbrev pub interpret : {A : Type 0} → InitialStore → List Access → ℕ → Interaction A → Progress → Interpreted Progress A
+interpret store base budget (Return a) k = Returned a k
+interpret store base budget (Raise t) k = Raised t k
+interpret store base budget (Step d) k = spend_step k.left (Raised Budget k) (λ n. interpret store base budget d (record k { left = n }))
+interpret store base budget (Get c go) k = interpret store base budget (go (value_seen store base k c)) (progress_with k (Accessed (read_access c (value_seen store base k c))))
+interpret store base budget (Set c v d) k = interpret store base budget d (progress_with k (Accessed (write_access c v)))
+interpret store base budget (Stage kind n d) k = interpret store base budget d (record { actions = k.actions ++ Staged kind n ∷ []; left = budget })
 
 -- the trace of an iteration that was interpreted to its end
 abbrev pub interpreted_actions : Interpreted Progress ColumnEnd → List Action

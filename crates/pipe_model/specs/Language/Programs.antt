@@ -5,6 +5,7 @@ use Rattle.pipe_model.specs.declared.tree.Declaration.{Declaration}
 use Rattle.pipe_model.specs.Language.Evaluation.{CellRange, Setting, run_iteration}
 use Rattle.pipe_model.specs.Language.Interaction.{with_budget}
 use Rattle.pipe_model.specs.Pipelines.Pipeline.{Pipeline}
+use Rattle.pipe_model.specs.Pipelines.Store.{InitialStore}
 use Rattle.pipe_model.specs.Language.SyntaxTree.{SyntaxTree}
 
 -- the number, or 0 where it is negative
@@ -41,12 +42,17 @@ setting_of tree input i = record {
   };
 }
 
--- the pipeline of a program without `init`: declared cells follow the input's cursor and the output, each instance has its budget of steps,
--- and the iteration after the last that is allowed closes the loop
+-- the store before the first access: the input's cursor and the number of outputs are 0, and the declared cells follow
+abbrev pub store_of : SyntaxTree → InitialStore
+store_of tree = record {
+  values = pos 0 ∷ pos 0 ∷ declared_values tree.cells;
+  output_limit = natural tree.limits.emits;
+}
+
+-- the pipeline of a program without `init`: each instance has its budget of steps, and the iteration after the last that is allowed closes the loop
 abbrev pub pipeline_of : SyntaxTree → List ℤ → Pipeline
 pipeline_of tree input = record {
-  initial_values = pos 0 ∷ pos 0 ∷ declared_values tree.cells;
-  output_limit = natural tree.limits.emits;
+  store = store_of tree;
   preamble = [];
   behaviour = λ i. with_budget (natural tree.limits.steps) (natural tree.limits.steps) (run_iteration (setting_of tree input i) tree.test tree.body);
   last_iteration = natural tree.limits.iterations;

@@ -14,7 +14,7 @@ use Rattle.pipe_model.specs.Pipelines.Store.{output_of}
 
 -- the output of the serial elision
 abbrev pub serial_output : Pipeline → List ℤ
-serial_output p = output_of p (p.preamble ++ accesses_of (serial_accesses p))
+serial_output p = output_of p.store (p.preamble ++ accesses_of (serial_accesses p))
 
 -- the trap of an iteration that ends so, in its last instance
 abbrev pub trap_at_end : ℕ → List Action → Option ColumnEnd → Option TrapAt

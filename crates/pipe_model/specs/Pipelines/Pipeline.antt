@@ -1,16 +1,16 @@
--- A pipeline program (Lee et al. 2013): a loop whose iterations go through stages, told by what each iteration does;
--- and what is asked of it.
+-- A pipeline program (Lee et al. 2013): a loop whose iterations go through stages, given by what each iteration does;
+-- and when it is well-formed.
 use Rattle.std.specs.Prelude.{◌≡◌, ℕ, ℤ, suc, List, Bool, true, false, pos, ◌≢◌, ◌<ℤ◌}
 use Rattle.pipe_model.specs.declared.access.Access.{Access}
 use Rattle.pipe_model.specs.declared.node.Kind.TheVariants.{Zero}
 use Rattle.pipe_model.specs.declared.column.ColumnEnd.TheVariants as ends
 use Rattle.pipe_model.specs.Pipelines.Behaviour.{Behaviour, Reading, Writing, Staging, Ending, closes_at_once}
+use Rattle.pipe_model.specs.Pipelines.Store.{InitialStore}
 
--- a pipeline: the initial values of cells, the limit on outputs, the accesses before the loop, what each iteration does,
+-- a pipeline: the store before the first access, the accesses before the loop, what each iteration does,
 -- and the iteration that always closes the loop
 pub record Pipeline : Type 0 where
-  pub initial_values : List ℤ
-  pub output_limit : ℕ
+  pub store : InitialStore
   pub preamble : List Access
   pub behaviour : ℕ → Behaviour
   pub last_iteration : ℕ

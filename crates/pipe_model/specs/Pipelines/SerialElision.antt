@@ -10,15 +10,15 @@ use Rattle.pipe_model.specs.declared.event.Event.TheVariants as events
 use Rattle.pipe_model.specs.Races.Columns.{at}
 use Rattle.pipe_model.specs.Pipelines.Behaviour.{Behaviour, Reading, Writing, Staging, Ending, Action, Accessed, Staged, Ended, read_access, write_access, accesses_in, column_of, closes_loop, trace_end}
 use Rattle.pipe_model.specs.Pipelines.Pipeline.{Pipeline}
-use Rattle.pipe_model.specs.Pipelines.Store.{value_after}
+use Rattle.pipe_model.specs.Pipelines.Store.{InitialStore, value_after}
 
 -- the trace of an iteration to its end, each read answered from the accesses before it
-abbrev pub serial_trace : Pipeline → Behaviour → List Access → List Action
-serial_trace p (Reading c go) before =
-    Accessed (read_access c (value_after p before c)) ∷ serial_trace p (go (value_after p before c)) (before ++ read_access c (value_after p before c) ∷ [])
-serial_trace p (Writing c v d) before = Accessed (write_access c v) ∷ serial_trace p d (before ++ write_access c v ∷ [])
-serial_trace p (Staging k n d) before = Staged k n ∷ serial_trace p d before
-serial_trace p (Ending e) before = Ended e ∷ []
+abbrev pub serial_trace : InitialStore → Behaviour → List Access → List Action
+serial_trace store (Reading c go) before =
+    Accessed (read_access c (value_after store before c)) ∷ serial_trace store (go (value_after store before c)) (before ++ read_access c (value_after store before c) ∷ [])
+serial_trace store (Writing c v d) before = Accessed (write_access c v) ∷ serial_trace store d (before ++ write_access c v ∷ [])
+serial_trace store (Staging k n d) before = Staged k n ∷ serial_trace store d before
+serial_trace store (Ending e) before = Ended e ∷ []
 
 -- the list, or nothing where the first is true
 abbrev pub unless : {A : Type 0} → Bool → List A → List A
@@ -29,7 +29,7 @@ unless false xs = xs
 abbrev pub serial_traces_from : Pipeline → ℕ → ℕ → List Access → List (List Action)
 serial_traces_from p zero i before = []
 serial_traces_from p (suc n) i before =
-    serial_trace p (p.behaviour i) before ∷ unless (closes_loop (serial_trace p (p.behaviour i) before)) (serial_traces_from p n (i + 1) (before ++ accesses_in (serial_trace p (p.behaviour i) before)))
+    serial_trace p.store (p.behaviour i) before ∷ unless (closes_loop (serial_trace p.store (p.behaviour i) before)) (serial_traces_from p n (i + 1) (before ++ accesses_in (serial_trace p.store (p.behaviour i) before)))
 
 -- the traces of the serial elision, iteration after iteration
 abbrev pub serial_traces : Pipeline → List (List Action)

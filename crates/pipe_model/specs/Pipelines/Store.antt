@@ -1,10 +1,14 @@
--- Cells: the value of each cell after a list of accesses, told by what was written to it.
+-- Cells: the value of each cell after a list of accesses, by what was written to it.
 -- Cell 1 is the output: each write to it is one output, and its value is their number.
 use Rattle.std.specs.Prelude.{◌≡◌, ℕ, ℤ, List, [], ◌∷◌, ◌++◌, Bool, true, false, pos, length, slice_index_or, ◌==◌, if◌then◌else◌, min, take}
 use Rattle.pipe_model.specs.declared.access.Access.{Access}
 use Rattle.pipe_model.specs.declared.access.AccessKind.{AccessKind}
 use Rattle.pipe_model.specs.declared.access.AccessKind.TheVariants.{Read, Write}
-use Rattle.pipe_model.specs.Pipelines.Pipeline.{Pipeline}
+
+-- what the cells hold before the first access, by cell number, and how many numbers the output keeps
+pub record InitialStore : Type 0 where
+  pub values : List ℤ
+  pub output_limit : ℕ
 
 -- the value written, if this is a write to the cell
 abbrev pub wrote_as : AccessKind → Bool → ℤ → List ℤ
@@ -27,17 +31,17 @@ last_or d [] = d
 last_or d (v ∷ vs) = last_or v vs
 
 -- the value of cell c after these writes to it; for the output their number, up to the limit
-abbrev pub value_from : Pipeline → ℕ → List ℤ → ℤ
-value_from p c vs = if c == 1 then pos (min (length vs) p.output_limit) else last_or (slice_index_or p.initial_values c (pos 0)) vs
+abbrev pub value_from : InitialStore → ℕ → List ℤ → ℤ
+value_from store c vs = if c == 1 then pos (min (length vs) store.output_limit) else last_or (slice_index_or store.values c (pos 0)) vs
 
 -- the value of cell c after these accesses
-abbrev pub value_after : Pipeline → List Access → ℕ → ℤ
-value_after p accesses c = value_from p c (written c accesses)
+abbrev pub value_after : InitialStore → List Access → ℕ → ℤ
+value_after store accesses c = value_from store c (written c accesses)
 
 -- the output after these accesses
-abbrev pub output_of : Pipeline → List Access → List ℤ
-output_of p accesses = take p.output_limit (written 1 accesses)
+abbrev pub output_of : InitialStore → List Access → List ℤ
+output_of store accesses = take store.output_limit (written 1 accesses)
 
--- the access is no read, or has the value that stands in its cell
-abbrev pub HasReply : Pipeline → List Access → Access → Type 0
-HasReply p before a = a.kind ≡ Read → a.value ≡ value_after p before a.cell.0
+-- the access is a write, or has the value of its cell
+abbrev pub HasReply : InitialStore → List Access → Access → Type 0
+HasReply store before a = a.kind ≡ Read → a.value ≡ value_after store before a.cell.0

@@ -8,17 +8,18 @@ use Rattle.pipe_model.specs.declared.node.Kind.{Kind}
 use Rattle.pipe_model.specs.declared.node.Kind.TheVariants.{Zero, Wait}
 use Rattle.pipe_model.specs.declared.node.Node.{Node}
 use Rattle.pipe_model.specs.declared.column.ColumnEnd.TheVariants as ends
+use Rattle.pipe_model.specs.declared.status.Status.{Status}
+use Rattle.pipe_model.specs.declared.status.Status.TheVariants.{Running, Pending, Completed}
 use Rattle.pipe_model.specs.Races.Columns.{node_at}
 use Rattle.pipe_model.specs.Pipelines.Behaviour.{Action, Accessed, Staged, Ended, Offers, behaviour_after_all, closes_at_once}
 use Rattle.pipe_model.specs.Pipelines.Pipeline.{Pipeline}
 use Rattle.pipe_model.specs.Pipelines.Store.{HasReply}
-use Rattle.pipe_model.specs.Runs.State.{Status, Running, Pending, Completed, Frame, State, frame_at, trace_in, alive, accesses_of}
+use Rattle.pipe_model.specs.Runs.StageCounters.{counter_of, Passes}
+use Rattle.pipe_model.specs.Runs.State.{Frame, State, frame_at, trace_in, alive, accesses_of}
 
--- the iteration has named or runs a stage with a number greater than n, or has ended
+-- the iteration is past stage n: it has named a greater stage number, or has ended
 abbrev pub HasPassed : Status → List Node → ℤ → Type 0
-HasPassed Running nodes n = n <ℤ (node_at nodes (length nodes - 1)).number
-HasPassed (Pending k m) nodes n = n <ℤ m
-HasPassed (Completed e) nodes n = Unit {0}
+HasPassed status nodes n = Passes (counter_of status nodes) n
 
 -- instance 0 has ended, and did not close the loop
 abbrev pub ContinuesLoop : Status → List Node → Type 0
@@ -31,6 +32,23 @@ abbrev pub ClosesLoop : Status → List Node → Type 0
 ClosesLoop Running nodes = ⊥
 ClosesLoop (Pending k m) nodes = ⊥
 ClosesLoop (Completed e) nodes = (closes_at_once e ≡ true) × (length nodes ≡ 1)
+
+-- the loop is closed: an iteration has closed it
+pub record IsClosed (fs : List Frame) : Type 0 where
+  pub iteration : ℕ
+  pub frame : Frame
+  pub is : frame_at fs iteration ≡ Some frame
+  pub closes : ClosesLoop frame.status frame.nodes
+
+-- instance 0 has ended
+abbrev pub EndedFirstInstance : Status → List Node → Type 0
+EndedFirstInstance Running nodes = 1 < length nodes
+EndedFirstInstance (Pending k m) nodes = Unit {0}
+EndedFirstInstance (Completed e) nodes = Unit {0}
+
+-- instance 0 of the iteration that began last has ended, if an iteration has begun
+abbrev pub LastEndedFirstInstance : List Frame → Type 0
+LastEndedFirstInstance fs = (j : ℕ) (f : Frame) → length fs ≡ suc j → frame_at fs j ≡ Some f → EndedFirstInstance f.status f.nodes
 
 -- the next iteration may begin: fewer than the limit are alive, and the loop goes on after the one before it
 pub record MayBegin (limit : ℕ) (s : State) (i : ℕ) : Type 0 where
@@ -85,7 +103,7 @@ OffersAt p s i item = Offers (behaviour_after_all (p.behaviour i) (trace_in (fra
 -- the program part allows the event: its action can come next, and a read has the value of its cell
 abbrev pub ProgramAllows : Pipeline → State → Event → Type 0
 ProgramAllows p s (Begin i) = Unit {0}
-ProgramAllows p s (Access i a) = OffersAt p s i (Accessed a) × HasReply p (p.preamble ++ accesses_of s.accesses) a
+ProgramAllows p s (Access i a) = OffersAt p s i (Accessed a) × HasReply p.store (p.preamble ++ accesses_of s.accesses) a
 ProgramAllows p s (Advance i k n) = OffersAt p s i (Staged k n)
 ProgramAllows p s (Enter i) = Unit {0}
 ProgramAllows p s (Finish i e) = OffersAt p s i (Ended e)

@@ -3,17 +3,17 @@ use Rattle.std.specs.Prelude.{◌≡◌, ℕ, List, [], ◌∷◌, ◌++◌, tru
 use Rattle.pipe_model.specs.declared.event.Event.{Event}
 use Rattle.pipe_model.specs.Pipelines.Pipeline.{Pipeline}
 use Rattle.pipe_model.specs.Runs.State.{Frame, State, initial_state, frame_at, next_state, is_completed}
-use Rattle.pipe_model.specs.Runs.Allowed.{ClosesLoop, Allowed}
+use Rattle.pipe_model.specs.Runs.Allowed.{IsClosed, Allowed}
 
 -- the events are a run, which leads to the state
 pub data Run (p : Pipeline) (limit : ℕ) : List Event → State → Type 0 where
   EmptyRun : Run p limit [] initial_state
   RunThen : {events : List Event} {s : State} → Run p limit events s → (e : Event) → Allowed p limit s e → Run p limit (events ++ e ∷ []) (next_state s e)
 
--- all iterations have ended, one of them has closed the loop, and the run was not stopped
+-- all iterations have ended, the loop is closed, and the run was not stopped
 pub record IsFinished (s : State) : Type 0 where
   pub over : (i : ℕ) (f : Frame) → frame_at s.frames i ≡ Some f → is_completed f.status ≡ true
-  pub shut : (i : ℕ) × (f : Frame) × (frame_at s.frames i ≡ Some f) × ClosesLoop f.status f.nodes
+  pub shut : IsClosed s.frames
   pub going : s.stopped ≡ false
 
 -- the state that events make of a state, whether they are allowed or not

@@ -1,21 +1,16 @@
 -- States of a run: the iterations that have begun, what they have done so far, and what an event changes of them.
-use Rattle.std.specs.Prelude.{ℕ, ℤ, zero, suc, List, [], ◌∷◌, ◌++◌, Bool, true, false, pos, ◌+◌, length, ◌-◌, map, Option, Some, None}
+use Rattle.std.specs.Prelude.{ℕ, zero, suc, List, [], ◌∷◌, ◌++◌, Bool, true, false, pos, ◌+◌, length, ◌-◌, map, Option, Some, None}
 use Rattle.pipe_model.specs.declared.access.Access.{Access as Cell_access}
 use Rattle.pipe_model.specs.declared.access.NodeAccess.{NodeAccess}
 use Rattle.pipe_model.specs.declared.column.ColumnEnd.{ColumnEnd}
 use Rattle.pipe_model.specs.declared.event.Event.{Event}
 use Rattle.pipe_model.specs.declared.event.Event.TheVariants.{Begin, Advance, Enter, Finish, Stop, Access}
-use Rattle.pipe_model.specs.declared.node.Kind.{Kind}
 use Rattle.pipe_model.specs.declared.node.Kind.TheVariants.{Zero}
 use Rattle.pipe_model.specs.declared.node.Node.{Node}
+use Rattle.pipe_model.specs.declared.status.Status.{Status}
+use Rattle.pipe_model.specs.declared.status.Status.TheVariants.{Running, Pending, Completed}
 use Rattle.pipe_model.specs.Races.Columns.{at}
 use Rattle.pipe_model.specs.Pipelines.Behaviour.{Action, Accessed, Staged, Ended, node_of}
-
--- an iteration runs its current instance, has named a next stage and not entered it, or has ended
-pub data Status : Type 0 where
-  Running : Status
-  Pending : Kind → ℤ → Status
-  Completed : ColumnEnd → Status
 
 -- an iteration: the instances that it has started, its status, and its trace so far
 pub record Frame : Type 0 where

@@ -4,24 +4,14 @@ use Rattle.std.specs.Prelude.{◌≡◌, ℕ, zero, suc, List, [], ◌∷◌, �
 use Rattle.pipe_model.specs.declared.access.Access.{Access as Cell_access}
 use Rattle.pipe_model.specs.declared.event.Event.{Event}
 use Rattle.pipe_model.specs.declared.event.Event.TheVariants.{Begin, Advance, Enter, Finish, Stop, Access}
-use Rattle.pipe_model.specs.declared.node.NodeId.{NodeId}
+use Rattle.pipe_model.specs.declared.ticket.BookEntry.{BookEntry}
+use Rattle.pipe_model.specs.declared.ticket.ShardEntry.{ShardEntry}
 use Rattle.pipe_model.specs.Pipelines.Behaviour.{Action, Accessed, Staged, Ended, Performs}
 use Rattle.pipe_model.specs.Pipelines.Pipeline.{Pipeline}
 use Rattle.pipe_model.specs.Pipelines.Store.{HasReply}
 use Rattle.pipe_model.specs.Races.DeterminacyRaces.{Among}
 use Rattle.pipe_model.specs.Runs.State.{State}
 use Rattle.pipe_model.specs.Runs.ControlRun.{ControlRun}
-
--- an entry of the book: an event that is no access, with its ticket
-pub record BookEntry : Type 0 where
-  pub ticket : ℕ
-  pub event : Event
-
--- an entry of a shard: an access with its instance and its ticket
-pub record ShardEntry : Type 0 where
-  pub ticket : ℕ
-  pub node : NodeId
-  pub access : Cell_access
 
 -- an action with its ticket
 pub record TimedAction : Type 0 where
@@ -163,7 +153,7 @@ pub record ClosedLogs (p : Pipeline) (limit width : ℕ) (book : List BookEntry)
   pub order : InTicketOrder book made
   pub stop_last : (t : ℕ) → Among (record { ticket = t; event = Stop }) book → (k : ℕ) (e : ShardEntry) → Among e (shards k) → e.ticket < t
   pub cells : (k : ℕ) (e : ShardEntry) → Among e (shards k) → e.access.cell.0 % width ≡ k
-  pub replies : (k : ℕ) (front rest : List ShardEntry) (e : ShardEntry) → shards k ≡ front ++ e ∷ rest → HasReply p (p.preamble ++ map (λ x. x.access) front) e.access
+  pub replies : (k : ℕ) (front rest : List ShardEntry) (e : ShardEntry) → shards k ≡ front ++ e ∷ rest → HasReply p.store (p.preamble ++ map (λ x. x.access) front) e.access
   pub in_trace : (k : ℕ) (e : ShardEntry) → Among e (shards k) → Among (record { ticket = e.ticket; action = Accessed e.access }) (made e.node.iteration e.node.index)
   pub of_trace : (i k : ℕ) (x : TimedAction) → Among x (made i k) → (a : Cell_access) × (x.action ≡ Accessed a) × Among (record { ticket = x.ticket; node = record { iteration = i; index = k }; access = a }) (shards (a.cell.0 % width))
   pub program : (i : ℕ) → Performs (p.behaviour i) (map (λ x. x.action) (laid_traces (made i) 0 (end_actions i book)))

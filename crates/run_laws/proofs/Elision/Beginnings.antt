@@ -11,7 +11,9 @@ use Rattle.pipe_model.specs.Races.Columns.{nodes_at, IsRising, node_at, no_node}
 use Rattle.pipe_model.specs.Pipelines.Pipeline.{Pipeline, IsWellFormed}
 use Rattle.pipe_model.specs.Races.DeterminacyRaces.{Among, IsRaceFree}
 use Rattle.pipe_model.specs.Pipelines.SerialElision.{serial_traces, serial_columns, located, serial_accesses}
-use Rattle.pipe_model.specs.Runs.State.{Frame, frame_at, Completed, Status, is_completed, Running, Pending, State, own_columns}
+use Rattle.pipe_model.specs.declared.status.Status.{Status}
+use Rattle.pipe_model.specs.declared.status.Status.TheVariants.{Completed, Running, Pending}
+use Rattle.pipe_model.specs.Runs.State.{Frame, frame_at, is_completed, State, own_columns}
 use Rattle.pipe_model.specs.declared.access.NodeAccess.{NodeAccess}
 use Rattle.pipe_model.specs.declared.column.ColumnEnd.{ColumnEnd}
 use Rattle.pipe_model.specs.declared.node.Kind.TheVariants.{Zero}

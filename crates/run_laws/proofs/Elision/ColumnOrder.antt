@@ -9,7 +9,8 @@ use Rattle.pipe_model.specs.Races.Columns.{at}
 use Rattle.pipe_model.specs.Pipelines.Pipeline.{Pipeline}
 use Rattle.pipe_model.specs.Races.DeterminacyRaces.{IsRaceFree, Among, Conflict, Here}
 use Rattle.pipe_model.specs.Runs.Run.{Run, EmptyRun, RunThen}
-use Rattle.pipe_model.specs.Runs.State.{State, accesses_of, Frame, next_state, fresh_frame, update_frame, with_action, Running, own_columns, frame_at}
+use Rattle.pipe_model.specs.declared.status.Status.TheVariants.{Running}
+use Rattle.pipe_model.specs.Runs.State.{State, accesses_of, Frame, next_state, fresh_frame, update_frame, with_action, own_columns, frame_at}
 use Rattle.pipe_model.specs.Pipelines.Store.{written, HasReply, value_from, wrote}
 use Rattle.run_laws.proofs.Iterations.Replies.{AllHaveReplies}
 use Rattle.pipe_model.specs.declared.access.Access.{Access as Cell_access}
@@ -74,7 +75,7 @@ conflict_sym a b c = record { same = sym c.same; one = elim c.one [ inl l ↦ in
 
 -- an access that does not race keeps both: it may be put at the end of its iteration's accesses
 access_agrees : (p : Pipeline) (s : State) (i : ℕ) (a : Cell_access) → IsConsistent s → IsRunning s i
-    → HasReply p (p.preamble ++ accesses_of s.accesses) a
+    → HasReply p.store (p.preamble ++ accesses_of s.accesses) a
     → IsRaceFree (own_columns (next_state s (Access i a))) (next_state s (Access i a)).accesses → AgreesByColumn p s
     → AgreesByColumn p (next_state s (Access i a))
 access_agrees p s i a k r reply free g =
@@ -98,7 +99,7 @@ access_agrees p s i a k r reply free g =
     record {
       replies = rw now (replies_insert p p.preamble front rest a
           (subst (λ l. AllHaveReplies p p.preamble l) before g.replies)
-          (λ read. reply read ∙ ap (value_from p a.cell.0) (
+          (λ read. reply read ∙ ap (value_from p.store a.cell.0) (
           written-append a.cell.0 p.preamble (accesses_of s.accesses)
           ∙ ap (λ l. written a.cell.0 p.preamble ++ l) (split a.cell.0 ∙ ap (λ l. written a.cell.0 front ++ l) none
           ∙ append-nil (written a.cell.0 front))

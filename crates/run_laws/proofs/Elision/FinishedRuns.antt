@@ -8,7 +8,9 @@ use Rattle.pipe_model.specs.Pipelines.Pipeline.{Pipeline, AlwaysClosesLoop}
 use Rattle.pipe_model.specs.Races.DeterminacyRaces.{IsRaceFree}
 use Rattle.pipe_model.specs.Runs.Run.{Run, IsFinished}
 use Rattle.pipe_model.specs.Pipelines.SerialElision.{serial_traces_from, serial_trace, unless, serial_traces}
-use Rattle.pipe_model.specs.Runs.State.{Frame, Completed, frame_at, is_completed, Status, Running, Pending, State, own_columns}
+use Rattle.pipe_model.specs.declared.status.Status.{Status}
+use Rattle.pipe_model.specs.declared.status.Status.TheVariants.{Completed, Running, Pending}
+use Rattle.pipe_model.specs.Runs.State.{Frame, frame_at, is_completed, State, own_columns}
 use Rattle.run_laws.proofs.Iterations.Replies.{AllHaveReplies}
 use Rattle.pipe_model.specs.declared.access.Access.{Access as Cell_access}
 use Rattle.pipe_model.specs.declared.column.ColumnEnd.{ColumnEnd}
@@ -68,7 +70,7 @@ whole_is_serial p n i before [] whole l right = absurd whole
 whole_is_serial p zero i before (f ∷ fs) whole l right = absurd (omega (arith, l))
 whole_is_serial p (suc n) i before (f ∷ fs) whole l right =
     let first = whole.0 in
-    let one : f.trace ≡ serial_trace p (p.behaviour i) before =
+    let one : f.trace ≡ serial_trace p.store (p.behaviour i) before =
     performed_is_serial_trace p (p.behaviour i) before f.trace first.end first.performs first.ends
     (replies_front p before (accesses_in f.trace) (accesses_by_column fs) right) in
     let later = replies_rest p before (accesses_in f.trace) (accesses_by_column fs) right in
@@ -160,18 +162,18 @@ run_has_serial_traces {p} {limit} {events} {s} closing r fin free =
     → closes_loop f.trace ≡ false =
     λ j f e l. inner_closes_not p j f (ended j f e) (k.sound.goes j f e l) in
     let shut = fin.shut in
-    let within = frame_at_within s.frames shut.0 shut.1 shut.2 in
-    let end : shut.0 + 1 ≡ length s.frames = elim (cases_lt (shut.0 + 1) (length s.frames)) [
-      | inl less ↦ absurd (closed_or_goes_on shut.1.status shut.1.nodes shut.3
-          (k.sound.goes shut.0 shut.1 shut.2 less))
+    let within = frame_at_within s.frames shut.iteration shut.frame shut.is in
+    let end : shut.iteration + 1 ≡ length s.frames = elim (cases_lt (shut.iteration + 1) (length s.frames)) [
+      | inl less ↦ absurd (closed_or_goes_on shut.frame.status shut.frame.nodes shut.closes
+          (k.sound.goes shut.iteration shut.frame shut.is less))
       | inr past ↦ omega (arith, within, past)
     ] in
     let last : (j : ℕ) (f : Frame) → frame_at s.frames j ≡ Some f → j + 1 ≡ length s.frames
     → closes_loop f.trace ≡ true = λ j f e l.
-    let same : shut.0 ≡ j = omega (arith, end, l) in
-    let there : frame_at s.frames j ≡ Some shut.1 = subst (λ n. frame_at s.frames n ≡ Some shut.1) same shut.2 in
-    let equal : shut.1 ≡ f = cc in
-    last_closes p j f (ended j f e) (subst (λ (h : Frame). ClosesLoop h.status h.nodes) equal shut.3) in
+    let same : shut.iteration ≡ j = omega (arith, end, l) in
+    let there : frame_at s.frames j ≡ Some shut.frame = subst (λ n. frame_at s.frames n ≡ Some shut.frame) same shut.is in
+    let equal : shut.frame ≡ f = cc in
+    last_closes p j f (ended j f e) (subst (λ (h : Frame). ClosesLoop h.status h.nodes) equal shut.closes) in
     let whole = whole_from p 0 s.frames (λ j f e. subst (λ n. IsEnded p n f) (omega arith) (ended j f e)) inner last
     (omega (arith, within)) in
     let bound : length s.frames ≤ p.last_iteration + 1 = elim (cases_lt (p.last_iteration + 1) (length s.frames)) [

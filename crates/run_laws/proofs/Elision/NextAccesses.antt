@@ -9,7 +9,9 @@ use Rattle.pipe_model.specs.Races.Columns.{at}
 use Rattle.pipe_model.specs.Pipelines.Pipeline.{Pipeline, IsWellFormed}
 use Rattle.pipe_model.specs.Races.DeterminacyRaces.{Among, Here, IsRaceFree, Conflict}
 use Rattle.pipe_model.specs.Pipelines.SerialElision.{serial_accesses, serial_traces, located, serial_columns}
-use Rattle.pipe_model.specs.Runs.State.{Frame, Running, State, frame_at, own_columns, Status, Pending, Completed, accesses_of}
+use Rattle.pipe_model.specs.declared.status.Status.{Status}
+use Rattle.pipe_model.specs.declared.status.Status.TheVariants.{Running, Pending, Completed}
+use Rattle.pipe_model.specs.Runs.State.{Frame, State, frame_at, own_columns, accesses_of}
 use Rattle.pipe_model.specs.Pipelines.Store.{written}
 use Rattle.pipe_model.specs.declared.access.Access.{Access as Cell_access}
 use Rattle.pipe_model.specs.declared.access.NodeAccess.{NodeAccess}

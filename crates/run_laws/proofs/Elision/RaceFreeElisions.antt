@@ -10,7 +10,9 @@ use Rattle.pipe_model.specs.Pipelines.Pipeline.{Pipeline, IsWellFormed, AlwaysCl
 use Rattle.pipe_model.specs.Races.DeterminacyRaces.{IsRaceFree}
 use Rattle.pipe_model.specs.Runs.Run.{Run, EmptyRun, RunThen}
 use Rattle.pipe_model.specs.Pipelines.SerialElision.{serial_trace, serial_traces, serial_columns, serial_accesses}
-use Rattle.pipe_model.specs.Runs.State.{Frame, Running, Status, with_action, frame_at, update_frame, State, accesses_of, Pending, Completed}
+use Rattle.pipe_model.specs.declared.status.Status.{Status}
+use Rattle.pipe_model.specs.declared.status.Status.TheVariants.{Running, Pending, Completed}
+use Rattle.pipe_model.specs.Runs.State.{Frame, with_action, frame_at, update_frame, State, accesses_of}
 use Rattle.pipe_model.specs.Runs.State.{fresh_frame, next_state, enter_pending}
 use Rattle.pipe_model.specs.Pipelines.Store.{value_after, HasReply, value_from}
 use Rattle.pipe_model.specs.declared.access.Access.{Access as Cell_access}
@@ -33,20 +35,20 @@ use Rattle.run_laws.specs.SerialLaws.{RaceFreeElisionsHaveRaceFreeRuns, RacesAre
 
 -- an action that is offered with its reply is the elision's next
 serial_trace_next : (p : Pipeline) (d : Behaviour) (m : List Cell_access) (x : Action) → Offers d x
-    → ((c : ℕ) (go : ℤ → Behaviour) → d ≡ Reading c go → x ≡ Accessed (read_access c (value_after p m c)))
-    → (rest : List Action) × (serial_trace p d m ≡ x ∷ rest)
+    → ((c : ℕ) (go : ℤ → Behaviour) → d ≡ Reading c go → x ≡ Accessed (read_access c (value_after p.store m c)))
+    → (rest : List Action) × (serial_trace p.store d m ≡ x ∷ rest)
 serial_trace_next p (Reading c go) m x o reply = (
-  serial_trace p (go (value_after p m c))
-      (m ++ read_access c (value_after p m c) ∷ []),
-  ap (λ y. y ∷ serial_trace p (go (value_after p m c)) (m ++ read_access c (value_after p m c) ∷ []))
+  serial_trace p.store (go (value_after p.store m c))
+      (m ++ read_access c (value_after p.store m c) ∷ []),
+  ap (λ y. y ∷ serial_trace p.store (go (value_after p.store m c)) (m ++ read_access c (value_after p.store m c) ∷ []))
       (sym (reply c go refl)),
 )
 serial_trace_next p (Writing c v d) m x o reply = (
-  serial_trace p d (m ++ write_access c v ∷ []),
-  ap (λ y. y ∷ serial_trace p d (m ++ write_access c v ∷ []))
+  serial_trace p.store d (m ++ write_access c v ∷ []),
+  ap (λ y. y ∷ serial_trace p.store d (m ++ write_access c v ∷ []))
       (sym o),
 )
-serial_trace_next p (Staging k n d) m x o reply = (serial_trace p d m, ap (λ y. y ∷ serial_trace p d m) (sym o))
+serial_trace_next p (Staging k n d) m x o reply = (serial_trace p.store d m, ap (λ y. y ∷ serial_trace p.store d m) (sym o))
 serial_trace_next p (Ending e) m x o reply = ([], ap (λ y. y ∷ []) (sym o))
 
 -- the memory at the next action of iteration i
@@ -55,14 +57,14 @@ memory_at p i f = memory_of p.preamble (take i (serial_traces p)) ++ accesses_in
 
 -- what is left of a trace is the serial trace from there
 rest_is_serial : (p : Pipeline) (i : ℕ) (f : Frame) → IsTraced p i f → f.status ≡ Running → (b : IsBeginning p i f)
-    → b.rest ≡ serial_trace p (behaviour_after_all (p.behaviour i) f.trace) (memory_at p i f)
+    → b.rest ≡ serial_trace p.store (behaviour_after_all (p.behaviour i) f.trace) (memory_at p i f)
 rest_is_serial p i f t runs b =
     let no_end : HasNoEnd f.trace = subst (λ w. EndsBy w f.trace) runs t.ending in
-    let e : b.trace ≡ serial_trace p (p.behaviour (0 + i)) (memory_of p.preamble (take i (serial_traces p))) =
+    let e : b.trace ≡ serial_trace p.store (p.behaviour (0 + i)) (memory_of p.preamble (take i (serial_traces p))) =
     trace_is_serial p (p.last_iteration + 1) 0 p.preamble i b.trace b.is in
     let z : 0 + i ≡ i = omega arith in
-    let e' : serial_trace p (p.behaviour i) (memory_of p.preamble (take i (serial_traces p))) ≡ f.trace ++ b.rest =
-    ap (λ n. serial_trace p (p.behaviour n) (memory_of p.preamble (take i (serial_traces p)))) (sym z) ∙ sym e
+    let e' : serial_trace p.store (p.behaviour i) (memory_of p.preamble (take i (serial_traces p))) ≡ f.trace ++ b.rest =
+    ap (λ n. serial_trace p.store (p.behaviour n) (memory_of p.preamble (take i (serial_traces p)))) (sym z) ∙ sym e
     ∙ b.begins in
     serial_trace_rest p (p.behaviour i) (memory_of p.preamble (take i (serial_traces p))) f.trace b.rest no_end e'
 
@@ -70,7 +72,7 @@ rest_is_serial p i f t runs b =
 action_beginning : (p : Pipeline) (i : ℕ) (f : Frame) (x : Action) (w : Status) → IsTraced p i f → f.status ≡ Running
     → (b : IsBeginning p i f) → Offers (behaviour_after_all (p.behaviour i) f.trace) x
     → ((c : ℕ) (go : ℤ → Behaviour) → behaviour_after_all (p.behaviour i) f.trace ≡ Reading c go
-    → x ≡ Accessed (read_access c (value_after p (memory_at p i f) c))) → IsBeginning p i (with_action x w f)
+    → x ≡ Accessed (read_access c (value_after p.store (memory_at p i f) c))) → IsBeginning p i (with_action x w f)
 action_beginning p i f x w t runs b o reply =
     let n = serial_trace_next p (behaviour_after_all (p.behaviour i) f.trace) (memory_at p i f) x o reply in
     record {
@@ -94,24 +96,24 @@ read_beginning : (p : Pipeline) (s : State) (i : ℕ) (a : Cell_access) → IsWe
     → AllTraced p s.frames → HasLocatedAccesses s → AgreesByColumn p s → (b : AreBeginnings p s.frames)
     → IsRaceFree (serial_columns p) (serial_accesses p) → (r : IsRunning s i)
     → Offers (behaviour_after_all (p.behaviour i) r.frame.trace) (Accessed a)
-    → HasReply p (p.preamble ++ accesses_of s.accesses) a
+    → HasReply p.store (p.preamble ++ accesses_of s.accesses) a
     → (c : ℕ) (go : ℤ → Behaviour) → behaviour_after_all (p.behaviour i) r.frame.trace ≡ Reading c go
-    → Accessed a ≡ Accessed (read_access c (value_after p (memory_at p i r.frame) c))
+    → Accessed a ≡ Accessed (read_access c (value_after p.store (memory_at p i r.frame) c))
 read_beginning p s i a proper k t sp g b free r o reply c go e =
     let f = r.frame in
     let tf = t i f r.is in
     let bf = b i f r.is in
-    let v' = value_after p (memory_at p i f) c in
+    let v' = value_after p.store (memory_at p i f) c in
     let rest : bf.rest ≡ Accessed (read_access c v')
-    ∷ serial_trace p (go v') (memory_at p i f ++ read_access c v' ∷ []) =
-    rest_is_serial p i f tf r.runs bf ∙ ap (λ d. serial_trace p d (memory_at p i f)) e in
+    ∷ serial_trace p.store (go v') (memory_at p i f ++ read_access c v' ∷ []) =
+    rest_is_serial p i f tf r.runs bf ∙ ap (λ d. serial_trace p.store d (memory_at p i f)) e in
     let next = next_among p i f (read_access c v') _ tf r.runs bf rest in
     let same = written_same p s i (read_access c v') proper k t sp g b free r next in
     let offer : (v : ℤ) × (Accessed a ≡ Accessed (read_access c v)) = subst (λ d. Offers d (Accessed a)) e o in
     let is : a ≡ read_access c offer.0 = (let q = offer.1 in cc) in
-    let value : offer.0 ≡ value_after p (p.preamble ++ accesses_of s.accesses) c =
-    (subst (λ (x : Cell_access). HasReply p (p.preamble ++ accesses_of s.accesses) x) is reply) refl in
-    offer.1 ∙ ap (λ v. Accessed (read_access c v)) (value ∙ ap (value_from p c) same)
+    let value : offer.0 ≡ value_after p.store (p.preamble ++ accesses_of s.accesses) c =
+    (subst (λ (x : Cell_access). HasReply p.store (p.preamble ++ accesses_of s.accesses) x) is reply) refl in
+    offer.1 ∙ ap (λ v. Accessed (read_access c v)) (value ∙ ap (value_from p.store c) same)
 
 -- the trace of an iteration that goes on does not close the loop
 continuing_closes_not : (p : Pipeline) (i : ℕ) (f : Frame) (w : Status) → IsTraced p i f → (b : IsBeginning p i f)
@@ -154,7 +156,7 @@ next_trace : (p : Pipeline) (limit : ℕ) (s : State) (i : ℕ) → IsWellFormed
     → (t : List Action) × (trace_at (serial_traces p) n ≡ Some t)
 next_trace p limit s i proper k t b zero e may =
     let z : p.last_iteration + 1 ≡ suc p.last_iteration = omega arith in
-    (serial_trace p (p.behaviour 0) p.preamble, rw z refl)
+    (serial_trace p.store (p.behaviour 0) p.preamble, rw z refl)
 next_trace p limit s i proper k t b (suc j) e may =
     let f = frame_at_exists s.frames j (omega (arith, e)) in
     let bf = b j f.0 f.1 in

@@ -9,7 +9,8 @@ use Rattle.pipe_model.specs.Races.Columns.{at}
 use Rattle.pipe_model.specs.Pipelines.Pipeline.{Pipeline, HasLegalStages}
 use Rattle.pipe_model.specs.Runs.Run.{Run}
 use Rattle.pipe_model.specs.Pipelines.SerialElision.{trace_events, located, serial_trace}
-use Rattle.pipe_model.specs.Runs.State.{Frame, Completed, with_action, Running, Pending, accesses_of}
+use Rattle.pipe_model.specs.declared.status.Status.TheVariants.{Completed, Running, Pending}
+use Rattle.pipe_model.specs.Runs.State.{Frame, with_action, accesses_of}
 use Rattle.pipe_model.specs.Pipelines.Store.{value_after}
 use Rattle.pipe_model.specs.declared.access.Access.{Access as Cell_access}
 use Rattle.pipe_model.specs.declared.access.NodeAccess.{NodeAccess}
@@ -99,9 +100,9 @@ pub run_iteration : {p : Pipeline} {limit : ℕ} (d : Behaviour) (events : List 
     → Run p limit events (state_with_last fs f accesses) → AllCompleted fs → f.status ≡ Running
     → behaviour_after_all (p.behaviour (length fs)) f.trace ≡ d → HasLegalStages first (last_node f.nodes).number d
     → (first ≡ true → length f.nodes ≡ 1) → 0 < length f.nodes
-    → HasRunOn p limit events fs f accesses (serial_trace p d (p.preamble ++ accesses_of accesses))
+    → HasRunOn p limit events fs f accesses (serial_trace p.store d (p.preamble ++ accesses_of accesses))
 run_iteration {p} {limit} (Reading c go) events fs f accesses first r all runs rest legal one filled =
-    let v = value_after p (p.preamble ++ accesses_of accesses) c in
+    let v = value_after p.store (p.preamble ++ accesses_of accesses) c in
     let a = read_access c v in
     let x : NodeAccess = record { node = at (length fs) (length f.nodes - 1); access = a } in
     let o : Offers (behaviour_after_all (p.behaviour (length fs)) f.trace) (Accessed a) = rw rest (v, refl) in
@@ -112,7 +113,7 @@ run_iteration {p} {limit} (Reading c go) events fs f accesses first r all runs r
     ∙ ap (λ e. behaviour_after e (Accessed a)) rest) (legal v) one filled in
     accessed_first p limit events fs f accesses a _
     (subst (λ m. HasRunOn p limit (events ++ Access (length fs) a ∷ []) fs (with_action (Accessed a) Running f)
-    (accesses ++ x ∷ []) (serial_trace p (go v) m)) (memory-push p.preamble accesses x) h)
+    (accesses ++ x ∷ []) (serial_trace p.store (go v) m)) (memory-push p.preamble accesses x) h)
 run_iteration {p} {limit} (Writing c v d) events fs f accesses first r all runs rest legal one filled =
     let a = write_access c v in
     let x : NodeAccess = record { node = at (length fs) (length f.nodes - 1); access = a } in
@@ -124,7 +125,7 @@ run_iteration {p} {limit} (Writing c v d) events fs f accesses first r all runs 
     ∙ ap (λ e. behaviour_after e (Accessed a)) rest) legal one filled in
     accessed_first p limit events fs f accesses a _
     (subst (λ m. HasRunOn p limit (events ++ Access (length fs) a ∷ []) fs (with_action (Accessed a) Running f)
-    (accesses ++ x ∷ []) (serial_trace p d m)) (memory-push p.preamble accesses x) h)
+    (accesses ++ x ∷ []) (serial_trace p.store d m)) (memory-push p.preamble accesses x) h)
 run_iteration {p} {limit} (Staging k n d) events fs f accesses first r all runs rest legal one filled =
     let o : Offers (behaviour_after_all (p.behaviour (length fs)) f.trace) (Staged k n) = rw rest refl in
     let named = then_advance fs f accesses k n r runs o legal.0 legal.1.0 in

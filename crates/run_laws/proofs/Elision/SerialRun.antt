@@ -3,7 +3,7 @@ use Rattle.std.proofs.Common.{ℕ, List, length, ◌++◌, map, ◌≡◌, Some,
 use Rattle.std.proofs.Common.{◌+◌, false, arith, Bool, ◌<◌, suc, zero, refl}
 use Rattle.std.proofs.lemmas.Bool.{false≢true, cases_Bool}
 use Rattle.std.proofs.lemmas.List.{map-append, length_push}
-use Rattle.pipe_model.specs.Runs.Allowed.{ClosesLoop, ContinuesLoop}
+use Rattle.pipe_model.specs.Runs.Allowed.{ClosesLoop, ContinuesLoop, IsClosed}
 use Rattle.pipe_model.specs.Pipelines.Behaviour.{Action, column_of, closes_loop, nodes_in, closes_at_once, accesses_in, trace_end}
 use Rattle.pipe_model.specs.Pipelines.ElisionResults.{ended_column}
 use Rattle.pipe_model.specs.Pipelines.Pipeline.{Pipeline, IsWellFormed, AlwaysClosesLoop}
@@ -35,7 +35,7 @@ record HasRunAll (p : Pipeline) (limit : ℕ) (events : List Event) (fs : List F
   columns : map (λ f. f.nodes) frames ≡ map (λ f. f.nodes) fs ++ map column_of traces
   ended : map column_of_frame frames ≡ map column_of_frame fs ++ map ended_column traces
   over : AllCompleted frames
-  shut : (i : ℕ) × (f : Frame) × (frame_at frames i ≡ Some f) × ClosesLoop f.status f.nodes
+  shut : IsClosed frames
 
 -- the frame of an iteration that has run to its end is its column with its end
 frame_ends : (p : Pipeline) (limit : ℕ) (events : List Event) (fs : List Frame) (accesses : List NodeAccess) (actions : List Action)
@@ -66,13 +66,13 @@ runs_last p limit events fs accesses actions all w shut =
       ended = map-append column_of_frame fs (w.frame ∷ [])
           ∙ ap (λ c. map column_of_frame fs ++ c ∷ []) (frame_ends p limit _ fs accesses actions w);
       over = completed_push fs w.frame w.end all w.over;
-      shut = (
-        length fs,
-        w.frame,
-        frame_at_last fs w.frame,
-        subst (λ n. ClosesLoop n w.frame.nodes) (sym w.over)
-            (closing.1, ap (λ (l : List Node). length l) (w.nodes ∙ ap (λ l. fresh_frame.nodes ++ l) closing.0)),
-      );
+      shut = record {
+        iteration = length fs;
+        frame = w.frame;
+        is = frame_at_last fs w.frame;
+        closes = subst (λ n. ClosesLoop n w.frame.nodes) (sym w.over)
+            (closing.1, ap (λ (l : List Node). length l) (w.nodes ∙ ap (λ l. fresh_frame.nodes ++ l) closing.0));
+      };
     }
 
 -- an iteration that does not, and those after it
@@ -145,7 +145,7 @@ run_iterations : (p : Pipeline) (limit : ℕ) → IsWellFormed p → 0 < limit
     → HasRunAll p limit events fs accesses (serial_traces_from p (suc n) (length fs)
     (p.preamble ++ accesses_of accesses))
 run_iterations p limit proper room zero events fs accesses r all on e =
-    let actions = serial_trace p (p.behaviour (length fs)) (p.preamble ++ accesses_of accesses) in
+    let actions = serial_trace p.store (p.behaviour (length fs)) (p.preamble ++ accesses_of accesses) in
     let w = run_iteration (p.behaviour (length fs)) (events ++ Begin (length fs) ∷ []) fs fresh_frame accesses true
     (then_begin fs accesses room r all on) all refl refl (proper.legal (length fs)) (λ t. refl) (omega arith) in
     let most : p.last_iteration ≡ length fs = omega (arith, e) in
@@ -157,7 +157,7 @@ run_iterations p limit proper room zero events fs accesses r all on e =
     (runs_last p limit events fs accesses actions all w shut)
 run_iterations p limit proper room (suc n) events fs accesses r all on e =
     let before = p.preamble ++ accesses_of accesses in
-    let actions = serial_trace p (p.behaviour (length fs)) before in
+    let actions = serial_trace p.store (p.behaviour (length fs)) before in
     let w = run_iteration (p.behaviour (length fs)) (events ++ Begin (length fs) ∷ []) fs fresh_frame accesses true
     (then_begin fs accesses room r all on) all refl refl (proper.legal (length fs)) (λ t. refl) (omega arith) in
     elim (cases_Bool (closes_loop actions)) [

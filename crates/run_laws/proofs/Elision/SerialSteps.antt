@@ -8,8 +8,10 @@ use Rattle.pipe_model.specs.Pipelines.Behaviour.{Action, Offers, behaviour_after
 use Rattle.pipe_model.specs.Races.Columns.{at}
 use Rattle.pipe_model.specs.Pipelines.Pipeline.{Pipeline}
 use Rattle.pipe_model.specs.Runs.Run.{Run, RunThen}
-use Rattle.pipe_model.specs.Runs.State.{Frame, State, update_frame, frame_at, Running, trace_in, next_state, accesses_of, with_action}
-use Rattle.pipe_model.specs.Runs.State.{current_index, Pending, Completed, enter_pending, fresh_frame, is_completed}
+use Rattle.pipe_model.specs.declared.status.Status.TheVariants.{Running}
+use Rattle.pipe_model.specs.Runs.State.{Frame, State, update_frame, frame_at, trace_in, next_state, accesses_of, with_action}
+use Rattle.pipe_model.specs.declared.status.Status.TheVariants.{Pending, Completed}
+use Rattle.pipe_model.specs.Runs.State.{current_index, enter_pending, fresh_frame, is_completed}
 use Rattle.pipe_model.specs.Pipelines.Store.{HasReply}
 use Rattle.pipe_model.specs.declared.access.Access.{Access as Cell_access}
 use Rattle.pipe_model.specs.declared.access.NodeAccess.{NodeAccess}
@@ -70,7 +72,7 @@ pub then_access : {p : Pipeline} {limit : ℕ} {events : List Event} (fs : List 
     (accesses : List NodeAccess) (a : Cell_access)
     → Run p limit events (state_with_last fs f accesses) → f.status ≡ Running
     → Offers (behaviour_after_all (p.behaviour (length fs)) f.trace) (Accessed a)
-    → HasReply p (p.preamble ++ accesses_of accesses) a
+    → HasReply p.store (p.preamble ++ accesses_of accesses) a
     → Run p limit (events ++ Access (length fs) a ∷ [])
     (state_with_last fs (with_action (Accessed a) Running f)
     (accesses ++ record { node = at (length fs) (length f.nodes - 1); access = a } ∷ []))

@@ -47,7 +47,7 @@ replies_same : (p : Pipeline) (b d xs : List Access)
     → AllHaveReplies p d xs
 replies_same p b d [] same h = tt
 replies_same p b d (x ∷ xs) same h = (
-  λ r. h.0 r ∙ ap (value_from p x.cell.0) (same x Here r),
+  λ r. h.0 r ∙ ap (value_from p.store x.cell.0) (same x Here r),
   replies_same p (b ++ x ∷ []) (d ++ x ∷ []) xs
       (λ y m r. written-push y.cell.0 b x ∙ ap (λ l. l ++ wrote y.cell.0 x) (same y (Later x m) r)
       ∙ sym (written-push y.cell.0 d x))
@@ -56,17 +56,17 @@ replies_same p b d (x ∷ xs) same h = (
 
 -- an access that writes no cell that is read after it may come in between
 pub replies_insert : (p : Pipeline) (b front rest : List Access) (e : Access) → AllHaveReplies p b (front ++ rest)
-    → HasReply p (b ++ front) e → ((x : Access) → Among x rest → x.kind ≡ Read → wrote x.cell.0 e ≡ [])
+    → HasReply p.store (b ++ front) e → ((x : Access) → Among x rest → x.kind ≡ Read → wrote x.cell.0 e ≡ [])
     → AllHaveReplies p b (front ++ e ∷ rest)
 replies_insert p b [] rest e h reply free = (
-  subst (λ l. HasReply p l e) (append-nil b) reply,
+  subst (λ l. HasReply p.store l e) (append-nil b) reply,
   replies_same p b (b ++ e ∷ []) rest (λ x m r. sym (written-push x.cell.0 b e
       ∙ ap (λ l. written x.cell.0 b ++ l) (free x m r) ∙ append-nil (written x.cell.0 b))) h,
 )
 replies_insert p b (x ∷ front) rest e h reply free = (
   h.0,
   replies_insert p (b ++ x ∷ []) front rest e h.1
-      (subst (λ l. HasReply p l e) (sym (append_assoc b (x ∷ []) front)) reply) free,
+      (subst (λ l. HasReply p.store l e) (sym (append_assoc b (x ∷ []) front)) reply) free,
 )
 
 -- wrote_cases, by the kind and by whether the cell is the same

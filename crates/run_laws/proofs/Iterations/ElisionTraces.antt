@@ -21,14 +21,14 @@ trace_none t j e = cc
 -- a trace of the elision is the serial trace after those before it
 pub trace_is_serial : (p : Pipeline) (n i : ℕ) (m : List Cell_access) (j : ℕ) (t : List Action)
     → trace_at (serial_traces_from p n i m) j ≡ Some t
-    → t ≡ serial_trace p (p.behaviour (i + j)) (memory_of m (take j (serial_traces_from p n i m)))
+    → t ≡ serial_trace p.store (p.behaviour (i + j)) (memory_of m (take j (serial_traces_from p n i m)))
 trace_is_serial p zero i m j t e = absurd (cc)
 trace_is_serial p (suc n) i m zero t e =
-    let same : serial_trace p (p.behaviour i) m ≡ t = cc in
+    let same : serial_trace p.store (p.behaviour i) m ≡ t = cc in
     let z : i + 0 ≡ i = omega arith in
     rw (z, append-nil) (sym same)
 trace_is_serial p (suc n) i m (suc j) t e =
-    let s = serial_trace p (p.behaviour i) m in
+    let s = serial_trace p.store (p.behaviour i) m in
     elim (cases_Bool (closes_loop s)) [
       | inl shut ↦ absurd (trace_none t j (subst
           (λ b. trace_at (unless b (serial_traces_from p n (i + 1) (m ++ accesses_in s))) j ≡ Some t) shut e))
@@ -37,9 +37,9 @@ trace_is_serial p (suc n) i m (suc j) t e =
           subst (λ b. trace_at (unless b (serial_traces_from p n (i + 1) (m ++ accesses_in s))) j ≡ Some t) free e in
           let h = trace_is_serial p n (i + 1) (m ++ accesses_in s) j t there in
           let index : i + 1 + j ≡ i + suc j = omega arith in
-          h ∙ ap (λ k. serial_trace p (p.behaviour k)
+          h ∙ ap (λ k. serial_trace p.store (p.behaviour k)
           (memory_of (m ++ accesses_in s) (take j (serial_traces_from p n (i + 1) (m ++ accesses_in s))))) index
-          ∙ ap (λ l. serial_trace p (p.behaviour (i + suc j)) l) (
+          ∙ ap (λ l. serial_trace p.store (p.behaviour (i + suc j)) l) (
           append_assoc m (accesses_in s) (flat_map accesses_in
           (take j (serial_traces_from p n (i + 1) (m ++ accesses_in s))))
           ∙ ap (λ b. memory_of m (s ∷ take j (unless b (serial_traces_from p n (i + 1) (m ++ accesses_in s)))))
@@ -53,16 +53,16 @@ pub next_trace_exists : (p : Pipeline) (n i : ℕ) (m : List Cell_access) (j : �
 next_trace_exists p zero i m j t e free l = absurd (omega (arith, l))
 next_trace_exists p (suc zero) i m j t e free l = absurd (omega (arith, l))
 next_trace_exists p (suc (suc n)) i m zero t e free l =
-    let s = serial_trace p (p.behaviour i) m in
+    let s = serial_trace p.store (p.behaviour i) m in
     let same : s ≡ t = cc in
     let f : closes_loop s ≡ false = ap closes_loop same ∙ free in (
-      serial_trace p (p.behaviour (i + 1)) (m ++ accesses_in s),
+      serial_trace p.store (p.behaviour (i + 1)) (m ++ accesses_in s),
       subst
           (λ b. trace_at (unless b (serial_traces_from p (suc n) (i + 1) (m ++ accesses_in s))) 0
-          ≡ Some (serial_trace p (p.behaviour (i + 1)) (m ++ accesses_in s))) (sym f) refl,
+          ≡ Some (serial_trace p.store (p.behaviour (i + 1)) (m ++ accesses_in s))) (sym f) refl,
     )
 next_trace_exists p (suc (suc n)) i m (suc j) t e free l =
-    let s = serial_trace p (p.behaviour i) m in
+    let s = serial_trace p.store (p.behaviour i) m in
     elim (cases_Bool (closes_loop s)) [
       | inl shut ↦ absurd (trace_none t j (subst
           (λ b. trace_at (unless b (serial_traces_from p (suc n) (i + 1) (m ++ accesses_in s))) j ≡ Some t) shut e))
@@ -90,7 +90,7 @@ pub trace_within : (p : Pipeline) (n i : ℕ) (m : List Cell_access) (j : ℕ) (
 trace_within p zero i m j t e = absurd (cc)
 trace_within p (suc n) i m zero t e = omega arith
 trace_within p (suc n) i m (suc j) t e =
-    let s = serial_trace p (p.behaviour i) m in
+    let s = serial_trace p.store (p.behaviour i) m in
     elim (cases_Bool (closes_loop s)) [
       | inl shut ↦ (
           let there : trace_at [] j ≡ Some t =

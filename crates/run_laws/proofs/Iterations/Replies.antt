@@ -7,4 +7,4 @@ use Rattle.pipe_model.specs.Pipelines.Store.{HasReply}
 -- each read has the value that stands in its cell when it is made
 abbrev pub AllHaveReplies : Pipeline → List Access → List Access → Type 0
 AllHaveReplies p before [] = Unit {0}
-AllHaveReplies p before (a ∷ rest) = HasReply p before a × AllHaveReplies p (before ++ a ∷ []) rest
+AllHaveReplies p before (a ∷ rest) = HasReply p.store before a × AllHaveReplies p (before ++ a ∷ []) rest

@@ -5,13 +5,13 @@ use Rattle.std.proofs.lemmas.Bool.{cases_eq, cases_lt}
 use Rattle.std.proofs.lemmas.List.{get_or_push}
 use Rattle.pipe_model.specs.Races.Columns.{nodes_at, at, node_at, no_node}
 use Rattle.pipe_model.specs.Races.Dag.{CrossEdge, HeadCross, WaitCross, Edge, DownEdge, AcrossEdge}
-use Rattle.pipe_model.specs.Orders.LeftParent.{last_up_to, left_parent}
+use Rattle.pipe_model.specs.Orders.LeftParent.{last_up_to, left_parent, joined_at}
 use Rattle.pipe_model.specs.Orders.Starts.{AreStarts, start_number, IsStarted}
 use Rattle.pipe_model.specs.declared.node.Kind.TheVariants.{Wait}
 use Rattle.pipe_model.specs.declared.node.Node.{Node}
 use Rattle.pipe_model.specs.declared.node.NodeId.{NodeId}
 use Rattle.run_laws.proofs.ListOrders.OneMoreStart.{GrowsBy, start_old, start_new, starts_grown}
-use Rattle.run_laws.proofs.ListOrders.StableLeftParents.{last_up_to-push, left_same}
+use Rattle.run_laws.proofs.ListOrders.StableLeftParents.{last_up_to-push, left_same, joined_same}
 use Rattle.run_laws.proofs.RunStates.LaterEdges.{ExtendsColumns, old_edge}
 
 -- column i has one instance more
@@ -145,3 +145,7 @@ module _ (columns columns' : List (List Node)) (starts : List NodeId) (i : ℕ) 
   -- the left parents of the instances that stood stay
   pub lefts_stay : (c k : ℕ) → k < length (nodes_at columns c) → left_parent columns' c k ≡ left_parent columns c k
   lefts_stay c k l = left_same columns columns' (λ d q w. x.same (suc d) q w) last_up_to_stays c k l
+
+  -- and so do their joined places
+  pub joins_stay : (d k : ℕ) → k < length (nodes_at columns (suc d)) → joined_at columns' d k ≡ joined_at columns d k
+  joins_stay d k l = joined_same columns columns' (λ e q w. x.same (suc e) q w) last_up_to_stays d k l

@@ -112,12 +112,12 @@ module _ (columns columns' : List (List Node)) (starts : List NodeId) (x : NodeI
   started_at t l = let o = h.once t l in omega (arith, o, l)
 
   -- the element of each started instance stays, in down-first
-  down_stays : (i j : ℕ) → start_number starts i j < length starts
+  pub down_stays : (i j : ℕ) → start_number starts i j < length starts
       → down_first_taken (start_number (starts ++ x ∷ [])) i j ≡ down_first_taken (start_number starts) i j
   down_stays i j w = down_same i j (started_longer i j w)
 
   -- the element of each started instance stays, in right-first
-  right_stays : (i j : ℕ) → start_number starts i j < length starts
+  pub right_stays : (i j : ℕ) → start_number starts i j < length starts
       → right_first_taken columns' (start_number (starts ++ x ∷ [])) i j
       ≡ right_first_taken columns (start_number starts) i j
   right_stays i j w =

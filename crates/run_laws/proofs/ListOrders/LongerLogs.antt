@@ -9,7 +9,8 @@ use Rattle.pipe_model.specs.declared.node.NodeId.{NodeId}
 use Rattle.run_laws.proofs.ListOrders.InsertionLists.{HasBelow, has_below-insert_after, has_old, order_kept, list_has_below}
 use Rattle.run_laws.proofs.ListOrders.StartNumbers.{counted_down, counted_right}
 use Rattle.run_laws.proofs.ListOrders.StartPlaces.{IsCounted}
-use Rattle.run_laws.proofs.ListOrders.StartsOfRuns.{run_starts_sound, are_columns}
+use Rattle.run_laws.proofs.ListOrders.SoundStarts.{of_each_run}
+use Rattle.run_laws.proofs.ListOrders.StartsOfRuns.{are_columns}
 use Rattle.run_laws.specs.OrderLaws.{LongerLogsKeepTheOrder, LogsNameWhatStands}
 
 module _ (x y : ℕ) where
@@ -77,12 +78,12 @@ counted_is_log columns starts taken ord c = log_entries_are_log taken 0 starts (
     let b = c.below (start_at starts t).iteration (start_at starts t).index (omega (arith, once, l)) in
     omega (arith, once, b))
 
--- the law of logs
+-- the logs of a run
 pub logs_name_what_stands : LogsNameWhatStands
-logs_name_what_stands p limit events s r = let h = run_starts_sound r in (
+logs_name_what_stands = of_each_run (λ limit events s r. let h = r.sound in (
   counted_is_log (own_columns s) (starts_of events) (down_first_taken (start_number (starts_of events))) h.ordered
       (counted_down (own_columns s) (starts_of events) (are_columns s.frames (starts_of events) h) h.ordered),
   counted_is_log (own_columns s) (starts_of events)
       (right_first_taken (own_columns s) (start_number (starts_of events))) h.ordered
       (counted_right (own_columns s) (starts_of events) (are_columns s.frames (starts_of events) h) h.ordered),
-)
+))

@@ -1,9 +1,11 @@
 -- The two orders of a run.
-use Rattle.std.proofs.Common.{ap₂, List, ◌≡◌, [], ◌∷◌, ◌++◌, append-nil, ◌∙◌, ap, sym, length, refl}
+use Rattle.std.proofs.Common.{ap₂, ℕ, List, ◌≡◌, [], ◌∷◌, ◌++◌, append-nil, ◌∙◌, ap, sym, length, refl}
+use Rattle.pipe_model.specs.Runs.Allowed.{ControlAllows}
 use Rattle.pipe_model.specs.Pipelines.Behaviour.{Accessed, Staged, Ended}
 use Rattle.pipe_model.specs.Races.Columns.{at, nodes_at}
 use Rattle.pipe_model.specs.Orders.Starts.{starts_of, started_by, start_number, AreStarts}
-use Rattle.pipe_model.specs.Runs.State.{own_columns, State, next_state, Running, Pending, Completed}
+use Rattle.pipe_model.specs.declared.status.Status.TheVariants.{Running, Pending, Completed}
+use Rattle.pipe_model.specs.Runs.State.{own_columns, State, next_state}
 use Rattle.pipe_model.specs.Orders.TwoOrders.{down_first_log, log_entries, down_first_taken, right_first_log, right_first_taken}
 use Rattle.pipe_model.specs.declared.event.Event.{Event}
 use Rattle.pipe_model.specs.declared.event.Event.TheVariants.{Begin, Enter, Access, Advance, Finish, Stop}
@@ -12,33 +14,34 @@ use Rattle.run_laws.proofs.ListOrders.BothOrders.{both_is_precedes}
 use Rattle.run_laws.proofs.ListOrders.LeftParentEdges.{left_parent_means}
 use Rattle.run_laws.proofs.ListOrders.LogGrowth.{down_log_grows, right_log_grows}
 use Rattle.run_laws.proofs.ListOrders.StartNumbers.{counted_down, counted_right}
-use Rattle.run_laws.proofs.ListOrders.StartsOfRuns.{run_starts_sound, are_columns, Grew, starts_of_then, grew_begin, grew_enter}
+use Rattle.run_laws.proofs.ListOrders.SoundStarts.{HasSoundStarts, of_each_run, starts_after}
+use Rattle.run_laws.proofs.ListOrders.StartsOfRuns.{are_columns, Grew, grew_begin, grew_enter}
 use Rattle.run_laws.specs.OrderLaws.{StartedNodesAreOwnNodes, BothOrdersOfStarts, BothOrdersArePrecedes, PlaceholdersAreTakenOnce}
 use Rattle.run_laws.specs.OrderLaws.{LeftParentsAreSources, AddsEntries, LogsGrowAtTheirEnd}
 use Rattle.run_laws.proofs.RunStates.GrowingColumns.{columns-action}
 
--- the law of starts
+-- the starts of a run are the instances of its columns
 pub started_nodes_are_own_nodes : StartedNodesAreOwnNodes
-started_nodes_are_own_nodes p limit events s r = let h = run_starts_sound r in record {
+started_nodes_are_own_nodes = of_each_run (λ limit events s r. let h = r.sound in record {
   columns = are_columns s.frames (starts_of events) h;
   ordered = h.ordered;
   nodes = λ x. ((λ l. h.ordered.inside x l), (λ l. h.all x.iteration x.index l.1));
-}
+})
 
--- the law of both orders, for any starts
+-- both orders of any starts
 pub both_orders_of_starts : BothOrdersOfStarts
 both_orders_of_starts columns starts ok ord x y w v = both_is_precedes columns starts ok ord x y w v
 
--- the law of both orders
+-- both orders of a run
 pub both_orders_are_precedes : BothOrdersArePrecedes
-both_orders_are_precedes p limit events s r x y w v =
-    let h = run_starts_sound r in
+both_orders_are_precedes = of_each_run (λ limit events s r x y w v.
+    let h = r.sound in
     both_is_precedes (own_columns s) (starts_of events) (are_columns s.frames (starts_of events) h) h.ordered x y
-    (h.all x.iteration x.index w.1) (h.all y.iteration y.index v.1)
+    (h.all x.iteration x.index w.1) (h.all y.iteration y.index v.1))
 
--- the law of placeholders
+-- the placeholders of a run
 pub placeholders_are_taken_once : PlaceholdersAreTakenOnce
-placeholders_are_taken_once p limit events s r = let h = run_starts_sound r in record {
+placeholders_are_taken_once = of_each_run (λ limit events s r. let h = r.sound in record {
   down = λ x y w v e. (
       let q = (counted_down (own_columns s) (starts_of events) (are_columns s.frames (starts_of events) h)
       h.ordered).once x.iteration x.index y.iteration y.index w v e in
@@ -47,12 +50,12 @@ placeholders_are_taken_once p limit events s r = let h = run_starts_sound r in r
       let q = (counted_right (own_columns s) (starts_of events) (are_columns s.frames (starts_of events) h)
       h.ordered).once x.iteration x.index y.iteration y.index w v e in
       ap₂ at q.0 q.1);
-}
+})
 
--- the law of left parents
+-- the left parents of a run
 pub left_parents_are_sources : LeftParentsAreSources
-left_parents_are_sources p limit events s r i j k l w =
-    left_parent_means (own_columns s) (are_columns s.frames (starts_of events) (run_starts_sound r)) i k l w j
+left_parents_are_sources = of_each_run (λ limit events s r i j k l w.
+    left_parent_means (own_columns s) (are_columns s.frames (starts_of events) r.sound) i k l w j)
 
 -- an event that starts nothing adds nothing to the logs
 adds_none : (events : List Event) (s : State) (e : Event) → starts_of (events ++ e ∷ []) ≡ starts_of events ++ []
@@ -93,21 +96,26 @@ adds_one events s e x one starts ordered g =
           (length (starts_of events)) l) (sym one));
     }
 
--- the law of growing logs
-pub logs_grow_at_their_end : LogsGrowAtTheirEnd
-logs_grow_at_their_end p limit events s (Begin i) r h =
-    adds_one events s (Begin i) (at i 0) refl (starts_of_then r (Begin i)) (run_starts_sound r).ordered
-    (grew_begin limit s i (starts_of events) h.control (run_starts_sound r))
-logs_grow_at_their_end p limit events s (Enter i) r h =
-    adds_one events s (Enter i) (at i (length (nodes_at (own_columns s) i))) refl (starts_of_then r (Enter i))
-    (run_starts_sound r).ordered (grew_enter s i (starts_of events) h.control (run_starts_sound r))
-logs_grow_at_their_end p limit events s (Access i a) r h =
-    adds_none events s (Access i a) (starts_of_then r (Access i a)) refl
+-- what an event of the control part adds
+added_by : (limit : ℕ) (events : List Event) (s : State) → HasSoundStarts events s → (e : Event) → ControlAllows limit s e
+    → AddsEntries events s e
+added_by limit events s r (Begin i) h =
+    adds_one events s (Begin i) (at i 0) refl (starts_after events s r.state (Begin i)) r.sound.ordered
+    (grew_begin limit s i (starts_of events) h r.sound)
+added_by limit events s r (Enter i) h =
+    adds_one events s (Enter i) (at i (length (nodes_at (own_columns s) i))) refl (starts_after events s r.state (Enter i))
+    r.sound.ordered (grew_enter s i (starts_of events) h r.sound)
+added_by limit events s r (Access i a) h =
+    adds_none events s (Access i a) (starts_after events s r.state (Access i a)) refl
     (columns-action s.frames i (Accessed a) Running)
-logs_grow_at_their_end p limit events s (Advance i k n) r h =
-    adds_none events s (Advance i k n) (starts_of_then r (Advance i k n)) refl
+added_by limit events s r (Advance i k n) h =
+    adds_none events s (Advance i k n) (starts_after events s r.state (Advance i k n)) refl
     (columns-action s.frames i (Staged k n) (Pending k n))
-logs_grow_at_their_end p limit events s (Finish i e) r h =
-    adds_none events s (Finish i e) (starts_of_then r (Finish i e)) refl
+added_by limit events s r (Finish i e) h =
+    adds_none events s (Finish i e) (starts_after events s r.state (Finish i e)) refl
     (columns-action s.frames i (Ended e) (Completed e))
-logs_grow_at_their_end p limit events s Stop r h = adds_none events s Stop (starts_of_then r Stop) refl refl
+added_by limit events s r Stop h = adds_none events s Stop (starts_after events s r.state Stop) refl refl
+
+-- the logs of a run
+pub logs_grow_at_their_end : LogsGrowAtTheirEnd
+logs_grow_at_their_end = of_each_run added_by

@@ -51,7 +51,7 @@ module _ (columns columns' : List (List Node)) (nodes : (a q : ℕ) → q < leng
     → last_up_to (nodes_at columns' a) (node_at (nodes_at columns (suc a)) q).number
     ≡ last_up_to (nodes_at columns a) (node_at (nodes_at columns (suc a)) q).number) where
   -- joined places stay
-  joined_same : (a k : ℕ) → k < length (nodes_at columns (suc a)) → joined_at columns' a k ≡ joined_at columns a k
+  pub joined_same : (a k : ℕ) → k < length (nodes_at columns (suc a)) → joined_at columns' a k ≡ joined_at columns a k
   joined_same a k l =
       let e : suc a ≡ a + 1 = omega arith in
       subst (λ d. joined (nodes_at columns' a) (nodes_at columns' d) k
@@ -88,7 +88,7 @@ left_wait columns a k j w f =
     ap (λ y. cond (ltb (joined_at columns a k) y) (Some y) None) e ∙ left_wait_by (joined_at columns a k) j
 
 -- an instance with the joined place of the instance above has no left parent
-left_without_growth : (columns : List (List Node)) (a k : ℕ) → joined_at columns a (suc k) ≡ joined_at columns a k
+pub left_without_growth : (columns : List (List Node)) (a k : ℕ) → joined_at columns a (suc k) ≡ joined_at columns a k
     → left_parent columns (suc a) (suc k) ≡ None
 left_without_growth columns a k e =
     ap (λ y. cond (ltb (joined_at columns a k) y) (Some y) None) e

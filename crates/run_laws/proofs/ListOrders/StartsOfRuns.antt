@@ -1,23 +1,25 @@
 -- The starts of a run are the instances of its own columns, in an order of its own dag.
-use Rattle.std.proofs.Common.{List, ℕ, Some, ◌≡◌, length, ◌<◌, arith, subst, sym, inl, inr, ap, [], ◌∷◌, ◌++◌, pos, ◌∙◌, refl}
+use Rattle.std.proofs.Common.{suc, List, ℕ, Some, ◌≡◌, length, ◌<◌, arith, subst, sym, inl, inr, ap, [], ◌∷◌, ◌++◌, pos, ◌∙◌, refl}
 use Rattle.std.proofs.Common.{append-nil, append_assoc}
 use Rattle.std.proofs.lemmas.Bool.{cases_lt}
 use Rattle.std.proofs.lemmas.List.{length-map, length_push}
 use Rattle.pipe_model.specs.Runs.Allowed.{MayBegin, MayEnter, ControlAllows}
 use Rattle.pipe_model.specs.Pipelines.Behaviour.{node_of, Action, Accessed, Staged, Ended}
 use Rattle.pipe_model.specs.Races.Columns.{node_at, nodes_at, AreColumns, at}
-use Rattle.pipe_model.specs.Orders.LeftParent.{left_parent}
+use Rattle.pipe_model.specs.Orders.LeftParent.{left_parent, joined_at}
 use Rattle.pipe_model.specs.Pipelines.Pipeline.{Pipeline}
 use Rattle.pipe_model.specs.Runs.Run.{state_from, Run, EmptyRun, RunThen}
 use Rattle.pipe_model.specs.Orders.Starts.{start_number, AreStarts, started_by, starts_from, starts_of}
-use Rattle.pipe_model.specs.Runs.State.{Frame, frame_at, State, next_state, fresh_frame, own_columns, enter_pending, update_frame, Status}
-use Rattle.pipe_model.specs.Runs.State.{with_action, Running, Pending, Completed, initial_state}
+use Rattle.pipe_model.specs.declared.status.Status.{Status}
+use Rattle.pipe_model.specs.Runs.State.{Frame, frame_at, State, next_state, fresh_frame, own_columns, enter_pending, update_frame}
+use Rattle.pipe_model.specs.declared.status.Status.TheVariants.{Running, Pending, Completed}
+use Rattle.pipe_model.specs.Runs.State.{with_action, initial_state}
 use Rattle.pipe_model.specs.declared.event.Event.{Event}
 use Rattle.pipe_model.specs.declared.event.Event.TheVariants.{Begin, Enter, Access, Advance, Finish, Stop}
 use Rattle.pipe_model.specs.declared.node.Kind.TheVariants.{Zero}
 use Rattle.pipe_model.specs.declared.node.Node.{Node}
 use Rattle.pipe_model.specs.declared.node.NodeId.{NodeId}
-use Rattle.run_laws.proofs.ListOrders.GrownStarts.{AddsNode, all_grown, ordered_grown, grows, lefts_stay}
+use Rattle.run_laws.proofs.ListOrders.GrownStarts.{AddsNode, all_grown, ordered_grown, grows, lefts_stay, joins_stay}
 use Rattle.run_laws.proofs.ListOrders.OneMoreStart.{GrowsBy}
 use Rattle.run_laws.proofs.RunStates.FrameMoves.{IsSound, sound_begun, frame_at_begun, entered_frame, enter_pending_is, IsMove}
 use Rattle.run_laws.proofs.RunStates.FrameMoves.{moves_entered, sound_moved, frame_at_moved, moves_running, moves_pending, moves_completed}
@@ -59,6 +61,8 @@ pub record Grew (fs fs' : List Frame) (starts : List NodeId) (x : NodeId) : Type
   pub by : GrowsBy (columns_of_frames fs) (columns_of_frames fs') starts x
   pub lefts : (c k : ℕ) → k < length (nodes_at (columns_of_frames fs) c)
       → left_parent (columns_of_frames fs') c k ≡ left_parent (columns_of_frames fs) c k
+  pub joins : (c k : ℕ) → k < length (nodes_at (columns_of_frames fs) (suc c))
+      → joined_at (columns_of_frames fs') c k ≡ joined_at (columns_of_frames fs) c k
 
 -- a column with one instance more grows the starts so
 grew : (fs fs' : List Frame) (starts : List NodeId) (i : ℕ) (new : Node) → IsStartSound fs starts
@@ -75,6 +79,7 @@ grew fs fs' starts i new h a x sound heads = record {
   };
   by = grows (columns_of_frames fs) (columns_of_frames fs') starts i new a x h.ordered h.all;
   lefts = lefts_stay (columns_of_frames fs) (columns_of_frames fs') starts i new a x h.ordered h.all;
+  joins = joins_stay (columns_of_frames fs) (columns_of_frames fs') starts i new a x h.ordered h.all;
 }
 
 -- a beginning grows the starts so
@@ -135,7 +140,7 @@ grew_enter s i starts may h =
     ])
 
 -- an action starts nothing and keeps frames and starts sound
-sound_action : (fs : List Frame) (i : ℕ) (f : Frame) (x : Action) (w : Status) (starts : List NodeId)
+pub sound_action : (fs : List Frame) (i : ℕ) (f : Frame) (x : Action) (w : Status) (starts : List NodeId)
     → frame_at fs i ≡ Some f → IsMove fs i f (with_action x w f) → IsStartSound fs starts
     → IsStartSound (update_frame fs i (with_action x w)) (starts ++ [])
 sound_action fs i f x w starts is moves h = rw append-nil (record {
@@ -150,7 +155,7 @@ sound_action fs i f x w starts is moves h = rw append-nil (record {
 })
 
 -- every event keeps frames and starts sound
-sound_step : (limit : ℕ) (s : State) (e : Event) (starts : List NodeId) → ControlAllows limit s e
+pub sound_step : (limit : ℕ) (s : State) (e : Event) (starts : List NodeId) → ControlAllows limit s e
     → IsStartSound s.frames starts → IsStartSound (next_state s e).frames (starts ++ started_by s e)
 sound_step limit s (Begin i) starts may h = (grew_begin limit s i starts may h).sound
 sound_step limit s (Enter i) starts may h = (grew_enter s i starts may h).sound
@@ -168,7 +173,7 @@ sound_step limit s (Finish i e) starts may h =
 sound_step limit s Stop starts may h = rw append-nil h
 
 -- the starts of one event more
-starts_from-push : (s : State) (es : List Event) (e : Event)
+pub starts_from-push : (s : State) (es : List Event) (e : Event)
     → starts_from s (es ++ e ∷ []) ≡ starts_from s es ++ started_by (state_from s es) e
 starts_from-push s [] e = append-nil (started_by s e)
 starts_from-push s (x ∷ es) e =
@@ -182,10 +187,9 @@ pub starts_of_then : {p : Pipeline} {limit : ℕ} {es : List Event} {s : State} 
 starts_of_then {es = es} {s = s} r e =
     starts_from-push initial_state es e ∙ ap (λ u. starts_of es ++ started_by u e) (sym (run_state_is r))
 
--- the frames and starts of every run are sound
-pub run_starts_sound : {p : Pipeline} {limit : ℕ} {es : List Event} {s : State} → Run p limit es s
-    → IsStartSound s.frames (starts_of es)
-run_starts_sound EmptyRun = record {
+-- the starts of no events are sound
+pub empty_sound : IsStartSound [] []
+empty_sound = record {
   sound = record { well = λ i f c. absurd (cc); goes = λ i f c. absurd (cc); waits = λ i f g c. absurd (cc) };
   heads = λ i f c. absurd (cc);
   all = λ i k l. absurd (omega arith);
@@ -195,6 +199,11 @@ run_starts_sound EmptyRun = record {
     ordered = λ x y e l. absurd (omega arith);
   };
 }
+
+-- the frames and starts of every run are sound
+pub run_starts_sound : {p : Pipeline} {limit : ℕ} {es : List Event} {s : State} → Run p limit es s
+    → IsStartSound s.frames (starts_of es)
+run_starts_sound EmptyRun = empty_sound
 run_starts_sound {limit = limit} (RunThen {events = es} {s = s} r e h) =
     subst (IsStartSound (next_state s e).frames) (sym (starts_of_then r e))
     (sound_step limit s e (starts_of es) h.control (run_starts_sound r))

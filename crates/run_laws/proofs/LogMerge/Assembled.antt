@@ -20,7 +20,7 @@ pub record IsAssembled (p : Pipeline) (limit : ℕ) (events : List Event) (c : S
       → (d : State) → ControlRun limit (control_events front) d → (d.stopped ≡ false) × IsRunning d i
   pub program : (i : ℕ) → Performs (p.behaviour i) (actions_at i events)
   pub replies : (front rest : List Event) (i : ℕ) (a : Cell_access) → events ≡ front ++ Access i a ∷ rest
-      → HasReply p (p.preamble ++ accesses_among front) a
+      → HasReply p.store (p.preamble ++ accesses_among front) a
 
 -- events that are assembled so are a run
 abbrev pub AssembledIsRun : Type 0

@@ -88,7 +88,7 @@ access_step p limit events front rest i a c w q h =
     let offers = offers_next p limit events front (actions_at i rest) i (Accessed a) h.state h.run (w.program i)
     (ap (actions_at i) q ∙ actions_at-append i front (Access i a ∷ rest)
     ∙ ap (λ l. actions_at i front ++ l) (if_same-true i (Accessed a) (actions_at i rest))) in
-    let reply = subst (λ l. HasReply p (p.preamble ++ l) a) (sym (accesses_are_among h.run))
+    let reply = subst (λ l. HasReply p.store (p.preamble ++ l) a) (sym (accesses_are_among h.run))
     (w.replies front rest i a q) in
     record {
       state = next_state h.state (Access i a);
@@ -147,18 +147,18 @@ same_columns s c e =
 same_finished : (s c : State) → SameControl s c → IsFinished c → IsFinished s
 same_finished s c e h =
     let x = h.shut in
-    let y = same_frame s.frames c.frames x.0 x.1 e.frames x.2 in
+    let y = same_frame s.frames c.frames x.iteration x.frame e.frames x.is in
     record {
       over = λ i f is. (
           let g = same_frame c.frames s.frames i f (sym e.frames) is in
           subst (λ w. is_completed w ≡ true) g.status (h.over i g.frame g.is));
-      shut = (
-        x.0,
-        y.frame,
-        y.is,
-        subst (λ w. ClosesLoop w y.frame.nodes) (sym y.status)
-            (subst (λ ns. ClosesLoop x.1.status ns) (sym y.nodes) x.3),
-      );
+      shut = record {
+        iteration = x.iteration;
+        frame = y.frame;
+        is = y.is;
+        closes = subst (λ w. ClosesLoop w y.frame.nodes) (sym y.status)
+            (subst (λ ns. ClosesLoop x.frame.status ns) (sym y.nodes) x.closes);
+      };
       going = e.stopped ∙ h.going;
     }
 

@@ -5,7 +5,9 @@ use Rattle.pipe_model.specs.Pipelines.Behaviour.{Staged, Ended, Accessed}
 use Rattle.pipe_model.specs.Pipelines.Pipeline.{Pipeline}
 use Rattle.pipe_model.specs.Races.DeterminacyRaces.{Among, Here, Later}
 use Rattle.pipe_model.specs.Runs.State.{State, frame_at}
-use Rattle.pipe_model.specs.Runs.TicketLogs.{TimedAction, BookEntry, end_action, end_actions, ShardEntry, ClosedLogs, laid_traces, start_tickets}
+use Rattle.pipe_model.specs.Runs.TicketLogs.{TimedAction, end_action, end_actions, ClosedLogs, laid_traces, start_tickets}
+use Rattle.pipe_model.specs.declared.ticket.BookEntry.{BookEntry}
+use Rattle.pipe_model.specs.declared.ticket.ShardEntry.{ShardEntry}
 use Rattle.pipe_model.specs.declared.event.Event.TheVariants.{Advance, Finish}
 use Rattle.run_laws.proofs.LogMerge.FittingLogs.{IsActionOf, StagedIn, EndedIn, AccessedIn, IsTrace}
 use Rattle.run_laws.proofs.LogMerge.InstanceCounts.{control_counts, one_open, start_tickets_counted, end_tickets_counted}

@@ -5,7 +5,9 @@ use Rattle.pipe_model.specs.Runs.Allowed.{IsRunning, LeftHasPassed, HasPassed, C
 use Rattle.pipe_model.specs.Pipelines.Behaviour.{Staged, Ended, Accessed}
 use Rattle.pipe_model.specs.Races.Columns.{node_at}
 use Rattle.pipe_model.specs.Runs.ControlRun.{is_access}
-use Rattle.pipe_model.specs.Runs.State.{Frame, frame_at, alive_in, alive_one, update_frame, Status, enter_pending, Running, Pending, Completed}
+use Rattle.pipe_model.specs.declared.status.Status.{Status}
+use Rattle.pipe_model.specs.declared.status.Status.TheVariants.{Running, Pending, Completed}
+use Rattle.pipe_model.specs.Runs.State.{Frame, frame_at, alive_in, alive_one, update_frame, enter_pending}
 use Rattle.pipe_model.specs.Runs.State.{State, next_state, fresh_frame, with_action}
 use Rattle.pipe_model.specs.declared.access.Access.{Access as Cell_access}
 use Rattle.pipe_model.specs.declared.event.Event.{Event}

@@ -3,7 +3,9 @@ use Rattle.std.proofs.Common.{ℕ}
 use Rattle.pipe_model.specs.declared.access.Access.{Access as Cell_access}
 use Rattle.pipe_model.specs.declared.event.Event.{Event}
 use Rattle.pipe_model.specs.Pipelines.Behaviour.{Action}
-use Rattle.pipe_model.specs.Runs.TicketLogs.{BookEntry, ShardEntry, TimedAction}
+use Rattle.pipe_model.specs.Runs.TicketLogs.{TimedAction}
+use Rattle.pipe_model.specs.declared.ticket.BookEntry.{BookEntry}
+use Rattle.pipe_model.specs.declared.ticket.ShardEntry.{ShardEntry}
 
 -- an action with this ticket
 abbrev pub timed : ℕ → Action → TimedAction

@@ -8,8 +8,10 @@ use Rattle.pipe_model.specs.Pipelines.Behaviour.{Action, Accessed, Staged, Ended
 use Rattle.run_laws.proofs.LogMerge.EventParts.{if_same, actions_at, accesses_among, control_events}
 use Rattle.pipe_model.specs.Pipelines.Pipeline.{Pipeline}
 use Rattle.pipe_model.specs.Runs.Run.{Run, EmptyRun, RunThen}
-use Rattle.pipe_model.specs.Runs.State.{Frame, trace_in, frame_at, fresh_frame, update_frame, with_action, enter_pending, Running, Pending}
-use Rattle.pipe_model.specs.Runs.State.{Completed, State, next_state, accesses_of}
+use Rattle.pipe_model.specs.declared.status.Status.TheVariants.{Running, Pending}
+use Rattle.pipe_model.specs.Runs.State.{Frame, trace_in, frame_at, fresh_frame, update_frame, with_action, enter_pending}
+use Rattle.pipe_model.specs.declared.status.Status.TheVariants.{Completed}
+use Rattle.pipe_model.specs.Runs.State.{State, next_state, accesses_of}
 use Rattle.pipe_model.specs.declared.access.NodeAccess.{NodeAccess}
 use Rattle.pipe_model.specs.declared.event.Event.{Event}
 use Rattle.pipe_model.specs.declared.event.Event.TheVariants.{Begin, Enter, Stop, Access, Advance, Finish}

@@ -6,7 +6,9 @@ use Rattle.pipe_model.specs.Pipelines.Pipeline.{Pipeline}
 use Rattle.pipe_model.specs.Races.DeterminacyRaces.{Among}
 use Rattle.pipe_model.specs.Runs.State.{State}
 use Rattle.pipe_model.specs.Pipelines.Store.{HasReply}
-use Rattle.pipe_model.specs.Runs.TicketLogs.{BookEntry, ShardEntry, ticket_at, start_tickets, end_tickets, TimedAction, TicketsRise, LogEntry}
+use Rattle.pipe_model.specs.Runs.TicketLogs.{ticket_at, start_tickets, end_tickets, TimedAction, TicketsRise, LogEntry}
+use Rattle.pipe_model.specs.declared.ticket.BookEntry.{BookEntry}
+use Rattle.pipe_model.specs.declared.ticket.ShardEntry.{ShardEntry}
 use Rattle.pipe_model.specs.Runs.TicketLogs.{IsMerge, event_of}
 use Rattle.pipe_model.specs.declared.access.Access.{Access as Cell_access}
 use Rattle.pipe_model.specs.declared.event.Event.TheVariants.{Advance, Finish, Stop}
@@ -48,7 +50,7 @@ pub record FitTogether (p : Pipeline) (limit width : ℕ) (book : List BookEntry
       → Among e (shards k) → e.ticket < t
   pub traces : (i : ℕ) → (trace : List TimedAction) × IsTrace p book shards i trace
   pub replies : (k : ℕ) (front rest : List ShardEntry) (e : ShardEntry) → shards k ≡ front ++ e ∷ rest
-      → HasReply p (p.preamble ++ map (λ x. x.access) front) e.access
+      → HasReply p.store (p.preamble ++ map (λ x. x.access) front) e.access
 
 -- the merge of logs that fit together is a run
 abbrev pub FittingMergeIsRun : Type 0

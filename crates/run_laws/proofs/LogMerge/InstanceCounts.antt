@@ -6,9 +6,12 @@ use Rattle.std.proofs.lemmas.List.{length-append}
 use Rattle.pipe_model.specs.Runs.Allowed.{ControlAllows}
 use Rattle.pipe_model.specs.Pipelines.Behaviour.{Staged, Ended, node_of}
 use Rattle.pipe_model.specs.Runs.ControlRun.{ControlRun, EmptyControlRun, ControlRunThen, is_access}
-use Rattle.pipe_model.specs.Runs.State.{State, Frame, next_state, Status, Running, Pending, Completed, frame_at, update_frame, fresh_frame}
+use Rattle.pipe_model.specs.declared.status.Status.{Status}
+use Rattle.pipe_model.specs.declared.status.Status.TheVariants.{Running, Pending, Completed}
+use Rattle.pipe_model.specs.Runs.State.{State, Frame, next_state, frame_at, update_frame, fresh_frame}
 use Rattle.pipe_model.specs.Runs.State.{with_action, enter_pending}
-use Rattle.pipe_model.specs.Runs.TicketLogs.{start_ticket, end_ticket, BookEntry, start_tickets, end_tickets, if_ticket}
+use Rattle.pipe_model.specs.Runs.TicketLogs.{start_ticket, end_ticket, start_tickets, end_tickets, if_ticket}
+use Rattle.pipe_model.specs.declared.ticket.BookEntry.{BookEntry}
 use Rattle.pipe_model.specs.declared.event.Event.{Event}
 use Rattle.pipe_model.specs.declared.event.Event.TheVariants.{Begin, Access, Advance, Enter, Finish, Stop}
 use Rattle.run_laws.proofs.LogMerge.InstanceTickets.{any_start, any_end, any_ticket}

@@ -2,7 +2,8 @@
 use Rattle.std.proofs.Common.{ℕ, List, ◌≡◌, ◌++◌, refl, [], ap, sym, append_assoc, ◌∙◌, ◌∷◌, length, Some, ◌<◌, arith, zero, suc, ◌⊎◌, inr}
 use Rattle.std.proofs.Common.{inl, Bool, true, false, ◌==◌}
 use Rattle.pipe_model.specs.Races.DeterminacyRaces.{Among, Here, Later}
-use Rattle.pipe_model.specs.Runs.TicketLogs.{BookEntry, start_tickets, start_ticket, end_tickets, end_ticket, ticket_at, if_ticket}
+use Rattle.pipe_model.specs.Runs.TicketLogs.{start_tickets, start_ticket, end_tickets, end_ticket, ticket_at, if_ticket}
+use Rattle.pipe_model.specs.declared.ticket.BookEntry.{BookEntry}
 use Rattle.pipe_model.specs.declared.event.Event.{Event}
 use Rattle.pipe_model.specs.declared.event.Event.TheVariants.{Begin, Enter, Access, Advance, Finish, Stop}
 use Rattle.pipe_model.proofs.Members.{only_one, none_among, among_either}

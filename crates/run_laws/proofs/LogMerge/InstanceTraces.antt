@@ -3,7 +3,8 @@ use Rattle.std.proofs.Common.{Bool, ℕ, List, map, ◌≡◌, ◌++◌, true, a
 use Rattle.std.proofs.Common.{subst, length, ◌≤◌, zero, ◌⊎◌}
 use Rattle.pipe_model.specs.Pipelines.Behaviour.{Action, Staged, Ended}
 use Rattle.pipe_model.specs.Races.DeterminacyRaces.{Among, Here, Later}
-use Rattle.pipe_model.specs.Runs.TicketLogs.{TimedAction, if_end, if_ticket, BookEntry, end_actions, end_tickets, end_action, end_ticket}
+use Rattle.pipe_model.specs.Runs.TicketLogs.{TimedAction, if_end, if_ticket, end_actions, end_tickets, end_action, end_ticket}
+use Rattle.pipe_model.specs.declared.ticket.BookEntry.{BookEntry}
 use Rattle.pipe_model.specs.Runs.TicketLogs.{TicketsRise, laid_traces, ticket_at, start_tickets, InTicketOrder}
 use Rattle.pipe_model.specs.declared.event.Event.{Event}
 use Rattle.pipe_model.specs.declared.event.Event.TheVariants.{Begin, Enter, Access, Advance, Finish, Stop}

@@ -6,7 +6,9 @@ use Rattle.run_laws.proofs.LogMerge.EventParts.{control_events}
 use Rattle.pipe_model.specs.Pipelines.Pipeline.{Pipeline}
 use Rattle.pipe_model.specs.Races.DeterminacyRaces.{Among, Here, Later}
 use Rattle.pipe_model.specs.Runs.State.{State}
-use Rattle.pipe_model.specs.Runs.TicketLogs.{LogEntry, BookEntry, book_in, event_of, OfBook, OfShard, ShardEntry, if_shard, shard_in, InOrder}
+use Rattle.pipe_model.specs.Runs.TicketLogs.{LogEntry, book_in, event_of, OfBook, OfShard, if_shard, shard_in, InOrder}
+use Rattle.pipe_model.specs.declared.ticket.BookEntry.{BookEntry}
+use Rattle.pipe_model.specs.declared.ticket.ShardEntry.{ShardEntry}
 use Rattle.pipe_model.specs.Runs.TicketLogs.{ComesBefore, IsMerge}
 use Rattle.pipe_model.specs.declared.access.Access.{Access as Cell_access}
 use Rattle.pipe_model.specs.declared.event.Event.{Event}

@@ -5,7 +5,9 @@ use Rattle.pipe_model.specs.Pipelines.Behaviour.{Action, Staged, Ended, Accessed
 use Rattle.pipe_model.specs.Runs.ControlRun.{is_access}
 use Rattle.run_laws.proofs.LogMerge.EventParts.{if_same, actions_at}
 use Rattle.pipe_model.specs.Races.DeterminacyRaces.{Among, Here, Later}
-use Rattle.pipe_model.specs.Runs.TicketLogs.{if_end, end_action, TimedAction, LogEntry, OfBook, OfShard, BookEntry, book_in, event_of, ShardEntry, IsMerge}
+use Rattle.pipe_model.specs.Runs.TicketLogs.{if_end, end_action, TimedAction, LogEntry, OfBook, OfShard, book_in, event_of, IsMerge}
+use Rattle.pipe_model.specs.declared.ticket.BookEntry.{BookEntry}
+use Rattle.pipe_model.specs.declared.ticket.ShardEntry.{ShardEntry}
 use Rattle.pipe_model.specs.declared.event.Event.{Event}
 use Rattle.pipe_model.specs.declared.event.Event.TheVariants.{Begin, Access, Advance, Enter, Finish, Stop}
 use Rattle.run_laws.proofs.LogMerge.FittingLogs.{IsActionOf, StagedIn, EndedIn, AccessedIn}

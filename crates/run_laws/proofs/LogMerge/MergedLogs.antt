@@ -3,7 +3,8 @@ use Rattle.std.proofs.Common.{false, subst, ◌≡◌, map, ap, ◌∙◌, sym}
 use Rattle.pipe_model.specs.Runs.ControlRun.{is_access, ControlRun}
 use Rattle.run_laws.proofs.LogMerge.EventParts.{control_events}
 use Rattle.pipe_model.specs.Races.DeterminacyRaces.{Among}
-use Rattle.pipe_model.specs.Runs.TicketLogs.{BookEntry, book_in, event_of}
+use Rattle.pipe_model.specs.Runs.TicketLogs.{book_in, event_of}
+use Rattle.pipe_model.specs.declared.ticket.BookEntry.{BookEntry}
 use Rattle.run_laws.proofs.LogMerge.AssembledRuns.{assembled_is_run}
 use Rattle.run_laws.proofs.LogMerge.FittingLogs.{FittingMergeIsRun}
 use Rattle.run_laws.proofs.LogMerge.MergeSplits.{control_has_no_access, among_events, control_events_of_merge, split_at}

@@ -7,7 +7,9 @@ use Rattle.pipe_model.specs.Pipelines.Pipeline.{Pipeline}
 use Rattle.pipe_model.specs.Races.DeterminacyRaces.{Among, Here, Later}
 use Rattle.pipe_model.specs.Runs.State.{State}
 use Rattle.pipe_model.specs.Pipelines.Store.{written, wrote, HasReply, value_from}
-use Rattle.pipe_model.specs.Runs.TicketLogs.{LogEntry, ShardEntry, OfShard, BookEntry, book_in, event_of, shard_in, OfBook, if_shard, IsMerge}
+use Rattle.pipe_model.specs.Runs.TicketLogs.{LogEntry, OfShard, book_in, event_of, shard_in, OfBook, if_shard, IsMerge}
+use Rattle.pipe_model.specs.declared.ticket.ShardEntry.{ShardEntry}
+use Rattle.pipe_model.specs.declared.ticket.BookEntry.{BookEntry}
 use Rattle.pipe_model.specs.declared.access.Access.{Access as Cell_access}
 use Rattle.pipe_model.specs.declared.event.Event.{Event}
 use Rattle.pipe_model.specs.declared.event.Event.TheVariants.{Begin, Access, Advance, Enter, Finish, Stop}
@@ -56,7 +58,7 @@ pub merged_replies : (p : Pipeline) (limit width : ℕ) (book : List BookEntry)
     (shards : ℕ → List ShardEntry) (c : State) (merged : List LogEntry)
     → FitTogether p limit width book shards c → IsMerge book shards merged
     → (front : List Event) (i : ℕ) (a : Cell_access) → IsSplit merged front i a
-    → HasReply p (p.preamble ++ accesses_among front) a
+    → HasReply p.store (p.preamble ++ accesses_among front) a
 merged_replies p limit width book shards c merged fit merge front i a s =
     let k = s.shard in
     let e = s.entry in
@@ -81,9 +83,9 @@ merged_replies p limit width book shards c merged fit merge front i a s =
     ≡ written cell (map (λ (x : ShardEntry). x.access) (shard_in k s.left)) =
     ap (λ l. written cell (accesses_among l)) s.events ∙ shard_written cell width s.left of_shard silent
     ∙ ap (λ j. written cell (map (λ (x : ShardEntry). x.access) (shard_in j s.left))) own in
-    let here : HasReply p (p.preamble ++ accesses_among front) e.access =
-    λ read. reply read ∙ ap (value_from p cell) (
+    let here : HasReply p.store (p.preamble ++ accesses_among front) e.access =
+    λ read. reply read ∙ ap (value_from p.store cell) (
     written-append cell p.preamble (map (λ (x : ShardEntry). x.access) (shard_in k s.left))
     ∙ ap (λ l. written cell p.preamble ++ l) (sym same)
     ∙ sym (written-append cell p.preamble (accesses_among front))) in
-    subst (λ (x : Cell_access). HasReply p (p.preamble ++ accesses_among front) x) (sym s.access) here
+    subst (λ (x : Cell_access). HasReply p.store (p.preamble ++ accesses_among front) x) (sym s.access) here

@@ -7,8 +7,12 @@ use Rattle.pipe_model.specs.Runs.ControlRun.{ControlRun, EmptyControlRun, Contro
 use Rattle.run_laws.proofs.LogMerge.EventParts.{control_events}
 use Rattle.pipe_model.specs.Pipelines.Pipeline.{Pipeline}
 use Rattle.pipe_model.specs.Races.DeterminacyRaces.{Among, Here}
-use Rattle.pipe_model.specs.Runs.State.{State, frame_at, Frame, Status, Running, Pending, Completed, next_state}
-use Rattle.pipe_model.specs.Runs.TicketLogs.{BookEntry, ShardEntry, LogEntry, IsMerge, book_in, OfShard, InOrder, shard_in, if_shard, OfBook}
+use Rattle.pipe_model.specs.declared.status.Status.{Status}
+use Rattle.pipe_model.specs.declared.status.Status.TheVariants.{Running, Pending, Completed}
+use Rattle.pipe_model.specs.Runs.State.{State, frame_at, Frame, next_state}
+use Rattle.pipe_model.specs.Runs.TicketLogs.{LogEntry, IsMerge, book_in, OfShard, InOrder, shard_in, if_shard, OfBook}
+use Rattle.pipe_model.specs.declared.ticket.BookEntry.{BookEntry}
+use Rattle.pipe_model.specs.declared.ticket.ShardEntry.{ShardEntry}
 use Rattle.pipe_model.specs.Runs.TicketLogs.{start_tickets, end_tickets, ticket_at}
 use Rattle.pipe_model.specs.declared.access.Access.{Access as Cell_access}
 use Rattle.pipe_model.specs.declared.event.Event.{Event}

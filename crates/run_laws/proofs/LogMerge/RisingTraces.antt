@@ -7,8 +7,10 @@ use Rattle.pipe_model.specs.Pipelines.Pipeline.{Pipeline}
 use Rattle.pipe_model.specs.Races.DeterminacyRaces.{Among, Here, Later}
 use Rattle.pipe_model.specs.Runs.State.{State}
 use Rattle.pipe_model.specs.Runs.TicketLogs.{if_end, end_action, TimedAction, TicketsRise, LogEntry, ticket_of, OfBook, OfShard, rank_of}
-use Rattle.pipe_model.specs.Runs.TicketLogs.{ShardEntry, InOrder}
-use Rattle.pipe_model.specs.Runs.TicketLogs.{BookEntry, IsMerge, book_in, event_of}
+use Rattle.pipe_model.specs.Runs.TicketLogs.{InOrder}
+use Rattle.pipe_model.specs.declared.ticket.ShardEntry.{ShardEntry}
+use Rattle.pipe_model.specs.Runs.TicketLogs.{IsMerge, book_in, event_of}
+use Rattle.pipe_model.specs.declared.ticket.BookEntry.{BookEntry}
 use Rattle.pipe_model.specs.declared.access.Access.{Access as Cell_access}
 use Rattle.pipe_model.specs.declared.event.Event.{Event}
 use Rattle.pipe_model.specs.declared.event.Event.TheVariants.{Begin, Access, Advance, Enter, Finish, Stop}

@@ -12,8 +12,11 @@ use Rattle.pipe_model.specs.Races.Dag.{Precedes, ByEdge, ByPath}
 use Rattle.pipe_model.specs.Pipelines.Pipeline.{Pipeline}
 use Rattle.pipe_model.specs.Runs.Run.{Run, EmptyRun, RunThen}
 use Rattle.pipe_model.specs.Orders.Starts.{IsStarted, AreStarts, started_by, starts_of}
-use Rattle.pipe_model.specs.Runs.State.{Frame, frame_at, Running, State, Status, own_columns, update_frame, with_action, next_state}
-use Rattle.pipe_model.specs.Runs.State.{current_index, Pending, Completed}
+use Rattle.pipe_model.specs.declared.status.Status.{Status}
+use Rattle.pipe_model.specs.declared.status.Status.TheVariants.{Running}
+use Rattle.pipe_model.specs.Runs.State.{Frame, frame_at, State, own_columns, update_frame, with_action, next_state}
+use Rattle.pipe_model.specs.declared.status.Status.TheVariants.{Pending, Completed}
+use Rattle.pipe_model.specs.Runs.State.{current_index}
 use Rattle.pipe_model.specs.declared.access.AccessKind.{AccessKind}
 use Rattle.pipe_model.specs.declared.access.AccessKind.TheVariants.{Read}
 use Rattle.pipe_model.specs.declared.access.NodeAccess.{NodeAccess}

@@ -2,7 +2,9 @@
 use Rattle.std.proofs.Common.{List, ℕ, Some, true, ◌≡◌, ℤ, refl, [], suc, arith, ◌∷◌}
 use Rattle.std.proofs.lemmas.Bool.{false≢true}
 use Rattle.pipe_model.specs.Runs.Allowed.{HasPassed}
-use Rattle.pipe_model.specs.Runs.State.{Frame, frame_at, is_completed, Status, Running, Pending, Completed, alive_one, alive_in}
+use Rattle.pipe_model.specs.declared.status.Status.{Status}
+use Rattle.pipe_model.specs.declared.status.Status.TheVariants.{Running, Pending, Completed}
+use Rattle.pipe_model.specs.Runs.State.{Frame, frame_at, is_completed, alive_one, alive_in}
 use Rattle.pipe_model.specs.declared.node.Node.{Node}
 
 -- all iterations have ended

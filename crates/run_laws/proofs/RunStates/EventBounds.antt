@@ -8,7 +8,9 @@ use Rattle.pipe_model.specs.Pipelines.Behaviour.{Behaviour, behaviour_after_all,
 use Rattle.pipe_model.specs.Pipelines.Behaviour.{Staged, Ended}
 use Rattle.pipe_model.specs.Pipelines.Pipeline.{HasBoundedWork, Pipeline}
 use Rattle.pipe_model.specs.Runs.Run.{Run, EmptyRun, RunThen}
-use Rattle.pipe_model.specs.Runs.State.{Status, Running, Pending, Completed, Frame, frame_at, update_frame, fresh_frame, with_action}
+use Rattle.pipe_model.specs.declared.status.Status.{Status}
+use Rattle.pipe_model.specs.declared.status.Status.TheVariants.{Running, Pending, Completed}
+use Rattle.pipe_model.specs.Runs.State.{Frame, frame_at, update_frame, fresh_frame, with_action}
 use Rattle.pipe_model.specs.Runs.State.{enter_pending, State, next_state}
 use Rattle.pipe_model.specs.declared.event.Event.{Event}
 use Rattle.pipe_model.specs.declared.event.Event.TheVariants.{Begin, Access, Advance, Enter, Finish, Stop}

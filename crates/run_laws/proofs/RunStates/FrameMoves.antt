@@ -7,7 +7,8 @@ use Rattle.std.proofs.lemmas.List.{get_or_append_left, get_or_push, length_push}
 use Rattle.pipe_model.specs.Runs.Allowed.{ContinuesLoop, HasPassed, LeftHasPassed, MayBegin}
 use Rattle.pipe_model.specs.Pipelines.Behaviour.{Action, node_of}
 use Rattle.pipe_model.specs.Races.Columns.{node_at, no_node, IsRising}
-use Rattle.pipe_model.specs.Runs.State.{Frame, Pending, frame_at, Running, with_action, Completed, enter_pending, update_frame, fresh_frame, State}
+use Rattle.pipe_model.specs.declared.status.Status.TheVariants.{Pending, Running, Completed}
+use Rattle.pipe_model.specs.Runs.State.{Frame, frame_at, with_action, enter_pending, update_frame, fresh_frame, State}
 use Rattle.pipe_model.specs.declared.column.ColumnEnd.{ColumnEnd}
 use Rattle.pipe_model.specs.declared.node.Kind.{Kind}
 use Rattle.pipe_model.specs.declared.node.Kind.TheVariants.{Wait, Zero}

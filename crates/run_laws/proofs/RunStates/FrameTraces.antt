@@ -5,7 +5,9 @@ use Rattle.pipe_model.specs.Runs.Allowed.{OffersAt, IsRunning, MayEnter, Allowed
 use Rattle.pipe_model.specs.Pipelines.Behaviour.{node_of, Action, HasNoEnd, Performs, column_of, Offers, behaviour_after_all, nodes_in, Accessed, Staged, Ended}
 use Rattle.pipe_model.specs.Pipelines.Pipeline.{Pipeline}
 use Rattle.pipe_model.specs.Runs.Run.{Run, EmptyRun, RunThen}
-use Rattle.pipe_model.specs.Runs.State.{Status, Running, Pending, Completed, Frame, frame_at, update_frame, State, trace_in, next_state}
+use Rattle.pipe_model.specs.declared.status.Status.{Status}
+use Rattle.pipe_model.specs.declared.status.Status.TheVariants.{Running, Pending, Completed}
+use Rattle.pipe_model.specs.Runs.State.{Frame, frame_at, update_frame, State, trace_in, next_state}
 use Rattle.pipe_model.specs.Runs.State.{with_action, enter_pending, is_completed}
 use Rattle.pipe_model.specs.declared.access.Access.{Access as Cell_access}
 use Rattle.pipe_model.specs.declared.column.ColumnEnd.{ColumnEnd}

@@ -9,7 +9,8 @@ use Rattle.run_laws.proofs.RunStates.FrameMoves.{IsSound, IsMove}
 use Rattle.run_laws.proofs.RunStates.Frames.{nodes_at_frame, frame_at_updated, frame_at_within, frame_at_exists, nodes_at_past}
 use Rattle.run_laws.proofs.RunStates.LaterEdges.{columns_of_frames, ExtendsColumns}
 use Rattle.run_laws.proofs.RunStates.RunningInstances.{frame_of_node, awaited_is_passed}
-use Rattle.pipe_model.specs.Runs.State.{with_action, Status}
+use Rattle.pipe_model.specs.declared.status.Status.{Status}
+use Rattle.pipe_model.specs.Runs.State.{with_action}
 use Rattle.pipe_model.specs.Pipelines.Behaviour.{Action}
 
 -- an update changes no other column

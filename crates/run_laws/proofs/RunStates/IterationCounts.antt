@@ -8,7 +8,8 @@ use Rattle.pipe_model.specs.Races.Columns.{IsRising, nodes_at}
 use Rattle.pipe_model.specs.Pipelines.Pipeline.{Pipeline}
 use Rattle.pipe_model.specs.Runs.Run.{Run, EmptyRun, RunThen}
 use Rattle.pipe_model.specs.Runs.State.{Frame, frame_at, alive_in, update_frame, alive_one, fresh_frame, State, alive, next_state, with_action}
-use Rattle.pipe_model.specs.Runs.State.{Running, Pending, enter_pending, Completed}
+use Rattle.pipe_model.specs.declared.status.Status.TheVariants.{Running, Pending, Completed}
+use Rattle.pipe_model.specs.Runs.State.{enter_pending}
 use Rattle.pipe_model.specs.Runs.Throttling.{begun_count, ended_count, IsThrottled}
 use Rattle.pipe_model.specs.declared.event.Event.{Event}
 use Rattle.pipe_model.specs.declared.event.Event.TheVariants.{Begin, Access, Advance, Enter, Finish, Stop}

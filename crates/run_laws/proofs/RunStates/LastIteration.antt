@@ -5,7 +5,9 @@ use Rattle.pipe_model.specs.Pipelines.Behaviour.{Behaviour, closes_at_once, beha
 use Rattle.pipe_model.specs.Pipelines.Behaviour.{Staging, Ending, Staged, Ended}
 use Rattle.pipe_model.specs.Pipelines.Pipeline.{AlwaysClosesLoop, Pipeline}
 use Rattle.pipe_model.specs.Runs.Run.{Run, EmptyRun, RunThen}
-use Rattle.pipe_model.specs.Runs.State.{Status, Running, Pending, Completed, Frame, frame_at, update_frame, State, next_state, with_action, enter_pending}
+use Rattle.pipe_model.specs.declared.status.Status.{Status}
+use Rattle.pipe_model.specs.declared.status.Status.TheVariants.{Running, Pending, Completed}
+use Rattle.pipe_model.specs.Runs.State.{Frame, frame_at, update_frame, State, next_state, with_action, enter_pending}
 use Rattle.pipe_model.specs.declared.event.Event.{Event}
 use Rattle.pipe_model.specs.declared.event.Event.TheVariants.{Begin, Access, Advance, Enter, Finish, Stop}
 use Rattle.pipe_model.specs.declared.node.Kind.{Kind}

@@ -7,7 +7,9 @@ use Rattle.pipe_model.specs.Pipelines.Behaviour.{Behaviour, behaviour_after_all,
 use Rattle.pipe_model.specs.Pipelines.Behaviour.{Staged, node_of, Ended, Action, read_access, write_access, closes_at_once}
 use Rattle.pipe_model.specs.Pipelines.Pipeline.{HasLegalStages, Pipeline, IsWellFormed}
 use Rattle.pipe_model.specs.Runs.Run.{Run, EmptyRun, RunThen, IsFinished}
-use Rattle.pipe_model.specs.Runs.State.{Status, Running, Pending, Completed, Frame, frame_at, update_frame, State, next_state, with_action}
+use Rattle.pipe_model.specs.declared.status.Status.{Status}
+use Rattle.pipe_model.specs.declared.status.Status.TheVariants.{Running, Pending, Completed}
+use Rattle.pipe_model.specs.Runs.State.{Frame, frame_at, update_frame, State, next_state, with_action}
 use Rattle.pipe_model.specs.Runs.State.{enter_pending, is_completed, trace_in, accesses_of}
 use Rattle.pipe_model.specs.Pipelines.Store.{value_after}
 use Rattle.pipe_model.specs.declared.event.Event.{Event}
@@ -23,14 +25,14 @@ use Rattle.run_laws.proofs.RunStates.RunInvariant.{IsConsistent, run_consistent}
 use Rattle.run_laws.specs.RunLaws.{RunsNeverStick}
 
 -- what is left to do of an iteration is legal
-abbrev LegalNow : Status → List Node → Behaviour → Type 0
+abbrev pub LegalNow : Status → List Node → Behaviour → Type 0
 LegalNow Running nodes d =
     (first : Bool) × (first ≡ true → length nodes ≡ 1) × HasLegalStages first (last_node nodes).number d
 LegalNow (Pending k n) nodes d = HasLegalStages false n d
 LegalNow (Completed e) nodes d = Unit {0}
 
 -- what is left to do of every iteration is legal
-abbrev AllLegal : Pipeline → List Frame → Type 0
+abbrev pub AllLegal : Pipeline → List Frame → Type 0
 AllLegal p fs =
     (i : ℕ) (f : Frame) → frame_at fs i ≡ Some f
     → LegalNow f.status f.nodes (behaviour_after_all (p.behaviour i) f.trace)
@@ -105,7 +107,7 @@ legal_after p limit s (Finish i e) proper h all =
 legal_after p limit s Stop proper h all = all
 
 -- in every run what is left to do is legal
-run_legal : {p : Pipeline} {limit : ℕ} {events : List Event} {s : State} → IsWellFormed p → Run p limit events s
+pub run_legal : {p : Pipeline} {limit : ℕ} {events : List Event} {s : State} → IsWellFormed p → Run p limit events s
     → AllLegal p s.frames
 run_legal proper EmptyRun = λ i f e. absurd (cc)
 run_legal {p} {limit} proper (RunThen {s = t} r e h) = legal_after p limit t e proper h (run_legal proper r)
@@ -169,7 +171,7 @@ running_goes_on : (p : Pipeline) (limit : ℕ) (s : State) (i : ℕ) (d : Behavi
     → (first ≡ true → length r.frame.nodes ≡ 1) → HasLegalStages first (last_node r.frame.nodes).number d
     → GoesOn p limit s
 running_goes_on p limit s i (Reading c go) going r e first one l =
-    let v = value_after p (p.preamble ++ accesses_of s.accesses) c in (
+    let v = value_after p.store (p.preamble ++ accesses_of s.accesses) c in (
       Access i (read_access c v),
       (λ q. cc),
       record {
@@ -271,7 +273,7 @@ completed_goes_on p limit s k room going all (suc n) e =
     let none = none_alive s.frames all in
     let f = frame_at_exists s.frames n (omega (arith, e)) in
     elim (closed_or_continues f.0.status f.0.nodes (all n f.0 f.1) (k.sound.well n f.0 f.1).filled) [
-      | inl shut ↦ inl (record { over = all; shut = (n, f.0, f.1, shut); going = going })
+      | inl shut ↦ inl (record { over = all; shut = record { iteration = n; frame = f.0; is = f.1; closes = shut }; going = going })
       | inr on ↦ inr (
         Begin (suc n),
         (λ q. cc),

@@ -2,7 +2,8 @@
 use Rattle.std.proofs.Common.{List, ℕ, Some, ◌≡◌, ℤ, refl, append-nil, ◌∙◌, [], ◌∷◌, subst, sym, ap, arith}
 use Rattle.pipe_model.specs.Runs.Allowed.{MayAdvance, MayFinish, MayEnter}
 use Rattle.pipe_model.specs.Pipelines.Behaviour.{accesses_in, Staged, Ended}
-use Rattle.pipe_model.specs.Runs.State.{State, Frame, frame_at, update_frame, next_state, with_action, Pending, Completed, enter_pending, own_columns}
+use Rattle.pipe_model.specs.declared.status.Status.TheVariants.{Pending, Completed}
+use Rattle.pipe_model.specs.Runs.State.{State, Frame, frame_at, update_frame, next_state, with_action, enter_pending, own_columns}
 use Rattle.pipe_model.specs.declared.event.Event.TheVariants.{Advance, Finish, Enter}
 use Rattle.pipe_model.specs.declared.node.Node.{Node}
 use Rattle.pipe_model.specs.declared.node.NodeId.{NodeId}

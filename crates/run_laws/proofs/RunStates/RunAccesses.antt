@@ -9,8 +9,10 @@ use Rattle.pipe_model.specs.Pipelines.Pipeline.{Pipeline}
 use Rattle.pipe_model.specs.Races.DeterminacyRaces.{Among, Here}
 use Rattle.pipe_model.specs.Runs.Run.{Run, EmptyRun, RunThen}
 use Rattle.pipe_model.specs.Pipelines.SerialElision.{located, located_from}
-use Rattle.pipe_model.specs.Runs.State.{Frame, frame_at, State, update_frame, next_state, current_index, with_action, Running, fresh_frame}
-use Rattle.pipe_model.specs.Runs.State.{Pending, enter_pending, Completed, accesses_of}
+use Rattle.pipe_model.specs.declared.status.Status.TheVariants.{Running}
+use Rattle.pipe_model.specs.Runs.State.{Frame, frame_at, State, update_frame, next_state, current_index, with_action, fresh_frame}
+use Rattle.pipe_model.specs.declared.status.Status.TheVariants.{Pending, Completed}
+use Rattle.pipe_model.specs.Runs.State.{enter_pending, accesses_of}
 use Rattle.pipe_model.specs.declared.access.Access.{Access as Cell_access}
 use Rattle.pipe_model.specs.declared.access.NodeAccess.{NodeAccess}
 use Rattle.pipe_model.specs.declared.event.Event.{Event}

@@ -5,7 +5,8 @@ use Rattle.std.proofs.lemmas.Int.{ints}
 use Rattle.pipe_model.specs.Runs.Allowed.{HasPassed, ContinuesLoop}
 use Rattle.pipe_model.specs.Races.Columns.{nodes_at, node_at}
 use Rattle.pipe_model.specs.Races.Dag.{Edge, DownEdge, AcrossEdge, HeadCross, WaitCross, Precedes, ByEdge, ByPath, AreParallel}
-use Rattle.pipe_model.specs.Runs.State.{Frame, frame_at, Running}
+use Rattle.pipe_model.specs.declared.status.Status.TheVariants.{Running}
+use Rattle.pipe_model.specs.Runs.State.{Frame, frame_at}
 use Rattle.pipe_model.specs.declared.node.Kind.TheVariants.{Wait}
 use Rattle.pipe_model.specs.declared.node.Node.{Node}
 use Rattle.pipe_model.specs.declared.node.NodeId.{NodeId}

@@ -1,0 +1,45 @@
+//! Log entries with tickets. A ticket is a point in the order of all entries: of two entries where one happened
+//! before the other, the later has the greater ticket.
+
+use crate::access::Access;
+use crate::event::Event;
+use crate::list::ListOf;
+use crate::node::NodeId;
+
+/// An access in the trace of the instance that made it.
+#[derive(Clone, Copy, PartialEq, Eq, Debug)]
+pub struct Entry {
+    /// When the access was made.
+    pub ticket: u64,
+    /// The access.
+    pub access: Access,
+}
+
+/// An access in the log of a shard. A shard has the cells whose number has the same remainder modulo the number of shards.
+#[derive(Clone, Copy, PartialEq, Eq, Debug)]
+pub struct ShardEntry {
+    /// When the access was made.
+    pub ticket: u64,
+    /// The instance that made it.
+    pub node: NodeId,
+    /// The access.
+    pub access: Access,
+}
+
+/// An event other than an access, in the log of the scheduler's book.
+#[derive(Clone, Copy, PartialEq, Eq, Debug)]
+pub struct BookEntry {
+    /// When the event happened.
+    pub ticket: u64,
+    /// The event.
+    pub event: Event,
+}
+
+/// The accesses of one instance, in order.
+pub type Trace = ListOf<Entry>;
+
+/// The accesses to the cells of one shard, in order.
+pub type ShardLog = ListOf<ShardEntry>;
+
+/// The events that are not accesses, in order.
+pub type BookLog = ListOf<BookEntry>;
