@@ -6,3 +6,4 @@ pub mod TwoOrders
 pub mod AccessHistory
 pub mod HistoryRaces
 pub mod HistoryReports
+pub mod HistoryStates

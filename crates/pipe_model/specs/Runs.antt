@@ -6,3 +6,9 @@ pub mod Throttling
 pub mod RunLogs
 pub mod ControlRun
 pub mod TicketLogs
+pub mod WholeProgramRuns
+pub mod NextEvents
+pub mod Schedules
+pub mod ControlParts
+pub mod TicketOrder
+pub mod StageCounters

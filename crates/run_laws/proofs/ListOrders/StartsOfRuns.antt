@@ -150,7 +150,7 @@ sound_action fs i f x w starts is moves h = rw append-nil (record {
 })
 
 -- every event keeps frames and starts sound
-sound_step : (limit : ℕ) (s : State) (e : Event) (starts : List NodeId) → ControlAllows limit s e
+pub sound_step : (limit : ℕ) (s : State) (e : Event) (starts : List NodeId) → ControlAllows limit s e
     → IsStartSound s.frames starts → IsStartSound (next_state s e).frames (starts ++ started_by s e)
 sound_step limit s (Begin i) starts may h = (grew_begin limit s i starts may h).sound
 sound_step limit s (Enter i) starts may h = (grew_enter s i starts may h).sound

@@ -23,14 +23,14 @@ use Rattle.run_laws.proofs.RunStates.RunInvariant.{IsConsistent, run_consistent}
 use Rattle.run_laws.specs.RunLaws.{RunsNeverStick}
 
 -- what is left to do of an iteration is legal
-abbrev LegalNow : Status → List Node → Behaviour → Type 0
+abbrev pub LegalNow : Status → List Node → Behaviour → Type 0
 LegalNow Running nodes d =
     (first : Bool) × (first ≡ true → length nodes ≡ 1) × HasLegalStages first (last_node nodes).number d
 LegalNow (Pending k n) nodes d = HasLegalStages false n d
 LegalNow (Completed e) nodes d = Unit {0}
 
 -- what is left to do of every iteration is legal
-abbrev AllLegal : Pipeline → List Frame → Type 0
+abbrev pub AllLegal : Pipeline → List Frame → Type 0
 AllLegal p fs =
     (i : ℕ) (f : Frame) → frame_at fs i ≡ Some f
     → LegalNow f.status f.nodes (behaviour_after_all (p.behaviour i) f.trace)
@@ -105,7 +105,7 @@ legal_after p limit s (Finish i e) proper h all =
 legal_after p limit s Stop proper h all = all
 
 -- in every run what is left to do is legal
-run_legal : {p : Pipeline} {limit : ℕ} {events : List Event} {s : State} → IsWellFormed p → Run p limit events s
+pub run_legal : {p : Pipeline} {limit : ℕ} {events : List Event} {s : State} → IsWellFormed p → Run p limit events s
     → AllLegal p s.frames
 run_legal proper EmptyRun = λ i f e. absurd (cc)
 run_legal {p} {limit} proper (RunThen {s = t} r e h) = legal_after p limit t e proper h (run_legal proper r)
