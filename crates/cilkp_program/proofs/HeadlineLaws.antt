@@ -65,6 +65,7 @@ none_are_right : (tree : SyntaxTree) → ElisionHasNoRace tree → AreRight (eli
 none_are_right tree free = record {
   name = λ r among. absurd (none_among r among);
   all = λ a b race. absurd (free a b race);
+  rise = λ i j d l w. absurd (omega (arith, w));
 }
 
 -- what a program comes to, by its log

@@ -104,6 +104,7 @@ pub first_races_are_right : (columns : List (List Node)) (accesses : List NodeAc
 first_races_are_right columns accesses reports h = record {
   name = λ r among. report_names_race columns accesses r (h.each r among);
   all = λ a b race. (let r = race_has_report columns accesses reports a b h race in (r.0, r.1, ap cell_id r.2));
+  rise = h.rise;
 }
 
 -- there is no report exactly where there is no race

@@ -16,3 +16,4 @@ pub mod MarkPlaces
 pub mod CheckingRules
 pub mod SourceRefusals
 pub mod FirstForm
+pub mod ProgramsOfTrees

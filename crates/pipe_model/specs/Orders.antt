@@ -7,3 +7,4 @@ pub mod AccessHistory
 pub mod HistoryRaces
 pub mod HistoryReports
 pub mod OrderMarks
+pub mod HistoryStates

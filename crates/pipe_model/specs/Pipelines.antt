@@ -4,3 +4,4 @@ pub mod Pipeline
 pub mod Store
 pub mod SerialElision
 pub mod ElisionResults
+pub mod WholePrograms

@@ -8,3 +8,8 @@ pub mod ControlRun
 pub mod TicketLogs
 pub mod StageCounters
 pub mod StageEnds
+pub mod WholeProgramRuns
+pub mod NextEvents
+pub mod Schedules
+pub mod ControlParts
+pub mod TicketOrder

@@ -107,18 +107,19 @@ rest_after p n m i t before after false e closed open' same = rw (e, open' refl,
 
 -- one iteration more
 pub elided_more : (p : Pipeline) (n m i : ℕ) (columns : List Column) (trap : Option TrapAt) (before : List NodeAccess) (e : ColumnEnd) (k : ElisionState)
-    → AreElided p (suc n) i columns trap before → IsIteration i before (serial_trace p.store (p.behaviour i) (accesses_of before)) e k
+    → AreElided p (suc n) i columns trap before → IsIteration i before (serial_trace p.store (p.behaviour i) (p.preamble ++ accesses_of before)) e k
     → (is_last k.nodes e ≡ true → m ≡ zero) → (is_last k.nodes e ≡ false → m ≡ n)
     → AreElided p m (i + 1) (columns ++ record { nodes = k.nodes; end = Some e } ∷ []) (first_of_both trap (trap_in i k.nodes e)) k.accesses
 elided_more p n m i columns trap before e k h one closed open' =
-    let t : List Action = serial_trace p.store (p.behaviour i) (accesses_of before) in
+    let base : List Access = p.preamble ++ accesses_of before in
+    let t : List Action = serial_trace p.store (p.behaviour i) base in
     let c : Column = record { nodes = k.nodes; end = Some e } in
-    let rest : List (List Action) = unless (closes_loop t) (serial_traces_from p n (i + 1) (accesses_of before ++ accesses_in t)) in
-    let accesses : accesses_of k.accesses ≡ accesses_of before ++ accesses_in t =
-    ap accesses_of one.accesses ∙ map-append (λ (a : NodeAccess). a.access) before (located i 0 t)
-    ∙ ap (λ l. accesses_of before ++ l) (accesses_of-located i 0 t) in
-    let left : serial_traces_from p m (i + 1) (accesses_of k.accesses) ≡ rest =
-    rest_after p n m i t (accesses_of before) (accesses_of k.accesses) (is_last k.nodes e) (sym one.closes) closed open' accesses in
+    let rest : List (List Action) = unless (closes_loop t) (serial_traces_from p n (i + 1) (base ++ accesses_in t)) in
+    let accesses : p.preamble ++ accesses_of k.accesses ≡ base ++ accesses_in t =
+    ap (λ l. p.preamble ++ l) (ap accesses_of one.accesses ∙ map-append (λ (a : NodeAccess). a.access) before (located i 0 t)
+    ∙ ap (λ l. accesses_of before ++ l) (accesses_of-located i 0 t)) ∙ sym (append_assoc p.preamble (accesses_of before) (accesses_in t)) in
+    let left : serial_traces_from p m (i + 1) (p.preamble ++ accesses_of k.accesses) ≡ rest =
+    rest_after p n m i t base (p.preamble ++ accesses_of k.accesses) (is_last k.nodes e) (sym one.closes) closed open' accesses in
     let column : c ≡ ended_column t = cc (one.nodes, one.ended) in
     record {
       all_columns = ap (λ r. (columns ++ c ∷ []) ++ map ended_column r) left ∙ append_assoc columns (c ∷ []) (map ended_column rest)
@@ -140,7 +141,7 @@ or_is_first (Some t) b = refl
 -- one iteration more, as the loop keeps it
 pub elided_push : (p : Pipeline) (n m i : ℕ) (columns pushed : List Column) (trap now : Option TrapAt) (before : List NodeAccess) (e : ColumnEnd) (k : ElisionState)
     (nodes : List Node)
-    → AreElided p (suc n) i columns trap before → IsIteration i before (serial_trace p.store (p.behaviour i) (accesses_of before)) e k
+    → AreElided p (suc n) i columns trap before → IsIteration i before (serial_trace p.store (p.behaviour i) (p.preamble ++ accesses_of before)) e k
     → (is_last k.nodes e ≡ true → m ≡ zero) → (is_last k.nodes e ≡ false → m ≡ n)
     → nodes ≡ k.nodes → pushed ≡ columns ++ record { nodes = nodes; end = Some e } ∷ [] → now ≡ option_or trap (trap_in k.iteration k.nodes e)
     → AreElided p m (i + 1) pushed now k.accesses

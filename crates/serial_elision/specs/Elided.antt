@@ -33,6 +33,6 @@ is_last nodes e = closes_at_once e && (length nodes == 1)
 
 -- with the iterations from i on, at most so many, these are the columns, the trap and the accesses of the serial elision
 pub record AreElided (p : Pipeline) (most i : ℕ) (columns : List Column) (trap : Option TrapAt) (accesses : List NodeAccess) : Type 0 where
-  pub all_columns : columns ++ map ended_column (serial_traces_from p most i (accesses_of accesses)) ≡ serial_ended_columns p
-  pub least_trap : first_of_both trap (first_trap i (serial_traces_from p most i (accesses_of accesses))) ≡ serial_trap p
-  pub all_accesses : accesses ++ located_from i (serial_traces_from p most i (accesses_of accesses)) ≡ serial_accesses p
+  pub all_columns : columns ++ map ended_column (serial_traces_from p most i (p.preamble ++ accesses_of accesses)) ≡ serial_ended_columns p
+  pub least_trap : first_of_both trap (first_trap i (serial_traces_from p most i (p.preamble ++ accesses_of accesses))) ≡ serial_trap p
+  pub all_accesses : accesses ++ located_from i (serial_traces_from p most i (p.preamble ++ accesses_of accesses)) ≡ serial_accesses p

@@ -1,4 +1,4 @@
--- The pipeline that a program is, from its tree and its input.
+-- The loop of a program as a pipeline, from its tree and its input.
 use Rattle.std.specs.Prelude.{ℕ, ℤ, pos, negsuc, List, [], ◌∷◌, ◌++◌, Option, Some, None, ◌+◌, ◌*◌, if◌then◌else◌, replicate}
 use Rattle.std.specs.Str.{bytes_eq}
 use Rattle.pipe_model.specs.declared.tree.Declaration.{Declaration}
@@ -49,7 +49,8 @@ store_of tree = record {
   output_limit = natural tree.limits.emits;
 }
 
--- the pipeline of a program without `init`: each instance has its budget of steps, and the iteration after the last that is allowed closes the loop
+-- the loop of a program alone, without `init` and `final` (`whole_of` has all three): each instance has its budget of steps, and the iteration
+-- after the last that is allowed closes the loop
 abbrev pub pipeline_of : SyntaxTree → List ℤ → Pipeline
 pipeline_of tree input = record {
   store = store_of tree;

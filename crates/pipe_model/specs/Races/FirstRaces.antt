@@ -1,10 +1,10 @@
 -- The first race of each cell: the first access that races with an earlier one, and the first that it races with.
-use Rattle.std.specs.Prelude.{◌≡◌, ℕ, List, ◌<◌, AllPairs}
+use Rattle.std.specs.Prelude.{◌≡◌, ℕ, List, ◌<◌}
 use Rattle.pipe_model.specs.declared.access.NodeAccess.{NodeAccess}
 use Rattle.pipe_model.specs.declared.node.Node.{Node}
 use Rattle.pipe_model.specs.declared.report.Report.{Report}
 use Rattle.pipe_model.specs.Races.CellRaces.{NotedAccess, access_at, accesses_to, RacesAt}
-use Rattle.pipe_model.specs.Races.Reports.{report_of}
+use Rattle.pipe_model.specs.Races.Reports.{RiseByCell, report_of}
 use Rattle.pipe_model.specs.Races.DeterminacyRaces.{Among}
 
 -- access `later` races with none before access `earlier`
@@ -40,6 +40,6 @@ HasReport reports cell = (r : Report) × Among r reports × (r.cell.0 ≡ cell)
 -- each report tells the first race of its cell, the cells rise, and each cell with a race has a report
 pub record AreFirstRaces (columns : List (List Node)) (accesses : List NodeAccess) (reports : List Report) : Type 0 where
   pub each : (r : Report) → Among r reports → ReportsFirstRaceOfCell columns accesses r
-  pub rise : AllPairs (λ (a : Report) (b : Report). a.cell.0 < b.cell.0) reports
+  pub rise : RiseByCell reports
   pub all : (cell later earlier : ℕ) → RacesAt columns (accesses_to cell accesses) later earlier
       → HasReport reports cell

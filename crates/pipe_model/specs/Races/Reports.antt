@@ -1,5 +1,5 @@
 -- Reports of races: what a report says, and when the reports of a run are right, told by its columns and its accesses.
-use Rattle.std.specs.Prelude.{◌≡◌, ℕ, ℤ, List, ◌∷◌, ◌++◌}
+use Rattle.std.specs.Prelude.{◌≡◌, ◌<◌, ℕ, ℤ, List, ◌∷◌, ◌++◌, AllPairs}
 use Rattle.pipe_model.specs.declared.access.NodeAccess.{NodeAccess}
 use Rattle.pipe_model.specs.declared.node.Node.{Node}
 use Rattle.pipe_model.specs.declared.node.NodeId.{NodeId}
@@ -28,10 +28,15 @@ pub record NamesRace (columns : List (List Node)) (accesses : List NodeAccess) (
   pub kinds : (r.earlier_kind ≡ earlier.access.kind) × (r.later_kind ≡ later.access.kind)
   pub numbers : (r.earlier_number ≡ number_at columns earlier.node) × (r.later_number ≡ number_at columns later.node)
 
--- the reports are right: each names a race, and the cell of each race has a report
+-- the cells of the reports rise strictly, so a cell has at most one report
+abbrev pub RiseByCell : List Report → Type 0
+RiseByCell reports = AllPairs (λ (a : Report) (b : Report). a.cell.0 < b.cell.0) reports
+
+-- the reports are right: each names a race, the cell of each race has a report, and the reports rise by cell
 pub record AreRight (columns : List (List Node)) (accesses : List NodeAccess) (reports : List Report) : Type 0 where
   pub name : (r : Report) → Among r reports → NamesRace columns accesses r
   pub all : (a b : NodeAccess) → IsDeterminacyRace columns accesses a b → (r : Report) × Among r reports × (r.cell ≡ a.access.cell)
+  pub rise : RiseByCell reports
 
 -- the report of two accesses to a cell
 abbrev pub report_of : List (List Node) → ℕ → NotedAccess → NotedAccess → Report

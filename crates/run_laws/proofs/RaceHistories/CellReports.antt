@@ -1,7 +1,8 @@
 -- The reports of the first races of all cells are right.
-use Rattle.std.proofs.Common.{ℕ, List, ◌++◌, ◌≡◌, ◌<◌, zero, refl, suc, arith, ap, ◌∙◌, sym}
+use Rattle.std.proofs.Common.{ℕ, List, ◌++◌, ◌≡◌, ◌<◌, zero, refl, suc, arith, ap, ◌∙◌, sym, append-nil, get_or}
 use Rattle.std.proofs.Common.{subst, inl, inr}
 use Rattle.std.proofs.lemmas.Bool.{cases_eq}
+use Rattle.std.proofs.lemmas.List.Quantifiers.{all_pairs_push}
 use Rattle.std.specs.declared.option.Option.{Option}
 use Rattle.std.specs.declared.option.Option.TheVariants.{None, Some}
 use Rattle.pipe_model.specs.Orders.AccessHistory.{FoundRace}
@@ -10,14 +11,16 @@ use Rattle.pipe_model.specs.Races.Dag.{AreParallel}
 use Rattle.pipe_model.specs.Orders.HistoryRaces.{IsEarliestRace, IsRightVerdict, found_race_of_cell}
 use Rattle.pipe_model.specs.Orders.HistoryReports.{report_found, reports_below}
 use Rattle.pipe_model.specs.Races.DeterminacyRaces.{Among, Here, Later}
-use Rattle.pipe_model.specs.Races.Reports.{NamesRace, number_at, report_of}
+use Rattle.pipe_model.specs.Races.Reports.{NamesRace, RiseByCell, number_at, report_of}
 use Rattle.pipe_model.specs.Orders.Starts.{starts_of}
 use Rattle.pipe_model.specs.Runs.State.{State, own_columns}
+use Rattle.pipe_model.specs.declared.access.NodeAccess.{NodeAccess}
+use Rattle.pipe_model.specs.declared.node.Node.{Node}
 use Rattle.pipe_model.specs.declared.node.NodeId.{NodeId}
 use Rattle.pipe_model.specs.declared.report.Report.{Report}
 use Rattle.pipe_model.proofs.RacesByCell.{HasRacesAt, race_at}
 use Rattle.run_laws.proofs.RaceHistories.RunHistories.{histories_find_the_first_race}
-use Rattle.pipe_model.proofs.Members.{among_either, among_right, among_left}
+use Rattle.pipe_model.proofs.Members.{among_at, among_either, among_left, among_right, none_among, only_one}
 use Rattle.run_laws.specs.HistoryLaws.{ReportsAreRight}
 use Rattle.pipe_model.proofs.CellAccesses.{noted_of, cell_id, two_places}
 
@@ -124,6 +127,38 @@ race_is_reported_below s starts c (suc cells) l h = elim (cases_eq c cells) [
       })
 ]
 
+-- the reports of the cells below a number are of such cells
+reports_below_cell : (columns : List (List Node)) (starts : List NodeId) (accesses : List NodeAccess) (cells : ℕ) (r : Report)
+    → Among r (reports_below columns starts accesses cells) → r.cell.0 < cells
+reports_below_cell columns starts accesses zero r m = absurd (none_among r m)
+reports_below_cell columns starts accesses (suc c) r m =
+    elim (among_either r (reports_below columns starts accesses c) (report_found columns c (accesses_to c accesses) (found_race_of_cell columns starts accesses c)) m) [
+      | inl old ↦ (let l = reports_below_cell columns starts accesses c r old in omega (arith, l))
+      | inr new ↦ of_cell (found_race_of_cell columns starts accesses c) new
+    ]
+  where
+    of_cell : (v : Option FoundRace) → Among r (report_found columns c (accesses_to c accesses) v) → r.cell.0 < suc c
+    of_cell None m = absurd (none_among r m)
+    of_cell (Some race) m =
+        let e = ap (λ (x : Report). x.cell.0) (only_one r (report_of columns c race.earlier (access_at (accesses_to c accesses) race.number)) m) in
+        omega (arith, e)
+
+-- one more cell, above all others
+rise_with : (columns : List (List Node)) (c : ℕ) (noted : List NotedAccess) (v : Option FoundRace) (reports : List Report)
+    → RiseByCell reports → ((r : Report) → Among r reports → r.cell.0 < c) → RiseByCell (reports ++ report_found columns c noted v)
+rise_with columns c noted None reports rise below = rw append-nil rise
+rise_with columns c noted (Some race) reports rise below =
+    all_pairs_push (λ (a : Report) (b : Report). a.cell.0 < b.cell.0) reports (report_of columns c race.earlier (access_at noted race.number)) rise
+    (λ k d w. below (get_or reports k d) (among_at reports k d w))
+
+-- the reports of all cells rise by cell
+reports_rise : (columns : List (List Node)) (starts : List NodeId) (accesses : List NodeAccess) (cells : ℕ)
+    → RiseByCell (reports_below columns starts accesses cells)
+reports_rise columns starts accesses zero = λ i j d l w. absurd (omega (arith, w))
+reports_rise columns starts accesses (suc c) =
+    rise_with columns c (accesses_to c accesses) (found_race_of_cell columns starts accesses c) (reports_below columns starts accesses c)
+    (reports_rise columns starts accesses c) (λ r m. reports_below_cell columns starts accesses c r m)
+
 -- the law of reports
 pub reports_are_right : ReportsAreRight
 reports_are_right p limit events s cells r within =
@@ -138,4 +173,5 @@ reports_are_right p limit events s cells r within =
           (race_is_reported s c (found_race_of_cell (own_columns s) (starts_of events) s.accesses c) (right c)
           (race_at (own_columns s) s.accesses a b c refl race)) in
           (h.report, h.among, h.of_cell));
+      rise = reports_rise (own_columns s) (starts_of events) s.accesses cells;
     }

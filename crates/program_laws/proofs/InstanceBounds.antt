@@ -1,0 +1,172 @@
+-- How many instances a run has, also one that was stopped.
+use Rattle.std.proofs.Common.{◌≡◌, ◌∙◌, sym, ap, subst, refl, ℕ, zero, suc, List, [], ◌∷◌, ◌++◌, inl, inr, ◌≤◌, ◌+◌, ◌*◌, length, map, Some, arith, mul-le-mul_right}
+use Rattle.std.proofs.Math.Nat.{suc-mul}
+use Rattle.std.proofs.lemmas.Bool.{cases_lt, eq-eqb}
+use Rattle.std.proofs.lemmas.List.{length-append, length_push}
+use Rattle.pipe_model.specs.declared.event.Event.{Event}
+use Rattle.pipe_model.specs.declared.event.Event.TheVariants.{Begin, Access, Advance, Enter, Finish, Stop}
+use Rattle.pipe_model.specs.declared.node.Node.{Node}
+use Rattle.pipe_model.specs.Runs.Allowed.{Allowed}
+use Rattle.pipe_model.specs.Pipelines.Behaviour.{Behaviour, Reading, Writing, Staging, Ending, Action, Accessed, Staged, Ended, Performs, nodes_in, node_of}
+use Rattle.pipe_model.specs.Pipelines.Pipeline.{AlwaysClosesLoop, HasBoundedWork, Pipeline}
+use Rattle.pipe_model.specs.Language.Programs.{natural, pipeline_of}
+use Rattle.pipe_model.specs.Runs.Run.{Run, EmptyRun, RunThen}
+use Rattle.pipe_model.specs.Orders.Starts.{started_by, starts_of}
+use Rattle.pipe_model.specs.Runs.State.{Frame, State, enter_pending, frame_at, fresh_frame, next_state, own_columns, update_frame, with_action}
+use Rattle.pipe_model.specs.declared.status.Status.TheVariants.{Running, Pending, Completed}
+use Rattle.language_laws.proofs.WellFormed.{accepted_is_well_formed}
+use Rattle.run_laws.specs.RunLaws.{sum_below}
+use Rattle.run_laws.proofs.ListOrders.StartsOfRuns.{starts_of_then}
+use Rattle.run_laws.proofs.RunStates.FrameMoves.{enter_pending_is}
+use Rattle.run_laws.proofs.RunStates.Frames.{frame_at_exists}
+use Rattle.run_laws.proofs.RunStates.FrameTraces.{IsTraced, pending_node, run_traced}
+use Rattle.run_laws.proofs.RunStates.LastIteration.{run_stays, stays_or_continues}
+use Rattle.run_laws.proofs.RunStates.RunInvariant.{run_consistent}
+use Rattle.pipe_model.specs.Language.ProgramsOfTrees.{pipeline_after_init}
+use Rattle.program_laws.specs.WorkBounds.{StartsAreCounted, ProgramInstancesAreBounded, instances_in}
+use Rattle.program_laws.proofs.BoundedWork.{further, further_bounded, further_within, programs_have_bounded_work, stages_from_one}
+
+-- ---- counting the starts
+
+columns_in : List Frame → List (List Node)
+columns_in fs = map (λ f. f.nodes) fs
+
+instances_in-push : (cs : List (List Node)) (c : List Node) → instances_in (cs ++ c ∷ []) ≡ instances_in cs + length c
+instances_in-push [] c = omega arith
+instances_in-push (x ∷ cs) c = let h = instances_in-push cs c in omega (arith, h)
+
+instances_updated : (fs : List Frame) (i : ℕ) (f : Frame) (u : Frame → Frame) → frame_at fs i ≡ Some f
+    → instances_in (map (λ g. g.nodes) (update_frame fs i u)) + length f.nodes ≡ instances_in (map (λ g. g.nodes) fs) + length (u f).nodes
+instances_updated [] i f u e = absurd (cc)
+instances_updated (x ∷ fs) zero f u e = let same : x ≡ f = cc in rw same (omega arith)
+instances_updated (x ∷ fs) (suc i) f u e = let h = instances_updated fs i f u e in omega (arith, h)
+
+instances_begun : (fs : List Frame) → instances_in (map (λ g. g.nodes) (fs ++ fresh_frame ∷ [])) ≡ instances_in (map (λ g. g.nodes) fs) + 1
+instances_begun [] = refl
+instances_begun (x ∷ fs) = let h = instances_begun fs in omega (arith, h)
+
+-- an event starts as many instances as the columns grow by
+counted_after : (p : Pipeline) (limit : ℕ) (s : State) (e : Event) → Allowed p limit s e
+    → instances_in (own_columns (next_state s e)) ≡ instances_in (own_columns s) + length (started_by s e)
+counted_after p limit s (Begin i) h = instances_begun s.frames
+counted_after p limit s (Access i a) h =
+    let r = h.control in
+    let m = instances_updated s.frames i r.frame (with_action (Accessed a) Running) r.is in
+    omega (arith, m)
+counted_after p limit s (Advance i k n) h =
+    let r = h.control.running in
+    let m = instances_updated s.frames i r.frame (with_action (Staged k n) (Pending k n)) r.is in
+    omega (arith, m)
+counted_after p limit s (Enter i) h =
+    let c = h.control in
+    let m = instances_updated s.frames i c.frame (λ f. enter_pending f.status f) c.is in
+    let one : length (enter_pending c.frame.status c.frame).nodes ≡ length c.frame.nodes + 1 =
+    ap (λ (g : Frame). length g.nodes) (enter_pending_is c.frame c.kind c.number c.named) ∙ length_push c.frame.nodes (node_of c.kind c.number) in
+    omega (arith, m, one)
+counted_after p limit s (Finish i e) h =
+    let r = h.control.running in
+    let m = instances_updated s.frames i r.frame (with_action (Ended e) (Completed e)) r.is in
+    omega (arith, m)
+counted_after p limit s Stop h = omega arith
+
+pub starts_are_counted : StartsAreCounted
+starts_are_counted p limit events s EmptyRun = refl
+starts_are_counted p limit events s (RunThen {events = es} {s = t} r e h) =
+    let before = starts_are_counted p limit es t r in
+    let all = ap (λ l. length l) (starts_of_then r e) ∙ length-append (starts_of es) (started_by t e) in
+    let now = counted_after p limit t e h in
+    omega (arith, before, all, now)
+
+-- ---- how many an iteration has
+
+-- what is performed names at most so many stages
+names_few : (each left more : ℕ) (d : Behaviour) (xs : List Action) → Performs d xs → HasBoundedWork each left more d → length (nodes_in xs) ≤ more
+names_few each left more d [] p b = omega arith
+names_few each left more (Reading c go) (Accessed a ∷ xs) p b = names_few each b.0 more (go a.value) xs p.1 (b.2 a.value)
+names_few each left more (Reading c go) (Staged k n ∷ xs) p b = absurd (let o = p.0 in let q = o.1 in cc)
+names_few each left more (Reading c go) (Ended e ∷ xs) p b = absurd (let o = p.0 in let q = o.1 in cc)
+names_few each left more (Writing c v d) (Accessed a ∷ xs) p b = names_few each b.0 more d xs p.1 b.2
+names_few each left more (Writing c v d) (Staged k n ∷ xs) p b = absurd (let o = p.0 in cc)
+names_few each left more (Writing c v d) (Ended e ∷ xs) p b = absurd (let o = p.0 in cc)
+names_few each left more (Staging k n d) (Accessed a ∷ xs) p b = absurd (let o = p.0 in cc)
+names_few each left more (Staging k n d) (Staged j m ∷ xs) p b =
+    let h = names_few each each b.0 d xs p.1 b.2 in
+    let q = b.1 in
+    omega (arith, h, q)
+names_few each left more (Staging k n d) (Ended e ∷ xs) p b = absurd (let o = p.0 in cc)
+names_few each left more (Ending e) (Accessed a ∷ xs) p b = absurd (let o = p.0 in cc)
+names_few each left more (Ending e) (Staged k n ∷ xs) p b = absurd (let o = p.0 in cc)
+names_few each left more (Ending e) (Ended f ∷ xs) p b = names_few each left more (Ending e) xs p.1 b
+
+-- so an iteration has at most one instance more
+frame_is_small : (p : Pipeline) (each more i : ℕ) (f : Frame) → IsTraced p i f → HasBoundedWork each each more (p.behaviour i) → length f.nodes ≤ more + 1
+frame_is_small p each more i f t b =
+    let few = names_few each each more (p.behaviour i) f.trace t.performs b in
+    let all : suc (length (nodes_in f.trace)) ≡ length f.nodes + length (pending_node f.status) =
+    ap (λ (l : List Node). length l) t.nodes ∙ length-append f.nodes (pending_node f.status) in
+    omega (arith, few, all)
+
+-- ---- in all
+
+sum_from_front : (f : ℕ → ℕ) (n : ℕ) → sum_below f (suc n) ≡ f 0 + sum_below (λ i. f (suc i)) n
+sum_from_front f zero = omega arith
+sum_from_front f (suc n) = let h = sum_from_front f n in omega (arith, h)
+
+instances_below : (fs : List Frame) (f : ℕ → ℕ) → ((i : ℕ) (g : Frame) → frame_at fs i ≡ Some g → length g.nodes ≤ f i)
+    → instances_in (map (λ g. g.nodes) fs) ≤ sum_below f (length fs)
+instances_below [] f h = omega arith
+instances_below (x ∷ fs) f h =
+    let one = h 0 x refl in
+    let rest = instances_below fs (λ i. f (suc i)) (λ i g e. h (suc i) g e) in
+    let all = sum_from_front f (length fs) in
+    omega (arith, one, rest, all)
+
+count_before : (last stages n : ℕ) → 1 ≤ stages → sum_below (λ i. further last stages i + 1) n ≤ n * stages
+count_before last stages zero one = omega arith
+count_before last stages (suc n) one =
+    let rest = count_before last stages n one in
+    let this = further_within last stages n one in
+    let m = suc-mul n stages in
+    omega (arith, rest, this, m)
+
+count_all : (last stages n : ℕ) → 1 ≤ stages → n ≤ last + 1 → sum_below (λ i. further last stages i + 1) n ≤ last * stages + 1
+count_all last stages n one le = elim (cases_lt last n) [
+  | inl over ↦ (
+      let all : n ≡ suc last = omega (arith, over, le) in
+      let rest = count_before last stages last one in
+      let this : further last stages last + 1 ≡ 1 = rw (eq-eqb last last refl) (omega arith) in
+      rw all (omega (arith, rest, this)))
+  | inr under ↦ (
+      let rest = count_before last stages n one in
+      let small : n * stages ≤ last * stages = mul-le-mul_right {m = n} {n = last} stages under in
+      omega (arith, rest, small))
+]
+
+-- no iteration comes after the one that always closes the loop
+within_last : (p : Pipeline) (limit : ℕ) (events : List Event) (s : State) → Run p limit events s → AlwaysClosesLoop (p.behaviour p.last_iteration)
+    → length s.frames ≤ p.last_iteration + 1
+within_last p limit events s r closing = elim (cases_lt (p.last_iteration + 1) (length s.frames)) [
+  | inl more ↦ (
+      let f = frame_at_exists s.frames p.last_iteration (omega (arith, more)) in
+      absurd (stays_or_continues f.0.status f.0.nodes _ (run_stays closing r f.0 f.1)
+      ((run_consistent r).sound.goes p.last_iteration f.0 f.1 more)))
+  | inr ok ↦ ok
+]
+
+pub program_instances_are_bounded : ProgramInstancesAreBounded
+program_instances_are_bounded source tree input limit events s a r =
+    let p = pipeline_after_init tree input in
+    let budget = natural tree.limits.steps in
+    let stages = natural tree.limits.stages in
+    let last = natural tree.limits.iterations in
+    let well = accepted_is_well_formed source tree input a in
+    let one = stages_from_one tree a.obeys in
+    let traced = run_traced r in
+    let each : (i : ℕ) (f : Frame) → frame_at s.frames i ≡ Some f → length f.nodes ≤ further last stages i + 1 =
+    λ i f is. frame_is_small p (2 * budget) (further last stages i) i f (traced i f is)
+    (further_bounded last stages (2 * budget) i ((pipeline_of tree input).behaviour i)
+    (λ e. subst (λ n. AlwaysClosesLoop ((pipeline_of tree input).behaviour n)) (sym e) well.closes)
+    (programs_have_bounded_work tree input i)) in
+    let all = instances_below s.frames (λ i. further last stages i + 1) each in
+    let most = count_all last stages (length s.frames) one (within_last p limit events s r well.closes) in
+    omega (arith, all, most)

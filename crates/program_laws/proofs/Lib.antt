@@ -1,0 +1,14 @@
+pub mod AllowedEvents
+pub mod BookOrder
+pub mod BoundedWork
+pub mod Candidates
+pub mod ControlOutlines
+pub mod Headlines
+pub mod HistoryFolds
+pub mod InstanceBounds
+pub mod OneInstance
+pub mod PlayedSchedules
+pub mod ProgramElisions
+pub mod ProgramRuns
+pub mod SameTurns
+pub mod TicketPaths

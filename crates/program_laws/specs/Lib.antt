@@ -1,0 +1,9 @@
+pub mod ControlLaws
+pub mod HistoryStateLaws
+pub mod LoopTurns
+pub mod ProgramExamples
+pub mod ProgramHeadline
+pub mod ProgramRunLaws
+pub mod ScheduleLaws
+pub mod TicketOrderLaws
+pub mod WorkBounds

@@ -1,0 +1,53 @@
+-- The headline of a whole program, for a call that has made a finished run and has right reports of it.
+use Rattle.std.specs.Prelude.{◌≡◌, ◌≢◌, ◌↔◌, ◌++◌, ℕ, ℤ, List, [], ◌∷◌, Option, Some, None, map}
+use Rattle.pipe_model.specs.declared.event.RunLog.{RunLog}
+use Rattle.pipe_model.specs.declared.report.Report.{Report}
+use Rattle.pipe_model.specs.declared.trap.TrapAt.{TrapAt}
+use Rattle.pipe_model.specs.Pipelines.Behaviour.{column_of}
+use Rattle.pipe_model.specs.Races.DeterminacyRaces.{IsRaceFree}
+use Rattle.pipe_model.specs.Races.Reports.{AreRight}
+use Rattle.pipe_model.specs.Runs.RunLogs.{accesses_after, columns_after, state_after}
+use Rattle.pipe_model.specs.Language.SourceRefusals.{IsAccepted}
+use Rattle.pipe_model.specs.Language.SyntaxTree.{SyntaxTree}
+use Rattle.pipe_model.specs.Texts.{output_lines, trap_lines}
+use Rattle.pipe_model.specs.Runs.Throttling.{IsThrottled}
+use Rattle.pipe_model.specs.Language.ProgramsOfTrees.{whole_of}
+use Rattle.pipe_model.specs.Pipelines.WholePrograms.{WholeProgram, loop_accesses, loop_traces, program_output, program_trap}
+use Rattle.pipe_model.specs.Runs.WholeProgramRuns.{IsFinishedProgramRun, run_output, run_trap}
+
+-- the dag of the program's serial elision has no race
+abbrev pub HasNoProgramRace : WholeProgram → Type 0
+HasNoProgramRace w = IsRaceFree (map column_of (loop_traces w)) (loop_accesses w)
+
+-- the log, the reports, the status and the text of a call that has run the program under the throttling limit; `races` is the text of the reports
+pub record MeetsProgramHeadline (w : WholeProgram) (limit : ℕ) (log : RunLog) (reports : List Report) (races : List ℕ) (status : ℕ) (text : List ℕ) : Type 0 where
+  pub run : IsFinishedProgramRun w limit log
+  pub reported : AreRight (columns_after log.events) (accesses_after log.events) reports
+  pub silent : (reports ≡ []) ↔ HasNoProgramRace w
+  pub racy : (status ≡ 2) ↔ (HasNoProgramRace w → ⊥)
+  pub races_printed : status ≡ 2 → text ≡ races
+  pub otherwise : HasNoProgramRace w → text ≡ output_lines (program_output w) ++ trap_lines (program_trap w)
+  pub trapped : (status ≡ 3) ↔ (HasNoProgramRace w × (program_trap w ≢ None))
+  pub finished : (status ≡ 0) ↔ (HasNoProgramRace w × (program_trap w ≡ None))
+  pub throttled : IsThrottled limit log.events
+
+-- the exit status of a run with these reports and this trap
+abbrev pub exit_status : List Report → Option TrapAt → ℕ
+exit_status [] None = 0
+exit_status [] (Some t) = 3
+exit_status (r ∷ rs) trap = 2
+
+-- what the call prints
+abbrev pub printed_text : List Report → List ℕ → List ℤ → Option TrapAt → List ℕ
+printed_text [] races output trap = output_lines output ++ trap_lines trap
+printed_text (r ∷ rs) races output trap = races
+
+-- a call that has made a finished run of an accepted program, and prints right reports of it, or else the run's own output and trap, meets the headline
+abbrev pub RunsMeetTheHeadline : Type 0
+RunsMeetTheHeadline =
+    (source : List ℕ) (tree : SyntaxTree) (input : List ℤ) (limit : ℕ) (log : RunLog) (reports : List Report) (races : List ℕ) → IsAccepted source tree
+    → IsFinishedProgramRun (whole_of tree input) limit log
+    → AreRight (columns_after log.events) (accesses_after log.events) reports
+    → MeetsProgramHeadline (whole_of tree input) limit log reports races
+    (exit_status reports (run_trap (whole_of tree input) (state_after log.events)))
+    (printed_text reports races (run_output (whole_of tree input) (state_after log.events)) (run_trap (whole_of tree input) (state_after log.events)))
