@@ -9,7 +9,7 @@ use Rattle.pipe_model.specs.declared.symbol.Symbol.TheVariants as symbols
 use Rattle.grammar_laws.proofs.CanonicalSymbols.{one_place_symbol, symbols_at_level, two_place_symbols, expression_symbols}
 use Rattle.pipe_model.specs.Language.CanonicalText.{level_in}
 use Rattle.pipe_model.specs.Language.SyntaxTree.{Expression, Number, Name, Element, And, Or, Binary, Unary, More, Take, Iter, binary_expression}
-use Rattle.pipe_model.specs.Language.Grammar.{level_of, rank_of, Derives, Numeral, Named, Indexed, CallsMore, CallsTake, CallsIter, Negative, Not, Bracketed, Tighter, Joined}
+use Rattle.pipe_model.specs.Language.Grammar.{any_expression, operand_level, level_of, Derives, Numeral, Named, Indexed, CallsMore, CallsTake, CallsIter, Negative, Not, Bracketed, Tighter, Joined}
 use Rattle.pipe_model.specs.Language.Spelling.{is_opening_bracket, is_closing_bracket, open_brackets, IsShallow}
 use Rattle.pipe_model.specs.Language.Words.{minus, exclamation, open_round, close_round, open_square, close_square}
 
@@ -227,10 +227,10 @@ pub record NoMore (us ts : List Symbol) : Type 0 where
   pub few : length us ≤ length ts
   pub deep : NoDeeper us ts
 
--- the canonical symbols of an expression, where a rank is needed, are no more than those that derive it
-pub record Least (rank : ℕ) (ts : List Symbol) (e : Expression) : Type 0 where
-  pub level : 1 ≤ level_in e
-  pub no_more : NoMore (symbols_at_level (7 - rank) (level_in e) (expression_symbols e)) ts
+-- the canonical symbols of an expression, where a level is needed, are no more than those that derive it
+pub record Least (level : ℕ) (ts : List Symbol) (e : Expression) : Type 0 where
+  pub own : 1 ≤ level_in e
+  pub no_more : NoMore (symbols_at_level level (level_in e) (expression_symbols e)) ts
 
 plain_more : {us ts : List Symbol} (t : Symbol) → IsUnjoined t → NoMore us ts → NoMore (t ∷ us) (t ∷ ts)
 plain_more t p m = record { few = (let f = m.few in omega (arith, f)); deep = plain_deep t t p p m.deep }
@@ -300,8 +300,8 @@ lower_more lower needed own us ts h l m = by_tests (nat_le lower own) (nat_le ne
     by_tests false false f k = k
 
 -- where each level will do
-in_full : (e : Expression) (ts : List Symbol) → Least 6 ts e → NoMore (expression_symbols e) ts
-in_full e ts r = subst (λ x. NoMore x ts) (at_its_level 1 (level_in e) (expression_symbols e) r.level) r.no_more
+in_full : (e : Expression) (ts : List Symbol) → Least any_expression ts e → NoMore (expression_symbols e) ts
+in_full e ts r = subst (λ x. NoMore x ts) (at_its_level 1 (level_in e) (expression_symbols e) r.own) r.no_more
 
 -- two sides joined by an operator
 pub record IsJoined (code : ℕ) (a b e : Expression) : Type 0 where
@@ -316,56 +316,55 @@ joined code a b = by_code (code == 1) (code == 2) (λ e. grind (arith, nat_tests
     by_code false true f g = (let e = g refl in rw e (record { level = refl; same = refl }))
     by_code false false f g = record { level = refl; same = refl }
 
-joined_least : (rank code : ℕ) (left right : List Symbol) (a b e : Expression) → rank_of code ≡ suc rank → suc rank ≤ 6 → IsJoined code a b e
-    → Least (suc rank) left a → Least rank right b → Least (suc rank) (left ++ symbols.Operator code ∷ right) e
-joined_least rank code left right a b e eq l j x y =
+joined_least : (level code : ℕ) (left right : List Symbol) (a b e : Expression) → level_of code ≡ level → 1 ≤ level → IsJoined code a b e
+    → Least level left a → Least (suc level) right b → Least level (left ++ symbols.Operator code ∷ right) e
+joined_least level code left right a b e eq l j x y =
     let own = j.level in
-    let one : 7 - suc rank ≡ level_of code = omega (arith, eq, l) in
-    let two : 7 - rank ≡ level_of code + 1 = omega (arith, eq, l) in
-    let here : symbols_at_level (7 - suc rank) (level_in e) (expression_symbols e) ≡ two_place_symbols code (level_in a) (level_in b) (expression_symbols a) (expression_symbols b) =
-    at_its_level (7 - suc rank) (level_in e) (expression_symbols e) (omega (arith, one, own)) ∙ j.same in
-    let first = subst (λ k. NoMore (symbols_at_level k (level_in a) (expression_symbols a)) left) one x.no_more in
-    let second = subst (λ k. NoMore (symbols_at_level k (level_in b) (expression_symbols b)) right) two y.no_more in
+    let next : suc level ≡ level_of code + 1 = omega (arith, eq) in
+    let here : symbols_at_level level (level_in e) (expression_symbols e) ≡ two_place_symbols code (level_in a) (level_in b) (expression_symbols a) (expression_symbols b) =
+    at_its_level level (level_in e) (expression_symbols e) (omega (arith, eq, own)) ∙ j.same in
+    let first = subst (λ k. NoMore (symbols_at_level k (level_in a) (expression_symbols a)) left) (sym eq) x.no_more in
+    let second = subst (λ k. NoMore (symbols_at_level k (level_in b) (expression_symbols b)) right) next y.no_more in
     record {
-      level = omega (arith, own, eq, l);
+      own = omega (arith, own, eq, l);
       no_more = subst (λ us. NoMore us (left ++ symbols.Operator code ∷ right)) (sym here)
           (both_more first (plain_more (symbols.Operator code) (record { no_opening = refl; no_closing = refl }) second));
     }
 
 -- the canonical symbols of an expression are no more than those that derive it
-pub least : {rank : ℕ} {ts : List Symbol} {e : Expression} → rank ≤ 6 → Derives rank ts e → Least rank ts e
-least l (Numeral n) = record { level = omega arith; no_more = plain_more _ (record { no_opening = refl; no_closing = refl }) none_more }
-least l (Named x) = record { level = omega arith; no_more = plain_more _ (record { no_opening = refl; no_closing = refl }) none_more }
+pub least : {level : ℕ} {ts : List Symbol} {e : Expression} → 1 ≤ level → Derives level ts e → Least level ts e
+least l (Numeral n) = record { own = omega arith; no_more = plain_more _ (record { no_opening = refl; no_closing = refl }) none_more }
+least l (Named x) = record { own = omega arith; no_more = plain_more _ (record { no_opening = refl; no_closing = refl }) none_more }
 least l (Indexed {inside} {e} x d) = record {
-  level = omega arith;
+  own = omega arith;
   no_more = plain_more _ (record { no_opening = refl; no_closing = refl })
       (nested_more open_square close_square square_pair (in_full e inside (least (omega arith) d)));
 }
 least l CallsMore = record {
-  level = omega arith;
+  own = omega arith;
   no_more = plain_more _ (record { no_opening = refl; no_closing = refl }) (nested_more open_round close_round round_pair none_more);
 }
 least l CallsTake = record {
-  level = omega arith;
+  own = omega arith;
   no_more = plain_more _ (record { no_opening = refl; no_closing = refl }) (nested_more open_round close_round round_pair none_more);
 }
 least l CallsIter = record {
-  level = omega arith;
+  own = omega arith;
   no_more = plain_more _ (record { no_opening = refl; no_closing = refl }) (nested_more open_round close_round round_pair none_more);
 }
-least l (Negative {ts} {e} d) = (let r = least (omega arith) d in record { level = omega arith; no_more = plain_more minus (one_plain 1) r.no_more })
-least l (Not {ts} {e} d) = (let r = least (omega arith) d in record { level = omega arith; no_more = plain_more exclamation (one_plain 2) r.no_more })
+least l (Negative {ts} {e} d) = (let r = least (omega arith) d in record { own = omega arith; no_more = plain_more minus (one_plain 1) r.no_more })
+least l (Not {ts} {e} d) = (let r = least (omega arith) d in record { own = omega arith; no_more = plain_more exclamation (one_plain 2) r.no_more })
 least l (Bracketed {inside} {e} d) =
     let r = least (omega arith) d in
-    record { level = r.level; no_more = bracketed_more 7 (level_in e) (expression_symbols e) inside (expression_lifts e) (in_full e inside r) }
-least l (Tighter {rank} {ts} {e} d) =
+    record { own = r.own; no_more = bracketed_more operand_level (level_in e) (expression_symbols e) inside (expression_lifts e) (in_full e inside r) }
+least l (Tighter {level} {ts} {e} d) =
     let r = least (omega (arith, l)) d in
-    record { level = r.level; no_more = lower_more (7 - suc rank) (7 - rank) (level_in e) (expression_symbols e) ts (omega arith) (expression_lifts e) r.no_more }
-least l (Joined {rank} {left} {right} {a} {b} code eq x y) =
-    joined_least rank code left right a b (binary_expression code a b) eq l (joined code a b) (least l x) (least (omega (arith, l)) y)
+    record { own = r.own; no_more = lower_more level (suc level) (level_in e) (expression_symbols e) ts (omega arith) (expression_lifts e) r.no_more }
+least l (Joined {level} {left} {right} {a} {b} code eq x y) =
+    joined_least level code left right a b (binary_expression code a b) eq l (joined code a b) (least l x) (least (omega (arith, l)) y)
 
 -- a full expression
-pub full_least : {ts : List Symbol} {e : Expression} → Derives 6 ts e → NoMore (expression_symbols e) ts
+pub full_least : {ts : List Symbol} {e : Expression} → Derives any_expression ts e → NoMore (expression_symbols e) ts
 full_least {ts} {e} d = in_full e ts (least (omega arith) d)
 
 -- ---- brackets, from and to the bound on them

@@ -1,5 +1,5 @@
 -- The pieces of the canonical text derive the program.
-use Rattle.std.proofs.Common.{◌≡◌, ℕ, zero, suc, ◌+◌, ◌-◌, ◌≤◌, ℤ, pos, negsuc, List, [], ◌∷◌, ◌++◌, refl, sym, arith, subst, Bool, true, false, nat_le, if◌then◌else◌, inl, inr, ◌⊎◌, Option, Some, None, ◌==◌}
+use Rattle.std.proofs.Common.{◌≡◌, ℕ, zero, suc, ◌+◌, ◌≤◌, ℤ, pos, negsuc, List, [], ◌∷◌, ◌++◌, refl, arith, subst, Bool, true, false, nat_le, if◌then◌else◌, inl, inr, ◌⊎◌, Option, Some, None, ◌==◌}
 use Rattle.std.proofs.lemmas.Bool.Decides.{nat_tests}
 use Rattle.pipe_model.specs.declared.node.Kind.{Kind}
 use Rattle.pipe_model.specs.declared.node.Kind.TheVariants as kinds
@@ -7,73 +7,66 @@ use Rattle.pipe_model.specs.declared.symbol.Symbol.{Symbol}
 use Rattle.pipe_model.specs.declared.symbol.Symbol.TheVariants as symbols
 use Rattle.pipe_model.specs.declared.tree.Declaration.{Declaration}
 use Rattle.grammar_laws.proofs.CanonicalSymbols.{one_place_symbol, symbols_at_level, two_place_symbols, expression_symbols, part_pieces, statement_pieces, statements_pieces, size_pieces, value_pieces, cells_pieces, program_pieces, IsWritable, IsWritableStatement, AreWritable, IsWritableProgram}
+use Rattle.pipe_model.proofs.Levels.{below_operands, looser}
 use Rattle.pipe_model.specs.Language.CanonicalText.{level_in}
 use Rattle.pipe_model.specs.Language.SyntaxTree.{Expression, Number, Name, Element, And, Or, Binary, Unary, More, Take, Iter, binary_expression, Statement, Let, Assign, AssignElement, Emit, If, While, Stage, NextStage, Statements, Empty, Then, SyntaxTree}
-use Rattle.pipe_model.specs.Language.Grammar.{level_of, Derives, Numeral, Named, Indexed, CallsMore, CallsTake, CallsIter, Negative, Not, Bracketed, Tighter, Joined, Piece, DerivesStatement, LetIs, AssignIs, AssignElementIs, EmitIs, IfIs, WhileIs, WaitIs, WaitNextIs, ContinueIs, ContinueNextIs, DerivesStatements, NoStatement, OneMore, BlockIs, DerivesPart, NoPart, PartIs, DerivesSize, NoSize, SizeIs, DerivesValue, ValueIs, NegativeValueIs, DerivesCells, NoCell, CellIs, DerivesProgram, ProgramIs}
+use Rattle.pipe_model.specs.Language.Grammar.{any_expression, operand_level, level_of, Derives, Numeral, Named, Indexed, CallsMore, CallsTake, CallsIter, Negative, Not, Bracketed, Joined, Piece, DerivesStatement, LetIs, AssignIs, AssignElementIs, EmitIs, IfIs, WhileIs, WaitIs, WaitNextIs, ContinueIs, ContinueNextIs, DerivesStatements, NoStatement, OneMore, BlockIs, DerivesPart, NoPart, PartIs, DerivesSize, NoSize, SizeIs, DerivesValue, ValueIs, NegativeValueIs, DerivesCells, NoCell, CellIs, DerivesProgram, ProgramIs}
 
 -- ---- expressions
 
--- from a rank to a looser one
-up : (more : ℕ) {rank : ℕ} {ts : List Symbol} {e : Expression} (to : ℕ) → to - rank ≡ more → rank ≤ to → Derives rank ts e → Derives to ts e
-up zero {rank} {ts} {e} to h l d = subst (λ r. Derives r ts e) (omega (arith, h, l)) d
-up (suc more) {rank} {ts} {e} to h l d = up more to (omega (arith, h)) (omega (arith, h)) (Tighter d)
+-- the operators that stand as such in a tree have levels from 1 on
+level_from_one : (code : ℕ) → 1 ≤ code → code ≤ 13 → 1 ≤ level_of code
+level_from_one zero l h = absurd (omega (arith, l))
+level_from_one (suc zero) l h = omega arith
+level_from_one (suc (suc zero)) l h = omega arith
+level_from_one (suc (suc (suc zero))) l h = omega arith
+level_from_one (suc (suc (suc (suc zero)))) l h = omega arith
+level_from_one (suc (suc (suc (suc (suc zero))))) l h = omega arith
+level_from_one (suc (suc (suc (suc (suc (suc zero)))))) l h = omega arith
+level_from_one (suc (suc (suc (suc (suc (suc (suc zero))))))) l h = omega arith
+level_from_one (suc (suc (suc (suc (suc (suc (suc (suc zero)))))))) l h = omega arith
+level_from_one (suc (suc (suc (suc (suc (suc (suc (suc (suc zero))))))))) l h = omega arith
+level_from_one (suc (suc (suc (suc (suc (suc (suc (suc (suc (suc zero)))))))))) l h = omega arith
+level_from_one (suc (suc (suc (suc (suc (suc (suc (suc (suc (suc (suc zero))))))))))) l h = omega arith
+level_from_one (suc (suc (suc (suc (suc (suc (suc (suc (suc (suc (suc (suc zero)))))))))))) l h = omega arith
+level_from_one (suc (suc (suc (suc (suc (suc (suc (suc (suc (suc (suc (suc (suc zero))))))))))))) l h = omega arith
+level_from_one (suc (suc (suc (suc (suc (suc (suc (suc (suc (suc (suc (suc (suc (suc n)))))))))))))) l h = absurd (omega (arith, h))
 
-pub looser : {rank : ℕ} {ts : List Symbol} {e : Expression} (to : ℕ) → rank ≤ to → Derives rank ts e → Derives to ts e
-looser {rank} to l d = up (to - rank) to refl l d
+-- an expression's level is from 1 on
+pub level_from : (e : Expression) → IsWritable e → 1 ≤ level_in e
+level_from (Number n) h = omega arith
+level_from (Name x) h = omega arith
+level_from (Element x i) h = omega arith
+level_from (Or a b) h = omega arith
+level_from (And a b) h = omega arith
+level_from (Binary code a b) h = level_from_one code (omega (arith, h.0)) h.1
+level_from (Unary code a) h = omega arith
+level_from More h = omega arith
+level_from Take h = omega arith
+level_from Iter h = omega arith
 
--- the levels of the operators that stand as such in a tree
-level_between : (code : ℕ) → 1 ≤ code → code ≤ 13 → (1 ≤ level_of code) × (level_of code ≤ 6)
-level_between zero l h = absurd (omega (arith, l))
-level_between (suc zero) l h = (omega arith, omega arith)
-level_between (suc (suc zero)) l h = (omega arith, omega arith)
-level_between (suc (suc (suc zero))) l h = (omega arith, omega arith)
-level_between (suc (suc (suc (suc zero)))) l h = (omega arith, omega arith)
-level_between (suc (suc (suc (suc (suc zero))))) l h = (omega arith, omega arith)
-level_between (suc (suc (suc (suc (suc (suc zero)))))) l h = (omega arith, omega arith)
-level_between (suc (suc (suc (suc (suc (suc (suc zero))))))) l h = (omega arith, omega arith)
-level_between (suc (suc (suc (suc (suc (suc (suc (suc zero)))))))) l h = (omega arith, omega arith)
-level_between (suc (suc (suc (suc (suc (suc (suc (suc (suc zero))))))))) l h = (omega arith, omega arith)
-level_between (suc (suc (suc (suc (suc (suc (suc (suc (suc (suc zero)))))))))) l h = (omega arith, omega arith)
-level_between (suc (suc (suc (suc (suc (suc (suc (suc (suc (suc (suc zero))))))))))) l h = (omega arith, omega arith)
-level_between (suc (suc (suc (suc (suc (suc (suc (suc (suc (suc (suc (suc zero)))))))))))) l h = (omega arith, omega arith)
-level_between (suc (suc (suc (suc (suc (suc (suc (suc (suc (suc (suc (suc (suc zero))))))))))))) l h = (omega arith, omega arith)
-level_between (suc (suc (suc (suc (suc (suc (suc (suc (suc (suc (suc (suc (suc (suc n)))))))))))))) l h = absurd (omega (arith, h))
-
--- an expression's level is from 1 to 7
-pub level_bounds : (e : Expression) → IsWritable e → (1 ≤ level_in e) × (level_in e ≤ 7)
-level_bounds (Number n) h = (omega arith, omega arith)
-level_bounds (Name x) h = (omega arith, omega arith)
-level_bounds (Element x i) h = (omega arith, omega arith)
-level_bounds (Or a b) h = (omega arith, omega arith)
-level_bounds (And a b) h = (omega arith, omega arith)
-level_bounds (Binary code a b) h = let l = level_between code (omega (arith, h.0)) h.1 in (l.0, omega (arith, l.1))
-level_bounds (Unary code a) h = (omega arith, omega arith)
-level_bounds More h = (omega arith, omega arith)
-level_bounds Take h = (omega arith, omega arith)
-level_bounds Iter h = (omega arith, omega arith)
-
-bracketed_by : (b : Bool) (needed own : ℕ) (e : Expression) (ts : List Symbol) → (b ≡ true → needed ≤ own) → 1 ≤ own → Derives (7 - own) ts e
-    → Derives (7 - needed) (if b then ts else symbols.Sign 40 ∷ (ts ++ symbols.Sign 41 ∷ [])) e
-bracketed_by true needed own e ts h l d = looser (7 - needed) (let k = h refl in omega (arith, k)) d
-bracketed_by false needed own e ts h l d = looser (7 - needed) (omega arith) (Bracketed (looser 6 (omega (arith, l)) d))
+bracketed_by : (b : Bool) (needed own : ℕ) (e : Expression) (ts : List Symbol) → (b ≡ true → needed ≤ own) → needed ≤ operand_level → 1 ≤ own → Derives own ts e
+    → Derives needed (if b then ts else symbols.Sign 40 ∷ (ts ++ symbols.Sign 41 ∷ [])) e
+bracketed_by true needed own e ts h k l d = looser needed (h refl) d
+bracketed_by false needed own e ts h k l d = looser needed k (Bracketed (looser any_expression l d))
 
 -- symbols where a level is needed
-at_level_derives : (needed own : ℕ) (e : Expression) (ts : List Symbol) → 1 ≤ own → Derives (7 - own) ts e → Derives (7 - needed) (symbols_at_level needed own ts) e
-at_level_derives needed own e ts l d = bracketed_by (nat_le needed own) needed own e ts (λ h. grind (arith, nat_tests, h)) l d
+at_level_derives : (needed own : ℕ) (e : Expression) (ts : List Symbol) → needed ≤ operand_level → 1 ≤ own → Derives own ts e
+    → Derives needed (symbols_at_level needed own ts) e
+at_level_derives needed own e ts k l d = bracketed_by (nat_le needed own) needed own e ts (λ h. grind (arith, nat_tests, h)) k l d
 
-one_place : (code : ℕ) (e : Expression) (ts : List Symbol) → ((code ≡ 1) ⊎ (code ≡ 2)) → Derives 0 ts e → Derives 0 (one_place_symbol code ∷ ts) (Unary code e)
+one_place : (code : ℕ) (e : Expression) (ts : List Symbol) → ((code ≡ 1) ⊎ (code ≡ 2)) → Derives operand_level ts e → Derives operand_level (one_place_symbol code ∷ ts) (Unary code e)
 one_place code e ts (inl h) d = rw h (Negative d)
 one_place code e ts (inr h) d = rw h (Not d)
 
-two_place : (code : ℕ) (a b : Expression) (left right : List Symbol) → 1 ≤ level_of code → level_of code ≤ 6 → 1 ≤ level_in a → 1 ≤ level_in b
-    → Derives (7 - level_in a) left a → Derives (7 - level_in b) right b
-    → Derives (7 - level_of code) (two_place_symbols code (level_in a) (level_in b) left right) (binary_expression code a b)
-two_place code a b left right low high la lb d d' =
-    let rank : suc (7 - (level_of code + 1)) ≡ 7 - level_of code = omega (arith, low, high) in
-    let l = at_level_derives (level_of code) (level_in a) a left la d in
-    let r = at_level_derives (level_of code + 1) (level_in b) b right lb d' in
-    subst (λ k. Derives k (two_place_symbols code (level_in a) (level_in b) left right) (binary_expression code a b)) rank
-    (Joined code (sym rank) (subst (λ k. Derives k (symbols_at_level (level_of code) (level_in a) left) a) (sym rank) l) r)
+two_place : (code : ℕ) (a b : Expression) (left right : List Symbol) → 1 ≤ level_in a → 1 ≤ level_in b
+    → Derives (level_in a) left a → Derives (level_in b) right b
+    → Derives (level_of code) (two_place_symbols code (level_in a) (level_in b) left right) (binary_expression code a b)
+two_place code a b left right la lb d d' =
+    let high = below_operands code in
+    let l = at_level_derives (level_of code) (level_in a) a left (omega (arith, high)) la d in
+    let r = at_level_derives (level_of code + 1) (level_in b) b right (omega (arith, high)) lb d' in
+    Joined code refl l (subst (λ k. Derives k (symbols_at_level (level_of code + 1) (level_in b) right) b) (omega arith) r)
 
 -- the operators that stand as such join as such
 joined_as : (code : ℕ) (a b : Expression) → 3 ≤ code → binary_expression code a b ≡ Binary code a b
@@ -82,30 +75,30 @@ joined_as code a b h =
     let two : (code == 2) ≡ false = grind (arith, nat_tests, h) in
     rw (one, two) refl
 
--- the canonical symbols of an expression derive it, at the rank of its level
-pub expression_derived : (e : Expression) → IsWritable e → Derives (7 - level_in e) (expression_symbols e) e
+-- the canonical symbols of an expression derive it at its level
+pub expression_derived : (e : Expression) → IsWritable e → Derives (level_in e) (expression_symbols e) e
 expression_derived (Number n) h = Numeral n
 expression_derived (Name x) h = Named x
-expression_derived (Element x i) h = let l = level_bounds i h.1 in Indexed x (looser 6 (omega (arith, l.0)) (expression_derived i h.1))
+expression_derived (Element x i) h = let l = level_from i h.1 in Indexed x (looser any_expression l (expression_derived i h.1))
 expression_derived (Or a b) h =
-    let la = level_bounds a h.0 in let lb = level_bounds b h.1 in
-    two_place 1 a b _ _ (omega arith) (omega arith) la.0 lb.0 (expression_derived a h.0) (expression_derived b h.1)
+    let la = level_from a h.0 in let lb = level_from b h.1 in
+    two_place 1 a b _ _ la lb (expression_derived a h.0) (expression_derived b h.1)
 expression_derived (And a b) h =
-    let la = level_bounds a h.0 in let lb = level_bounds b h.1 in
-    two_place 2 a b _ _ (omega arith) (omega arith) la.0 lb.0 (expression_derived a h.0) (expression_derived b h.1)
+    let la = level_from a h.0 in let lb = level_from b h.1 in
+    two_place 2 a b _ _ la lb (expression_derived a h.0) (expression_derived b h.1)
 expression_derived (Binary code a b) h =
-    let la = level_bounds a h.2 in let lb = level_bounds b h.3 in let l = level_between code (omega (arith, h.0)) h.1 in
-    subst (λ x. Derives (7 - level_of code) (expression_symbols (Binary code a b)) x) (joined_as code a b h.0)
-    (two_place code a b (expression_symbols a) (expression_symbols b) l.0 l.1 la.0 lb.0 (expression_derived a h.2) (expression_derived b h.3))
+    let la = level_from a h.2 in let lb = level_from b h.3 in
+    subst (λ x. Derives (level_of code) (expression_symbols (Binary code a b)) x) (joined_as code a b h.0)
+    (two_place code a b (expression_symbols a) (expression_symbols b) la lb (expression_derived a h.2) (expression_derived b h.3))
 expression_derived (Unary code a) h =
-    let l = level_bounds a h.1 in one_place code a _ h.0 (at_level_derives 7 (level_in a) a (expression_symbols a) l.0 (expression_derived a h.1))
+    let l = level_from a h.1 in one_place code a _ h.0 (at_level_derives operand_level (level_in a) a (expression_symbols a) (omega arith) l (expression_derived a h.1))
 expression_derived More h = CallsMore
 expression_derived Take h = CallsTake
 expression_derived Iter h = CallsIter
 
 -- a full expression
-full : (e : Expression) → IsWritable e → Derives 6 (expression_symbols e) e
-full e h = let l = level_bounds e h in looser 6 (omega (arith, l.0)) (expression_derived e h)
+full : (e : Expression) → IsWritable e → Derives any_expression (expression_symbols e) e
+full e h = let l = level_from e h in looser any_expression l (expression_derived e h)
 
 -- ---- statements
 

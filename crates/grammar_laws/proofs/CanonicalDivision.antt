@@ -9,10 +9,10 @@ use Rattle.pipe_model.specs.declared.symbol.Symbol.{Symbol}
 use Rattle.pipe_model.specs.declared.symbol.Symbol.TheVariants as symbols
 use Rattle.pipe_model.specs.declared.tree.Declaration.{Declaration}
 use Rattle.grammar_laws.proofs.CanonicalSymbols.{one_place_symbol, symbols_at_level, two_place_symbols, expression_symbols, block_pieces, part_pieces, statement_pieces, statements_pieces, size_pieces, value_pieces, cells_pieces, program_pieces, IsName, IsNumeral, Numeral, IsDeclaredValue, Positive, Negative, IsWritable, IsWritableStatement, AreWritable, IsWritableSize, AreWritableCells, IsWritableProgram}
-use Rattle.pipe_model.specs.Language.CanonicalText.{operator_text, one_place_text, tightest, level_in, at_level, two_place, expression_text, line, else_text, statement_text, statements_text, limits_text, size_text, cell_text, part_text, loop_text, program_text}
+use Rattle.pipe_model.specs.Language.CanonicalText.{operator_text, one_place_text, level_in, at_level, two_place, expression_text, line, else_text, statement_text, statements_text, limits_text, size_text, cell_text, part_text, loop_text, program_text}
 use Rattle.pipe_model.specs.Language.Lexis.{is_name_byte, symbol_of}
 use Rattle.pipe_model.specs.Language.SyntaxTree.{Expression, Number, Name, Element, And, Or, Binary, Unary, More, Take, Iter, Statement, Let, Assign, AssignElement, Emit, If, While, Stage, NextStage, Statements, Empty, Then, SyntaxTree}
-use Rattle.pipe_model.specs.Language.Grammar.{level_of, Piece, Single, FullExpression, flat}
+use Rattle.pipe_model.specs.Language.Grammar.{level_of, operand_level, Piece, Single, FullExpression, flat}
 use Rattle.pipe_model.specs.Language.Words.{word_limits, word_iterations, word_stages, word_steps, word_emits, word_pipe_while, word_if, word_while, word_cell, minus, open_round, close_round, comma, semicolon, equals, open_square, close_square, open_brace, close_brace}
 use Rattle.grammar_laws.proofs.Pieces.{flat_append}
 use Rattle.grammar_laws.proofs.Writings.{IsWritingOf, Writes, Done, Space, Puts, written_source}
@@ -173,7 +173,7 @@ expression_opens (And a b) h rest = sides_open 2 (level_in a) (level_in b) (expr
 expression_opens (Binary code a b) h rest = sides_open code (level_in a) (level_in b) (expression_text a) (expression_text b) rest (expression_opens a h.2)
 expression_opens (Unary code a) h rest = by_code code h.0
   where
-    by_code : (k : ℕ) → (k ≡ 1) ⊎ (k ≡ 2) → Opens ((one_place_text k ++ at_level tightest (level_in a) (expression_text a)) ++ rest)
+    by_code : (k : ℕ) → (k ≡ 1) ⊎ (k ≡ 2) → Opens ((one_place_text k ++ at_level operand_level (level_in a) (expression_text a)) ++ rest)
     by_code k (inl e) = rw e refl
     by_code k (inr e) = rw e refl
 expression_opens More h rest = refl

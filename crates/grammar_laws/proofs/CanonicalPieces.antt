@@ -6,7 +6,7 @@ use Rattle.pipe_model.specs.declared.symbol.Symbol.TheVariants as symbols
 use Rattle.pipe_model.specs.declared.tree.Declaration.{Declaration}
 use Rattle.grammar_laws.proofs.CanonicalSymbols.{expression_symbols, block_pieces, part_pieces, statement_pieces, statements_pieces, size_pieces, value_pieces, cells_pieces, program_pieces}
 use Rattle.pipe_model.specs.Language.SyntaxTree.{Expression, Statement, Statements, Empty, Then, SyntaxTree}
-use Rattle.pipe_model.specs.Language.Grammar.{Derives, Piece, Single, FullExpression, flat, DerivesStatement, LetIs, AssignIs, AssignElementIs, EmitIs, IfIs, WhileIs, WaitIs, WaitNextIs, ContinueIs, ContinueNextIs, DerivesStatements, NoStatement, OneMore, DerivesBlock, BlockIs, DerivesPart, NoPart, PartIs, DerivesSize, NoSize, SizeIs, DerivesValue, ValueIs, NegativeValueIs, DerivesCells, NoCell, CellIs, DerivesProgram, ProgramIs, limits_before}
+use Rattle.pipe_model.specs.Language.Grammar.{any_expression, Derives, Piece, Single, FullExpression, flat, DerivesStatement, LetIs, AssignIs, AssignElementIs, EmitIs, IfIs, WhileIs, WaitIs, WaitNextIs, ContinueIs, ContinueNextIs, DerivesStatements, NoStatement, OneMore, DerivesBlock, BlockIs, DerivesPart, NoPart, PartIs, DerivesSize, NoSize, SizeIs, DerivesValue, ValueIs, NegativeValueIs, DerivesCells, NoCell, CellIs, DerivesProgram, ProgramIs, limits_before}
 use Rattle.pipe_model.specs.Language.Spelling.{AreShort, is_opening_bracket, is_closing_bracket}
 use Rattle.pipe_model.specs.Language.Words.{minus, open_round, close_round, open_square, close_square, open_brace, close_brace}
 use Rattle.grammar_laws.proofs.CanonicalBounds.{IsUnjoined, IsPair, NoDeeper, none_deep, plain_deep, front_deep, more_deep, both_deep, nested_deep, unbracketed_deep, none_lifts, full_least}
@@ -23,7 +23,7 @@ no_piece = record { short = λ h. h; deep = none_deep }
 plain : {us ps : List Piece} (t : Symbol) → is_opening_bracket t ≡ false → is_closing_bracket t ≡ false → Leaner us ps → Leaner (Single t ∷ us) (Single t ∷ ps)
 plain t a b l = record { short = l.short; deep = plain_deep t t (record { no_opening = a; no_closing = b }) (record { no_opening = a; no_closing = b }) l.deep }
 
-full : {us ps : List Piece} {ts : List Symbol} {e : Expression} → Derives 6 ts e → Leaner us ps → Leaner (FullExpression (expression_symbols e) ∷ us) (FullExpression ts ∷ ps)
+full : {us ps : List Piece} {ts : List Symbol} {e : Expression} → Derives any_expression ts e → Leaner us ps → Leaner (FullExpression (expression_symbols e) ∷ us) (FullExpression ts ∷ ps)
 full d l =
     let m = full_least d in
     record { short = λ h. (let x = h.0 in let y = m.few in omega (arith, x, y), l.short h.1); deep = both_deep m.deep l.deep }
@@ -42,11 +42,11 @@ nested {us} {ps} a b p l = record {
 }
 
 -- a full expression in brackets, and what stands behind it
-test : {us ps : List Piece} {ts : List Symbol} {e : Expression} → Derives 6 ts e → Leaner us ps
+test : {us ps : List Piece} {ts : List Symbol} {e : Expression} → Derives any_expression ts e → Leaner us ps
     → Leaner (Single open_round ∷ FullExpression (expression_symbols e) ∷ Single close_round ∷ us) (Single open_round ∷ FullExpression ts ∷ Single close_round ∷ ps)
 test d l = both (nested open_round close_round (record { opens = refl; stays = refl; ends = refl; closes = refl }) (full d no_piece)) l
 
-index : {us ps : List Piece} {ts : List Symbol} {e : Expression} → Derives 6 ts e → Leaner us ps
+index : {us ps : List Piece} {ts : List Symbol} {e : Expression} → Derives any_expression ts e → Leaner us ps
     → Leaner (Single open_square ∷ FullExpression (expression_symbols e) ∷ Single close_square ∷ us) (Single open_square ∷ FullExpression ts ∷ Single close_square ∷ ps)
 index d l = both (nested open_square close_square (record { opens = refl; stays = refl; ends = refl; closes = refl }) (full d no_piece)) l
 

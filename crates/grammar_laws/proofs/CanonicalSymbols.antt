@@ -5,10 +5,10 @@ use Rattle.pipe_model.specs.declared.node.Kind.TheVariants as kinds
 use Rattle.pipe_model.specs.declared.symbol.Symbol.{Symbol}
 use Rattle.pipe_model.specs.declared.symbol.Symbol.TheVariants as symbols
 use Rattle.pipe_model.specs.declared.tree.Declaration.{Declaration}
-use Rattle.pipe_model.specs.Language.CanonicalText.{level_in, tightest}
+use Rattle.pipe_model.specs.Language.CanonicalText.{level_in}
 use Rattle.pipe_model.specs.Language.Lexis.{symbol_of}
 use Rattle.pipe_model.specs.Language.SyntaxTree.{Expression, Number, Name, Element, And, Or, Binary, Unary, More, Take, Iter, Statement, Let, Assign, AssignElement, Emit, If, While, Stage, NextStage, Statements, Empty, Then, SyntaxTree}
-use Rattle.pipe_model.specs.Language.Grammar.{level_of, Piece, Single, FullExpression, limits_before}
+use Rattle.pipe_model.specs.Language.Grammar.{level_of, operand_level, Piece, Single, FullExpression, limits_before}
 use Rattle.pipe_model.specs.Language.Words.{word_cell, word_pipe_while, word_pipe_wait, word_pipe_continue, word_let, word_if, word_while, word_emit, word_more, word_take, word_iter, minus, exclamation, open_round, close_round, semicolon, equals, open_square, close_square, open_brace, close_brace}
 
 -- ---- expressions
@@ -34,7 +34,7 @@ expression_symbols (Element x i) = symbols.Name x ∷ open_square ∷ (expressio
 expression_symbols (Or a b) = two_place_symbols 1 (level_in a) (level_in b) (expression_symbols a) (expression_symbols b)
 expression_symbols (And a b) = two_place_symbols 2 (level_in a) (level_in b) (expression_symbols a) (expression_symbols b)
 expression_symbols (Binary code a b) = two_place_symbols code (level_in a) (level_in b) (expression_symbols a) (expression_symbols b)
-expression_symbols (Unary code a) = one_place_symbol code ∷ symbols_at_level tightest (level_in a) (expression_symbols a)
+expression_symbols (Unary code a) = one_place_symbol code ∷ symbols_at_level operand_level (level_in a) (expression_symbols a)
 expression_symbols More = word_more ∷ open_round ∷ close_round ∷ []
 expression_symbols Take = word_take ∷ open_round ∷ close_round ∷ []
 expression_symbols Iter = word_iter ∷ open_round ∷ close_round ∷ []

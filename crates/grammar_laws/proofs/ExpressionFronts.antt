@@ -1,23 +1,24 @@
 -- Where the machine of expressions runs, there is an expression that goes on so.
-use Rattle.std.proofs.Common.{◌≡◌, ℕ, ◌<◌, ◌≤◌, List, [], ◌∷◌, ◌++◌, refl, sym, ap, ◌∙◌, append_assoc, append-nil, arith, subst, ◌⊎◌, inl, inr, Option, Some, None, Bool, true, false, ◌==◌, pos, if◌then◌else◌}
+use Rattle.std.proofs.Common.{◌≡◌, ℕ, ◌≤◌, List, [], ◌∷◌, ◌++◌, refl, sym, ap, ◌∙◌, append_assoc, append-nil, arith, subst, ◌⊎◌, inl, inr, Option, Some, None, Bool, true, false, ◌==◌, pos, if◌then◌else◌}
 use Rattle.std.proofs.lemmas.Bool.{cases_eq}
 use Rattle.pipe_model.specs.declared.symbol.Symbol.{Symbol}
 use Rattle.pipe_model.specs.declared.symbol.Symbol.TheVariants as symbols
 use Rattle.pipe_model.specs.Language.SyntaxTree.{Expression}
-use Rattle.pipe_model.specs.Language.Grammar.{Derives, Numeral, Named, Indexed, CallsMore, CallsTake, CallsIter, Negative, Not, Bracketed, rank_of}
+use Rattle.pipe_model.specs.Language.Grammar.{any_expression, operand_level, Derives, Numeral, Named, Indexed, CallsMore, CallsTake, CallsIter, Negative, Not, Bracketed, level_of}
 use Rattle.grammar_laws.specs.ExpressionMachine.{Want, Sign, Operand, Index, Tail, Move, Takes, Skips, Refuses, move, step, stepped, run, and_run, is_operator, is_call, may_end}
-use Rattle.grammar_laws.proofs.ExpressionGrowth.{grown, lifted}
+use Rattle.grammar_laws.proofs.ExpressionGrowth.{grown}
+use Rattle.pipe_model.proofs.Levels.{looser}
 
 -- ---- what spells a list of wants
 pub data Completes : List Want → List Symbol → Type 0 where
   Nothing : Completes [] []
   OfSign : {wants : List Want} {ts : List Symbol} (sign : ℕ) → Completes wants ts → Completes (Sign sign ∷ wants) (symbols.Sign sign ∷ ts)
-  OfOperand : {wants : List Want} {us ts : List Symbol} {e : Expression} → Derives 0 us e → Completes wants ts → Completes (Operand ∷ wants) (us ++ ts)
+  OfOperand : {wants : List Want} {us ts : List Symbol} {e : Expression} → Derives operand_level us e → Completes wants ts → Completes (Operand ∷ wants) (us ++ ts)
   OfNoIndex : {wants : List Want} {ts : List Symbol} → Completes wants ts → Completes (Index ∷ wants) ts
-  OfIndex : {wants : List Want} {us ts : List Symbol} {e : Expression} → Derives 6 us e → Completes wants ts
+  OfIndex : {wants : List Want} {us ts : List Symbol} {e : Expression} → Derives any_expression us e → Completes wants ts
       → Completes (Index ∷ wants) (symbols.Sign 91 ∷ (us ++ symbols.Sign 93 ∷ ts))
   OfNoTail : {wants : List Want} {ts : List Symbol} → Completes wants ts → Completes (Tail ∷ wants) ts
-  OfTail : {wants : List Want} {us ts : List Symbol} {e : Expression} (code : ℕ) → is_operator code ≡ true → Derives 0 us e
+  OfTail : {wants : List Want} {us ts : List Symbol} {e : Expression} (code : ℕ) → is_operator code ≡ true → Derives operand_level us e
       → Completes (Tail ∷ wants) ts
       → Completes (Tail ∷ wants) (symbols.Operator code ∷ (us ++ ts))
 
@@ -50,13 +51,13 @@ pub record First (wants : List Want) (left ts : List Symbol) : Type 0 where
   pub taken : List Symbol
   pub rest : List Symbol
   pub e : Expression
-  pub derived : Derives 6 (left ++ taken) e
+  pub derived : Derives any_expression (left ++ taken) e
   pub split : ts ≡ taken ++ rest
   pub completes : Completes wants rest
 
--- an operator has a rank from 1 to 6
-operator_rank : (code : ℕ) → is_operator code ≡ true → (0 < rank_of code) × (rank_of code ≤ 6)
-operator_rank code h = (grind (arith, h), grind (arith, h))
+-- an operator has a level from 1 on
+operator_level : (code : ℕ) → is_operator code ≡ true → any_expression ≤ level_of code
+operator_level code h = grind (arith, h)
 
 joined_first : {wants : List Want} (left us ts : List Symbol) (code : ℕ) → First wants (left ++ symbols.Operator code ∷ us) ts
     → First wants left (symbols.Operator code ∷ (us ++ ts))
@@ -64,23 +65,23 @@ joined_first left us ts code w = record {
   taken = symbols.Operator code ∷ (us ++ w.taken);
   rest = w.rest;
   e = w.e;
-  derived = subst (λ x. Derives 6 x w.e) (append_assoc left (symbols.Operator code ∷ us) w.taken) w.derived;
+  derived = subst (λ x. Derives any_expression x w.e) (append_assoc left (symbols.Operator code ∷ us) w.taken) w.derived;
   split = ap (λ x. symbols.Operator code ∷ x) (ap (λ x. us ++ x) w.split ∙ sym (append_assoc us w.taken w.rest));
   completes = w.completes;
 }
 
-tail_first : {wants : List Want} (left : List Symbol) {ts : List Symbol} {e : Expression} → Derives 6 left e → Completes (Tail ∷ wants) ts
+tail_first : {wants : List Want} (left : List Symbol) {ts : List Symbol} {e : Expression} → Derives any_expression left e → Completes (Tail ∷ wants) ts
     → First wants left ts
 tail_first left {e = e} d (OfNoTail {ts = ts} s) = record {
   taken = [];
   rest = ts;
   e = e;
-  derived = subst (λ us. Derives 6 us e) (sym (append-nil left)) d;
+  derived = subst (λ us. Derives any_expression us e) (sym (append-nil left)) d;
   split = refl;
   completes = s;
 }
 tail_first left d (OfTail {us = us} {ts = ts} code h o s) =
-    let x = grown code (operator_rank code h).0 o d (operator_rank code h).1 in
+    let x = grown code o d (operator_level code h) in
     joined_first left us ts code (tail_first (left ++ symbols.Operator code ∷ us) x.derived s)
 
 operand_first : {wants : List Want} (us ts : List Symbol) → First wants us ts → First wants [] (us ++ ts)
@@ -95,7 +96,7 @@ operand_first us ts w = record {
 
 -- an expression stands first
 pub first : {wants : List Want} {ts : List Symbol} → Completes (Operand ∷ Tail ∷ wants) ts → First wants [] ts
-first (OfOperand {us = us} {ts = ts} d s) = operand_first us ts (tail_first us (lifted 6 d) s)
+first (OfOperand {us = us} {ts = ts} d s) = operand_first us ts (tail_first us (looser any_expression (omega arith) d) s)
 
 -- ---- a step back
 moved : {wants : List Want} {ts us : List Symbol} → ts ≡ us → Completes wants us → Completes wants ts
@@ -106,11 +107,11 @@ record Closed (wants : List Want) (sign : ℕ) (ts : List Symbol) : Type 0 where
   inside : List Symbol
   rest : List Symbol
   e : Expression
-  derived : Derives 6 inside e
+  derived : Derives any_expression inside e
   split : ts ≡ inside ++ symbols.Sign sign ∷ rest
   completes : Completes wants rest
 
-closed_by : {wants : List Want} {sign : ℕ} (inside : List Symbol) {e : Expression} {ts rest : List Symbol} → Derives 6 inside e → ts ≡ inside ++ rest
+closed_by : {wants : List Want} {sign : ℕ} (inside : List Symbol) {e : Expression} {ts rest : List Symbol} → Derives any_expression inside e → ts ≡ inside ++ rest
     → Completes (Sign sign ∷ wants) rest
     → Closed wants sign ts
 closed_by inside {e = e} d h (OfSign {ts = rest} sign s) = record { inside = inside; rest = rest; e = e; derived = d; split = h; completes = s }
@@ -237,7 +238,7 @@ run_back (t ∷ before) ts wants left h s = run_back_on (step wants t) wants t b
 -- the symbols derive some expression
 pub record IsExpression (ts : List Symbol) : Type 0 where
   pub e : Expression
-  pub derived : Derives 6 ts e
+  pub derived : Derives any_expression ts e
 
 nothing_more : (ts taken rest : List Symbol) → ts ≡ taken ++ rest → Completes [] rest → ts ≡ taken
 nothing_more ts taken rest h Nothing = h ∙ append-nil taken
@@ -247,10 +248,10 @@ pub run_completed : (before more : List Symbol) (left : List Want) → run befor
     → IsExpression (before ++ more)
 run_completed before more left h s =
     let w = first (run_back before more (Operand ∷ Tail ∷ []) left h s) in
-    record { e = w.e; derived = subst (λ x. Derives 6 x w.e) (sym (nothing_more (before ++ more) w.taken w.rest w.split w.completes)) w.derived }
+    record { e = w.e; derived = subst (λ x. Derives any_expression x w.e) (sym (nothing_more (before ++ more) w.taken w.rest w.split w.completes)) w.derived }
 
 -- where it may end, the symbols are an expression
 pub run_ended : (before : List Symbol) (left : List Want) → run before (Operand ∷ Tail ∷ []) ≡ Some left → may_end left ≡ true → IsExpression before
 run_ended before left h i =
     let x = run_completed before [] left h (completes_end left i) in
-    record { e = x.e; derived = subst (λ ts. Derives 6 ts x.e) (append-nil before) x.derived }
+    record { e = x.e; derived = subst (λ ts. Derives any_expression ts x.e) (append-nil before) x.derived }

@@ -3,7 +3,7 @@ use Rattle.std.proofs.Common.{◌≡◌, ◌≢◌, ℕ, ◌+◌, ◌<◌, List,
 use Rattle.pipe_model.specs.declared.symbol.Symbol.{Symbol}
 use Rattle.pipe_model.specs.declared.symbol.Symbol.TheVariants as symbols
 use Rattle.pipe_model.specs.Language.SyntaxTree.{Expression}
-use Rattle.grammar_laws.specs.Reading.{Reads, ReadsNumeral, ReadsName, ReadsElement, ReadsMore, ReadsTake, ReadsIter, ReadsNegative, ReadsNot, ReadsBracketed, ReadsChain, Extends, Ends, Joins, NoSign, next_rank}
+use Rattle.grammar_laws.specs.Reading.{Reads, ReadsNumeral, ReadsName, ReadsElement, ReadsMore, ReadsTake, ReadsIter, ReadsNegative, ReadsNot, ReadsBracketed, ReadsChain, Extends, Ends, Joins, NoSign, next_level}
 use Rattle.grammar_laws.specs.ExpressionMachine.{Want, step, may_end, Stuck, ended, ending, ending_on, IsStuck}
 
 sign_window : (ts more : List Symbol) → ts ≢ [] → NoSign 91 ts → NoSign 91 (ts ++ more)
@@ -14,25 +14,25 @@ sign_window (symbols.Number x ∷ ts) more n h = tt
 sign_window (symbols.Operator x ∷ ts) more n h = tt
 sign_window (symbols.Sign x ∷ ts) more n h = h
 
-rank_window : (ts more : List Symbol) → ts ≢ [] → next_rank (ts ++ more) ≡ next_rank ts
-rank_window [] more n = absurd (n refl)
-rank_window (symbols.Name x ∷ ts) more n = refl
-rank_window (symbols.Word x ∷ ts) more n = refl
-rank_window (symbols.Number x ∷ ts) more n = refl
-rank_window (symbols.Operator x ∷ ts) more n = refl
-rank_window (symbols.Sign x ∷ ts) more n = refl
+level_window : (ts more : List Symbol) → ts ≢ [] → next_level (ts ++ more) ≡ next_level ts
+level_window [] more n = absurd (n refl)
+level_window (symbols.Name x ∷ ts) more n = refl
+level_window (symbols.Word x ∷ ts) more n = refl
+level_window (symbols.Number x ∷ ts) more n = refl
+level_window (symbols.Operator x ∷ ts) more n = refl
+level_window (symbols.Sign x ∷ ts) more n = refl
 
 some : (t : Symbol) (ts : List Symbol) → t ∷ ts ≢ []
 some t ts = λ e. absurd (cc (e))
 
-begins : {rank : ℕ} {ts rest : List Symbol} {a e : Expression} → Extends rank a ts e rest → rest ≢ [] → ts ≢ []
+begins : {level : ℕ} {ts rest : List Symbol} {a e : Expression} → Extends level a ts e rest → rest ≢ [] → ts ≢ []
 begins (Ends ts h) n = n
 begins (Joins {ts = ts} code h r g) n = some (symbols.Operator code) ts
 
 mutual
   -- a reading with a symbol left goes the same way before more symbols
-  pub reads_more : {rank : ℕ} {ts rest : List Symbol} {e : Expression} → Reads rank ts e rest → rest ≢ [] → (more : List Symbol)
-      → Reads rank (ts ++ more) e (rest ++ more)
+  pub reads_more : {level : ℕ} {ts rest : List Symbol} {e : Expression} → Reads level ts e rest → rest ≢ [] → (more : List Symbol)
+      → Reads level (ts ++ more) e (rest ++ more)
   reads_more (ReadsNumeral n rest) k more = ReadsNumeral n (rest ++ more)
   reads_more (ReadsName n rest h) k more = ReadsName n (rest ++ more) (sign_window rest more k h)
   reads_more (ReadsElement {rest = rest} name r) k more = ReadsElement name (reads_more r (some (symbols.Sign 93) rest) more)
@@ -44,9 +44,9 @@ mutual
   reads_more (ReadsBracketed {rest = rest} r) k more = ReadsBracketed (reads_more r (some (symbols.Sign 41) rest) more)
   reads_more (ReadsChain r g) k more = ReadsChain (reads_more r (begins g k) more) (extends_more g k more)
 
-  extends_more : {rank : ℕ} {ts rest : List Symbol} {a e : Expression} → Extends rank a ts e rest → rest ≢ [] → (more : List Symbol)
-      → Extends rank a (ts ++ more) e (rest ++ more)
-  extends_more (Ends ts h) k more = Ends (ts ++ more) (λ x. h (sym (rank_window ts more k) ∙ x))
+  extends_more : {level : ℕ} {ts rest : List Symbol} {a e : Expression} → Extends level a ts e rest → rest ≢ [] → (more : List Symbol)
+      → Extends level a (ts ++ more) e (rest ++ more)
+  extends_more (Ends ts h) k more = Ends (ts ++ more) (λ x. h (sym (level_window ts more k) ∙ x))
   extends_more (Joins code h r g) k more = Joins code h (reads_more r (begins g k) more) (extends_more g k more)
 
 ended_more : (b : Bool) (ts more : List Symbol) (n : ℕ) → ended b ts ≡ Stuck n → ended b (ts ++ more) ≡ Stuck (n + length more)

@@ -4,7 +4,7 @@ use Rattle.std.proofs.lemmas.Bool.{cases_lt}
 use Rattle.pipe_model.specs.declared.symbol.Symbol.{Symbol}
 use Rattle.pipe_model.specs.declared.symbol.Symbol.TheVariants as symbols
 use Rattle.pipe_model.specs.Language.SyntaxTree.{Expression, SyntaxTree}
-use Rattle.pipe_model.specs.Language.Grammar.{Derives, Numeral, Named, Indexed, CallsMore, CallsTake, CallsIter, Negative, Not, Bracketed, Tighter, Joined, Piece, Single, FullExpression, flat, DerivesProgram}
+use Rattle.pipe_model.specs.Language.Grammar.{any_expression, Derives, Numeral, Named, Indexed, CallsMore, CallsTake, CallsIter, Negative, Not, Bracketed, Tighter, Joined, Piece, Single, FullExpression, flat, DerivesProgram}
 use Rattle.pipe_model.specs.Language.Spelling.{IsProgramPrefix, EndsTooLong}
 use Rattle.grammar_laws.specs.Reading.{NoSign}
 use Rattle.grammar_laws.specs.ExpressionMachine as expression
@@ -43,7 +43,7 @@ swapped (inl h) = inr h
 swapped (inr h) = inl h
 
 -- no expression begins with a closing bracket
-derived_begins : {rank : ℕ} {ts : List Symbol} {e : Expression} → Derives rank ts e → (rest : List Symbol) → NoSign 41 (ts ++ rest)
+derived_begins : {level : ℕ} {ts : List Symbol} {e : Expression} → Derives level ts e → (rest : List Symbol) → NoSign 41 (ts ++ rest)
 derived_begins (Numeral n) rest = tt
 derived_begins (Named name) rest = tt
 derived_begins (Indexed name d) rest = tt
@@ -103,7 +103,7 @@ finds_too_long longest inside more after rest h (LeavesOut {t = t} e w) (p ∷ b
     rw head (skips_then longest (flat before ++ (inside ++ rest)) e (rw head at f))
 finds_too_long longest inside more after rest h (OverFull {wants = wants} {ts = ts} {e = e} sign n d w) [] s =
     let same : ts ≡ inside ++ more = cc (s) in
-    too_long_here longest inside more rest (Sign sign ∷ wants) (subst (λ x. Derives 6 x e) same d) h
+    too_long_here longest inside more rest (Sign sign ∷ wants) (subst (λ x. Derives any_expression x e) same d) h
 finds_too_long longest inside more after rest h (OverFull sign n d w) (p ∷ []) s = absurd (cc (s))
 finds_too_long longest inside more after rest h (OverFull {wants = wants} {ts = ts} {ps = ps} sign n d w) (p ∷ q ∷ before) s =
     let first : p ≡ FullExpression ts = cc (s) in
@@ -114,7 +114,7 @@ finds_too_long longest inside more after rest h (OverFull {wants = wants} {ts = 
     (behind_more before inside rest) (finds_too_long longest inside more after rest h w before tail)))
 finds_too_long longest inside more after rest h (OverStage {wants = wants} {ts = ts} {e = e} d w) [] s =
     let same : ts ≡ inside ++ more = cc (s) in
-    let d = subst (λ x. Derives 6 x e) same d in
+    let d = subst (λ x. Derives any_expression x e) same d in
     stage_then longest (inside ++ rest) wants
     (front_begins inside more rest (some_inside inside longest h) (subst (NoSign 41) (append-nil (inside ++ more)) (derived_begins d [])))
     (too_long_here longest inside more rest (Sign 41 ∷ wants) d h)

@@ -143,7 +143,7 @@ stage_number longest (symbols.Operator code ∷ ts) wants h = refl
 stage_number longest (symbols.Sign b ∷ ts) wants h = let e : (b == 41) ≡ false = grind (arith, h) in rw e refl
 
 -- no expression begins with a closing bracket
-pub begins_open : {rank : ℕ} {ts rest : List Symbol} {e : Expression} → Reads rank ts e rest → NoSign 41 ts
+pub begins_open : {level : ℕ} {ts rest : List Symbol} {e : Expression} → Reads level ts e rest → NoSign 41 ts
 begins_open (ReadsNumeral n rest) = tt
 begins_open (ReadsName name rest h) = tt
 begins_open (ReadsElement name r) = tt

@@ -4,7 +4,7 @@ use Rattle.std.proofs.lemmas.List.{take-append-drop, length-take}
 use Rattle.pipe_model.specs.declared.symbol.Symbol.{Symbol}
 use Rattle.pipe_model.specs.declared.symbol.Symbol.TheVariants as symbols
 use Rattle.pipe_model.specs.Language.SyntaxTree.{Expression, SyntaxTree}
-use Rattle.pipe_model.specs.Language.Grammar.{Derives, Piece, Single, FullExpression, flat, BlockIs, DerivesProgram, ProgramIs}
+use Rattle.pipe_model.specs.Language.Grammar.{any_expression, Derives, Piece, Single, FullExpression, flat, BlockIs, DerivesProgram, ProgramIs}
 use Rattle.pipe_model.specs.Language.Spelling.{IsProgramPrefix, EndsTooLong}
 use Rattle.pipe_model.specs.Language.Words.{close_brace, open_brace}
 use Rattle.grammar_laws.specs.ExpressionMachine as expression
@@ -29,7 +29,7 @@ pub data Reached : List Symbol → MachineState → Type 0 where
       → Reached (flat ps) (Outside wants)
   Within : (ps : List Piece) (inside : List Symbol) (n : ℕ) (inner : List expression.Want) (wants : List Want) → length inside ≡ n
       → expression.run inside whole ≡ Some inner
-      → ((ts : List Symbol) (e : Expression) (qs : List Piece) → Derives 6 ts e → Completes wants qs → Completes program (ps ++ FullExpression ts ∷ qs))
+      → ((ts : List Symbol) (e : Expression) (qs : List Piece) → Derives any_expression ts e → Completes wants qs → Completes program (ps ++ FullExpression ts ∷ qs))
       → Reached (flat ps ++ inside) (Inside n inner wants)
 
 reached_moved : {ts us : List Symbol} {s : MachineState} → ts ≡ us → Reached ts s → Reached us s
@@ -50,7 +50,7 @@ reached_outside ps wants t (Inside n i left) f g =
 
 -- a symbol behind a full expression that ends
 reached_behind : (ps : List Piece) (inside : List Symbol) (wants : List Want) (t : Symbol) (s : MachineState)
-    → ((ts : List Symbol) (e : Expression) (qs : List Piece) → Derives 6 ts e → Completes wants qs → Completes program (ps ++ FullExpression ts ∷ qs))
+    → ((ts : List Symbol) (e : Expression) (qs : List Piece) → Derives any_expression ts e → Completes wants qs → Completes program (ps ++ FullExpression ts ∷ qs))
     → inner.IsExpression inside → step wants t ≡ Some s
     → Reached ((flat ps ++ inside) ++ t ∷ []) s
 reached_behind ps inside wants t s f x h =
@@ -62,7 +62,7 @@ reached_behind ps inside wants t s f x h =
 reached_inside : (ps : List Piece) (inside : List Symbol) (n : ℕ) (i : List expression.Want) (wants : List Want) (t : Symbol) (s : MachineState)
     (o : Option (List expression.Want)) (b : Bool) → expression.step i t ≡ o → expression.may_end i ≡ b → length inside ≡ n
     → expression.run inside whole ≡ Some i
-    → ((ts : List Symbol) (e : Expression) (qs : List Piece) → Derives 6 ts e → Completes wants qs → Completes program (ps ++ FullExpression ts ∷ qs))
+    → ((ts : List Symbol) (e : Expression) (qs : List Piece) → Derives any_expression ts e → Completes wants qs → Completes program (ps ++ FullExpression ts ∷ qs))
     → continued o b n wants (step wants t) ≡ Some s → Reached ((flat ps ++ inside) ++ t ∷ []) s
 reached_inside ps inside n i wants t s (Some mid) b e m l r f h =
     let same : Inside (suc n) mid wants ≡ s = cc (h) in
@@ -128,7 +128,7 @@ pub record GoesOnAsProgram (ps : List Piece) (inside : List Symbol) : Type 0 whe
   pub derived : DerivesProgram (ps ++ FullExpression (inside ++ more) ∷ after) tree
 
 within_goes_on : (ps : List Piece) (inside : List Symbol) (i : List expression.Want) (wants : List Want) → expression.run inside whole ≡ Some i
-    → ((ts : List Symbol) (e : Expression) (qs : List Piece) → Derives 6 ts e → Completes wants qs → Completes program (ps ++ FullExpression ts ∷ qs))
+    → ((ts : List Symbol) (e : Expression) (qs : List Piece) → Derives any_expression ts e → Completes wants qs → Completes program (ps ++ FullExpression ts ∷ qs))
     → GoesOnAsProgram ps inside
 within_goes_on ps inside i wants r f =
     let m = inner.completion i in
@@ -207,11 +207,11 @@ pub record RunsTo (ts : List Symbol) : Type 0 where
   pub left : List expression.Want
   pub ran : expression.run ts whole ≡ Some left
 
-pub derived_runs : {ts : List Symbol} {e : Expression} → Derives 6 ts e → RunsTo ts
+pub derived_runs : {ts : List Symbol} {e : Expression} → Derives any_expression ts e → RunsTo ts
 derived_runs {ts} {e} d =
     let s = runs.stopped (ts ++ []) whole in
     let ends = runs.done_may_end (expression.may_end s.left) s.rest []
-    (sym s.ends ∙ passes_expression (found_alone 6 ts e (found d) [] loose_end) []) in
+    (sym s.ends ∙ passes_expression (found_alone any_expression ts e (found d) [] loose_end) []) in
     let same : ts ≡ s.before = sym (append-nil ts) ∙ s.split ∙ ap (λ x. s.before ++ x) ends.1 ∙ append-nil s.before in
     record { left = s.left; ran = ap (λ x. expression.run x whole) same ∙ s.runs }
 
@@ -221,7 +221,7 @@ front_ran None go left h = absurd (cc (h))
 front_ran (Some mid) go left h = (mid, refl)
 
 -- a front of it too
-expression_front_runs : {e : Expression} (inside more : List Symbol) → Derives 6 (inside ++ more) e → RunsTo inside
+expression_front_runs : {e : Expression} (inside more : List Symbol) → Derives any_expression (inside ++ more) e → RunsTo inside
 expression_front_runs inside more d =
     let r = derived_runs d in
     let m = front_ran (expression.run inside whole) (expression.run more) r.left (sym (runs.run_part inside more whole) ∙ r.ran) in
@@ -234,7 +234,7 @@ pub record FindsTooLong (longest : ℕ) (ts : List Symbol) (wants : List Want) (
   pub more : length rest < left
 
 -- this full expression is too long
-pub too_long_here : {e : Expression} (longest : ℕ) (inside more rest : List Symbol) (wants : List Want) → Derives 6 (inside ++ more) e
+pub too_long_here : {e : Expression} (longest : ℕ) (inside more rest : List Symbol) (wants : List Want) → Derives any_expression (inside ++ more) e
     → length inside ≡ suc longest
     → FindsTooLong longest (inside ++ rest) (machine.FullExpression ∷ wants) rest
 too_long_here longest inside more rest wants d h =
@@ -242,7 +242,7 @@ too_long_here longest inside more rest wants d h =
     record { left = suc (length rest); verdict = over_full longest inside rest r.left wants r.ran h; more = omega arith }
 
 -- a full expression on the way is passed, or is too long itself
-pub over_or_past : {e : Expression} (longest : ℕ) (ts : List Symbol) (sign : ℕ) (behind rest : List Symbol) (wants : List Want) → Derives 6 ts e → sign ≢ 91
+pub over_or_past : {e : Expression} (longest : ℕ) (ts : List Symbol) (sign : ℕ) (behind rest : List Symbol) (wants : List Want) → Derives any_expression ts e → sign ≢ 91
     → (length ts ≤ longest) ⊎ (longest < length ts) → length rest ≤ length behind
     → FindsTooLong longest behind wants rest
     → FindsTooLong longest (ts ++ symbols.Sign sign ∷ behind) (machine.FullExpression ∷ Sign sign ∷ wants) rest
@@ -256,7 +256,7 @@ over_or_past {e} longest ts sign behind rest wants d n (inr c) m f =
     let whole_of : front ++ back ≡ ts = take-append-drop (suc longest) ts in
     let many : length front ≡ suc longest = omega (arith, length-take (suc longest) ts, c) in
     let t = too_long_here longest front back (back ++ symbols.Sign sign ∷ behind) (Sign sign ∷ wants)
-    (subst (λ x. Derives 6 x e) (sym whole_of) d) many in
+    (subst (λ x. Derives any_expression x e) (sym whole_of) d) many in
     let same : ts ++ symbols.Sign sign ∷ behind ≡ front ++ (back ++ symbols.Sign sign ∷ behind) =
     ap (λ x. x ++ symbols.Sign sign ∷ behind) (sym whole_of) ∙ append_assoc front back (symbols.Sign sign ∷ behind) in
     record {

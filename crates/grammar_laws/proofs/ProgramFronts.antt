@@ -5,12 +5,12 @@ use Rattle.pipe_model.specs.declared.symbol.Symbol.{Symbol}
 use Rattle.pipe_model.specs.declared.symbol.Symbol.TheVariants as symbols
 use Rattle.pipe_model.specs.declared.tree.Declaration.{Declaration}
 use Rattle.pipe_model.specs.Language.SyntaxTree.{Expression, Statement, Statements}
-use Rattle.pipe_model.specs.Language.Grammar.{Derives, Numeral, Piece, Single, FullExpression, DerivesStatement, LetIs, AssignIs, AssignElementIs, EmitIs, IfIs, WhileIs, WaitIs, WaitNextIs, ContinueIs, ContinueNextIs, DerivesStatements, NoStatement, OneMore, DerivesBlock, BlockIs, DerivesPart, NoPart, PartIs, DerivesSize, NoSize, SizeIs, DerivesValue, ValueIs, NegativeValueIs, DerivesCells, NoCell, CellIs}
+use Rattle.pipe_model.specs.Language.Grammar.{any_expression, Derives, Numeral, Piece, Single, FullExpression, DerivesStatement, LetIs, AssignIs, AssignElementIs, EmitIs, IfIs, WhileIs, WaitIs, WaitNextIs, ContinueIs, ContinueNextIs, DerivesStatements, NoStatement, OneMore, DerivesBlock, BlockIs, DerivesPart, NoPart, PartIs, DerivesSize, NoSize, SizeIs, DerivesValue, ValueIs, NegativeValueIs, DerivesCells, NoCell, CellIs}
 use Rattle.pipe_model.specs.Language.Words.{word_cell, word_pipe_wait, word_pipe_continue, word_let, word_if, word_while, word_emit, minus, open_round, close_round, semicolon, equals, open_square, close_square, open_brace, close_brace}
 use Rattle.grammar_laws.specs.ProgramMachine as machine
 use Rattle.grammar_laws.specs.ProgramMachine.{Want, Sign, Word, AnyName, AnyNumber, Natural, StageNumber, Target, Part, Cells, Size, Value, Move, Takes, Enters, Skips, Refuses, move, statement_move, natural_move, MachineState, Outside, Inside, whole, entered, stepped, step, may_end}
 use Rattle.grammar_laws.specs.ExpressionMachine as expression
-use Rattle.grammar_laws.proofs.ExpressionGrowth.{lifted}
+use Rattle.pipe_model.proofs.Levels.{looser}
 
 -- ---- what spells a list of wants
 pub data Completes : List Want → List Piece → Type 0 where
@@ -20,14 +20,14 @@ pub data Completes : List Want → List Piece → Type 0 where
   OfName : {wants : List Want} {ps : List Piece} (name : List ℕ) → Completes wants ps → Completes (AnyName ∷ wants) (Single (symbols.Name name) ∷ ps)
   OfNumber : {wants : List Want} {ps : List Piece} (n : ℤ) → Completes wants ps → Completes (AnyNumber ∷ wants) (Single (symbols.Number n) ∷ ps)
   OfNatural : {wants : List Want} {ps : List Piece} (n : ℕ) → Completes wants ps → Completes (Natural ∷ wants) (Single (symbols.Number (pos n)) ∷ ps)
-  OfFull : {wants : List Want} {ps : List Piece} {ts : List Symbol} {e : Expression} → Derives 6 ts e → Completes wants ps
+  OfFull : {wants : List Want} {ps : List Piece} {ts : List Symbol} {e : Expression} → Derives any_expression ts e → Completes wants ps
       → Completes (machine.FullExpression ∷ wants) (FullExpression ts ∷ ps)
   OfNoStage : {wants : List Want} {ps : List Piece} → Completes wants ps → Completes (StageNumber ∷ wants) ps
-  OfStage : {wants : List Want} {ps : List Piece} {ts : List Symbol} {e : Expression} → Derives 6 ts e → Completes wants ps
+  OfStage : {wants : List Want} {ps : List Piece} {ts : List Symbol} {e : Expression} → Derives any_expression ts e → Completes wants ps
       → Completes (StageNumber ∷ wants) (FullExpression ts ∷ ps)
-  OfAssign : {wants : List Want} {ps : List Piece} {ts : List Symbol} {e : Expression} → Derives 6 ts e → Completes wants ps
+  OfAssign : {wants : List Want} {ps : List Piece} {ts : List Symbol} {e : Expression} → Derives any_expression ts e → Completes wants ps
       → Completes (Target ∷ wants) (Single equals ∷ FullExpression ts ∷ Single semicolon ∷ ps)
-  OfAssignElement : {wants : List Want} {ps : List Piece} {us ts : List Symbol} {index e : Expression} → Derives 6 us index → Derives 6 ts e
+  OfAssignElement : {wants : List Want} {ps : List Piece} {us ts : List Symbol} {index e : Expression} → Derives any_expression us index → Derives any_expression ts e
       → Completes wants ps
       → Completes (Target ∷ wants)
       (Single open_square ∷ FullExpression us ∷ Single close_square ∷ Single equals ∷ FullExpression ts ∷ Single semicolon ∷ ps)
@@ -53,12 +53,12 @@ one_more AnyNumber wants c = record { pieces = Single (symbols.Number (pos 0)) �
 one_more Natural wants c = record { pieces = Single (symbols.Number (pos 0)) ∷ c.pieces; completes = OfNatural 0 c.completes }
 one_more machine.FullExpression wants c = record {
   pieces = FullExpression (symbols.Number (pos 0) ∷ []) ∷ c.pieces;
-  completes = OfFull (lifted 6 (Numeral (pos 0))) c.completes;
+  completes = OfFull (looser any_expression (omega arith) (Numeral (pos 0))) c.completes;
 }
 one_more StageNumber wants c = record { pieces = c.pieces; completes = OfNoStage c.completes }
 one_more Target wants c = record {
   pieces = Single equals ∷ FullExpression (symbols.Number (pos 0) ∷ []) ∷ Single semicolon ∷ c.pieces;
-  completes = OfAssign (lifted 6 (Numeral (pos 0))) c.completes;
+  completes = OfAssign (looser any_expression (omega arith) (Numeral (pos 0))) c.completes;
 }
 one_more machine.Statements wants c = record { pieces = c.pieces; completes = OfStatements NoStatement c.completes }
 one_more (Part word) wants c = record { pieces = c.pieces; completes = OfPart word NoPart c.completes }
@@ -226,7 +226,7 @@ which_stage word h = elim (cases_eq word 9) [ inl e ↦ inl e | inr e ↦ inr (g
 abbrev MovesBack : Move → Want → Symbol → Type 0
 MovesBack (Takes more) want t = (wants : List Want) (ps : List Piece) → Completes (more ++ wants) ps → Completes (want ∷ wants) (Single t ∷ ps)
 MovesBack Enters want t =
-    (wants : List Want) (ts : List Symbol) (e : Expression) (ps : List Piece) → Derives 6 ts e → Completes wants ps
+    (wants : List Want) (ts : List Symbol) (e : Expression) (ps : List Piece) → Derives any_expression ts e → Completes wants ps
     → Completes (want ∷ wants) (FullExpression ts ∷ ps)
 MovesBack Skips want t = (wants : List Want) (ps : List Piece) → Completes wants ps → Completes (want ∷ wants) ps
 MovesBack Refuses want t = Unit {0}
@@ -332,7 +332,7 @@ abbrev pub Leads : List Want → Symbol → MachineState → Type 0
 Leads wants t (Outside left) = (ps : List Piece) → Completes left ps → Completes wants (Single t ∷ ps)
 Leads wants t (Inside n inner left) =
     (n ≡ 1) × (expression.step whole t ≡ Some inner)
-    × ((ts : List Symbol) (e : Expression) (ps : List Piece) → Derives 6 ts e → Completes left ps → Completes wants (FullExpression ts ∷ ps))
+    × ((ts : List Symbol) (e : Expression) (ps : List Piece) → Derives any_expression ts e → Completes left ps → Completes wants (FullExpression ts ∷ ps))
 
 skipped : (want : Want) (wants : List Want) (t : Symbol) (s : MachineState) → ((ps : List Piece) → Completes wants ps → Completes (want ∷ wants) ps)
     → Leads wants t s → Leads (want ∷ wants) t s
@@ -340,7 +340,7 @@ skipped want wants t (Outside left) f g = λ ps c. f (Single t ∷ ps) (g ps c)
 skipped want wants t (Inside n inner left) f g = (g.0, g.1, λ ts e ps d c. f (FullExpression ts ∷ ps) (g.2 ts e ps d c))
 
 begun : (want : Want) (wants : List Want) (t : Symbol) (s : MachineState) (o : Option (List expression.Want)) → expression.step whole t ≡ o
-    → ((ts : List Symbol) (e : Expression) (ps : List Piece) → Derives 6 ts e → Completes wants ps → Completes (want ∷ wants) (FullExpression ts ∷ ps))
+    → ((ts : List Symbol) (e : Expression) (ps : List Piece) → Derives any_expression ts e → Completes wants ps → Completes (want ∷ wants) (FullExpression ts ∷ ps))
     → entered o wants ≡ Some s → Leads (want ∷ wants) t s
 begun want wants t s None i f h = absurd (cc (h))
 begun want wants t s (Some inner) i f h = let e : Inside 1 inner wants ≡ s = cc (h) in subst (Leads (want ∷ wants) t) e (refl, i, f)

@@ -4,7 +4,7 @@ use Rattle.pipe_model.specs.declared.symbol.Symbol.{Symbol}
 use Rattle.pipe_model.specs.declared.symbol.Symbol.TheVariants as symbols
 use Rattle.pipe_model.specs.declared.tree.Declaration.{Declaration}
 use Rattle.pipe_model.specs.Language.SyntaxTree.{Expression, Statement, Statements, SyntaxTree}
-use Rattle.pipe_model.specs.Language.Grammar.{Derives, Piece, Single, FullExpression, DerivesStatement, LetIs, AssignIs, AssignElementIs, EmitIs, IfIs, WhileIs, WaitIs, WaitNextIs, ContinueIs, ContinueNextIs, DerivesStatements, NoStatement, OneMore, DerivesBlock, BlockIs, DerivesPart, NoPart, PartIs, DerivesSize, NoSize, SizeIs, DerivesValue, ValueIs, NegativeValueIs, DerivesCells, NoCell, CellIs, DerivesProgram, ProgramIs}
+use Rattle.pipe_model.specs.Language.Grammar.{any_expression, Derives, Piece, Single, FullExpression, DerivesStatement, LetIs, AssignIs, AssignElementIs, EmitIs, IfIs, WhileIs, WaitIs, WaitNextIs, ContinueIs, ContinueNextIs, DerivesStatements, NoStatement, OneMore, DerivesBlock, BlockIs, DerivesPart, NoPart, PartIs, DerivesSize, NoSize, SizeIs, DerivesValue, ValueIs, NegativeValueIs, DerivesCells, NoCell, CellIs, DerivesProgram, ProgramIs}
 use Rattle.pipe_model.specs.Language.Words.{word_pipe_while, open_round, close_round, semicolon, equals, close_brace}
 use Rattle.grammar_laws.specs.ProgramMachine as machine
 use Rattle.grammar_laws.specs.ProgramMachine.{Want, Sign, Word, AnyName, AnyNumber, StageNumber, Target, Part, Cells, Size, Value, Takes, Skips, move, program}
@@ -16,9 +16,9 @@ pub data Walks : List Want → List Piece → Type 0 where
       → Walks (want ∷ wants) (Single t ∷ ps)
   LeavesOut : {want : Want} {wants : List Want} {t : Symbol} {ps : List Piece} → move want t ≡ Skips → Walks wants (Single t ∷ ps)
       → Walks (want ∷ wants) (Single t ∷ ps)
-  OverFull : {wants : List Want} {ts : List Symbol} {e : Expression} {ps : List Piece} (sign : ℕ) → sign ≢ 91 → Derives 6 ts e → Walks wants ps
+  OverFull : {wants : List Want} {ts : List Symbol} {e : Expression} {ps : List Piece} (sign : ℕ) → sign ≢ 91 → Derives any_expression ts e → Walks wants ps
       → Walks (machine.FullExpression ∷ Sign sign ∷ wants) (FullExpression ts ∷ Single (symbols.Sign sign) ∷ ps)
-  OverStage : {wants : List Want} {ts : List Symbol} {e : Expression} {ps : List Piece} → Derives 6 ts e → Walks wants ps
+  OverStage : {wants : List Want} {ts : List Symbol} {e : Expression} {ps : List Piece} → Derives any_expression ts e → Walks wants ps
       → Walks (StageNumber ∷ Sign 41 ∷ wants) (FullExpression ts ∷ Single close_round ∷ ps)
 
 -- the pieces begin with a symbol that is not this word, or there are none
@@ -72,15 +72,15 @@ statements_begin NoStatement qs = tt
 statements_begin (OneMore {ps} {qs = ps'} d ds) qs =
     subst (BeginsWithout 14) (sym (append_assoc ps ps' (Single close_brace ∷ qs))) (statement_begins d (ps' ++ Single close_brace ∷ qs))
 
-abbrev before_semicolon : {wants : List Want} {ts : List Symbol} {e : Expression} {ps : List Piece} → Derives 6 ts e → Walks wants ps
+abbrev before_semicolon : {wants : List Want} {ts : List Symbol} {e : Expression} {ps : List Piece} → Derives any_expression ts e → Walks wants ps
     → Walks (machine.FullExpression ∷ Sign 59 ∷ wants) (FullExpression ts ∷ Single semicolon ∷ ps)
 before_semicolon d w = OverFull 59 (λ x. absurd (omega (arith, x))) d w
 
-abbrev before_round : {wants : List Want} {ts : List Symbol} {e : Expression} {ps : List Piece} → Derives 6 ts e → Walks wants ps
+abbrev before_round : {wants : List Want} {ts : List Symbol} {e : Expression} {ps : List Piece} → Derives any_expression ts e → Walks wants ps
     → Walks (machine.FullExpression ∷ Sign 41 ∷ wants) (FullExpression ts ∷ Single close_round ∷ ps)
 before_round d w = OverFull 41 (λ x. absurd (omega (arith, x))) d w
 
-abbrev before_square : {wants : List Want} {ts : List Symbol} {e : Expression} {ps : List Piece} → Derives 6 ts e → Walks wants ps
+abbrev before_square : {wants : List Want} {ts : List Symbol} {e : Expression} {ps : List Piece} → Derives any_expression ts e → Walks wants ps
     → Walks (machine.FullExpression ∷ Sign 93 ∷ wants) (FullExpression ts ∷ Single (symbols.Sign 93) ∷ ps)
 before_square d w = OverFull 93 (λ x. absurd (omega (arith, x))) d w
 

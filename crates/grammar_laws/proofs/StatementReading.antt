@@ -4,7 +4,7 @@ use Rattle.pipe_model.specs.declared.node.Kind.TheVariants as kinds
 use Rattle.pipe_model.specs.declared.symbol.Symbol.{Symbol}
 use Rattle.pipe_model.specs.declared.symbol.Symbol.TheVariants as symbols
 use Rattle.pipe_model.specs.Language.SyntaxTree.{Expression, Statement, Let, Assign, AssignElement, Emit, If, While, Stage, Statements, Then}
-use Rattle.pipe_model.specs.Language.Grammar.{Derives, Piece, Single, FullExpression, flat, DerivesStatement, LetIs, AssignIs, AssignElementIs, EmitIs, IfIs, WhileIs, WaitIs, WaitNextIs, ContinueIs, ContinueNextIs, DerivesStatements, NoStatement, OneMore, DerivesBlock, BlockIs, DerivesPart, NoPart, PartIs}
+use Rattle.pipe_model.specs.Language.Grammar.{any_expression, Derives, Piece, Single, FullExpression, flat, DerivesStatement, LetIs, AssignIs, AssignElementIs, EmitIs, IfIs, WhileIs, WaitIs, WaitNextIs, ContinueIs, ContinueNextIs, DerivesStatements, NoStatement, OneMore, DerivesBlock, BlockIs, DerivesPart, NoPart, PartIs}
 use Rattle.grammar_laws.specs.Reading.{Reads, ReadsChain, ReadsFull, ReadsStatement, ReadsLet, ReadsAssign, ReadsAssignElement, ReadsEmit, ReadsIf, ReadsWhile, ReadsWait, ReadsWaitNext, ReadsContinue, ReadsContinueNext, ReadsStatements, ReadsClose, ReadsOneMore, ReadsBlock, ReadsBraces, ReadsPart, ReadsNoPart, ReadsPartIs, NoWord}
 use Rattle.pipe_model.specs.Language.Spelling.{AreShort}
 use Rattle.pipe_model.specs.Language.Words.{word_pipe_wait, word_pipe_continue, word_let, word_if, word_while, word_emit, open_round, close_round, semicolon, equals, open_square, close_square, open_brace, close_brace}
@@ -24,7 +24,7 @@ pub record TookPieces (Derived : List Piece → Type 0) (longest : ℕ) (ts rest
 pub record TookFull (longest : ℕ) (ts : List Symbol) (e : Expression) (rest : List Symbol) : Type 0 where
   pub taken : List Symbol
   pub split : ts ≡ taken ++ rest
-  pub derived : Derives 6 taken e
+  pub derived : Derives any_expression taken e
   pub short : length taken ≤ longest
 
 -- a full expression that was read is derived
@@ -41,7 +41,7 @@ closed_front front taken close rest ts h =
 
 -- a statement whose only part is an expression between a front and what closes it
 took_simple : {longest : ℕ} {s : Statement} {e : Expression} (front close : List Symbol) (pieces : List Symbol → List Piece) (ts rest : List Symbol)
-    → ((us : List Symbol) → Derives 6 us e → DerivesStatement (pieces us) s)
+    → ((us : List Symbol) → Derives any_expression us e → DerivesStatement (pieces us) s)
     → ((us : List Symbol) → flat (pieces us) ≡ front ++ (us ++ close)) → ((us : List Symbol) → length us ≤ longest → AreShort longest (pieces us))
     → ReadsFull longest ts e (close ++ rest) → TookPieces (λ ps. DerivesStatement ps s) longest (front ++ ts) rest
 took_simple front close pieces ts rest derives same short r =
@@ -176,14 +176,14 @@ mutual
 -- ---- what is derived is read
 
 -- a full expression is read before a sign that is no `[`
-pub found_full : {longest : ℕ} {ts : List Symbol} {e : Expression} (sign : ℕ) (rest : List Symbol) → sign ≢ 91 → Derives 6 ts e → length ts ≤ longest
+pub found_full : {longest : ℕ} {ts : List Symbol} {e : Expression} (sign : ℕ) (rest : List Symbol) → sign ≢ 91 → Derives any_expression ts e → length ts ≤ longest
     → ReadsFull longest (ts ++ symbols.Sign sign ∷ rest) e (symbols.Sign sign ∷ rest)
 found_full {longest} {ts} {e} sign rest h d l =
     let many : length (ts ++ symbols.Sign sign ∷ rest) ≡ length ts + length (symbols.Sign sign ∷ rest) = length-append ts (symbols.Sign sign ∷ rest) in
     record { read = found_before_sign sign rest h d; short = omega (arith, many, l) }
 
 -- whatever is written behind what closes it
-found_here : {longest : ℕ} {ts : List Symbol} {e : Expression} (sign : ℕ) (close rest : List Symbol) → sign ≢ 91 → Derives 6 ts e → length ts ≤ longest
+found_here : {longest : ℕ} {ts : List Symbol} {e : Expression} (sign : ℕ) (close rest : List Symbol) → sign ≢ 91 → Derives any_expression ts e → length ts ≤ longest
     → ReadsFull longest ((ts ++ symbols.Sign sign ∷ close) ++ rest) e (symbols.Sign sign ∷ (close ++ rest))
 found_here {longest} {ts} {e} sign close rest h d l =
     subst (λ x. ReadsFull longest x e (symbols.Sign sign ∷ (close ++ rest))) (sym (append_assoc ts (symbols.Sign sign ∷ close) rest))
@@ -267,7 +267,7 @@ pub one_full : {longest : ℕ} {ts rest rest' : List Symbol} {e e' : Expression}
 one_full r r' = one_reading r.read r'.read
 
 -- no expression begins with a closing round bracket
-begins_no_close : {rank : ℕ} {ts rest : List Symbol} {e : Expression} → Reads rank (close_round ∷ ts) e rest → ⊥
+begins_no_close : {level : ℕ} {ts rest : List Symbol} {e : Expression} → Reads level (close_round ∷ ts) e rest → ⊥
 begins_no_close (ReadsChain r g) = begins_no_close r
 
 mutual

@@ -15,7 +15,7 @@ use Rattle.pipe_model.specs.Language.Lexis.{is_letter, is_digit, is_name_byte, n
 use Rattle.pipe_model.specs.Language.SyntaxTree.{Expression, Or, And, Binary, binary_expression, Statement, Statements, SyntaxTree}
 use Rattle.pipe_model.specs.Language.Tokens.{Scans, Stops, Blank, Comment, Taken, IsTokenWithinBounds, token_at, symbols_in}
 use Rattle.pipe_model.specs.Language.Grammar as grammar
-use Rattle.pipe_model.specs.Language.Grammar.{level_of, rank_of, Derives, Piece, Single, FullExpression, flat, DerivesStatement, DerivesStatements, DerivesBlock, DerivesPart, DerivesSize, DerivesValue, DerivesCells, DerivesProgram}
+use Rattle.pipe_model.specs.Language.Grammar.{any_expression, level_of, Derives, Piece, Single, FullExpression, flat, DerivesStatement, DerivesStatements, DerivesBlock, DerivesPart, DerivesSize, DerivesValue, DerivesCells, DerivesProgram}
 use Rattle.grammar_laws.proofs.Pieces.{flat_append}
 use Rattle.grammar_laws.proofs.TokenLaws.{IsWithinBounds, behind_front, bounded_symbol, name_is_text}
 use Rattle.grammar_laws.proofs.Writings.{IsWritingOf, token_is_symbol}
@@ -107,23 +107,23 @@ good_source source found s = subst AreGood s.same (good_scan source s.lexed.scan
 
 -- ---- expressions
 
--- an operator that has a rank has a code from 1 to 13
-code_range : (code rank : ℕ) → rank_of code ≡ suc rank → suc rank ≤ 6 → (1 ≤ code) × (code ≤ 13)
-code_range zero rank e l = absurd (omega (arith, e, l))
-code_range (suc zero) rank e l = (omega arith, omega arith)
-code_range (suc (suc zero)) rank e l = (omega arith, omega arith)
-code_range (suc (suc (suc zero))) rank e l = (omega arith, omega arith)
-code_range (suc (suc (suc (suc zero)))) rank e l = (omega arith, omega arith)
-code_range (suc (suc (suc (suc (suc zero))))) rank e l = (omega arith, omega arith)
-code_range (suc (suc (suc (suc (suc (suc zero)))))) rank e l = (omega arith, omega arith)
-code_range (suc (suc (suc (suc (suc (suc (suc zero))))))) rank e l = (omega arith, omega arith)
-code_range (suc (suc (suc (suc (suc (suc (suc (suc zero)))))))) rank e l = (omega arith, omega arith)
-code_range (suc (suc (suc (suc (suc (suc (suc (suc (suc zero))))))))) rank e l = (omega arith, omega arith)
-code_range (suc (suc (suc (suc (suc (suc (suc (suc (suc (suc zero)))))))))) rank e l = (omega arith, omega arith)
-code_range (suc (suc (suc (suc (suc (suc (suc (suc (suc (suc (suc zero))))))))))) rank e l = (omega arith, omega arith)
-code_range (suc (suc (suc (suc (suc (suc (suc (suc (suc (suc (suc (suc zero)))))))))))) rank e l = (omega arith, omega arith)
-code_range (suc (suc (suc (suc (suc (suc (suc (suc (suc (suc (suc (suc (suc zero))))))))))))) rank e l = (omega arith, omega arith)
-code_range (suc (suc (suc (suc (suc (suc (suc (suc (suc (suc (suc (suc (suc (suc n)))))))))))))) rank e l = absurd (omega (arith, e, l))
+-- an operator that has a level has a code from 1 to 13
+code_range : (code level : ℕ) → level_of code ≡ level → 1 ≤ level → (1 ≤ code) × (code ≤ 13)
+code_range zero level e l = absurd (omega (arith, e, l))
+code_range (suc zero) level e l = (omega arith, omega arith)
+code_range (suc (suc zero)) level e l = (omega arith, omega arith)
+code_range (suc (suc (suc zero))) level e l = (omega arith, omega arith)
+code_range (suc (suc (suc (suc zero)))) level e l = (omega arith, omega arith)
+code_range (suc (suc (suc (suc (suc zero))))) level e l = (omega arith, omega arith)
+code_range (suc (suc (suc (suc (suc (suc zero)))))) level e l = (omega arith, omega arith)
+code_range (suc (suc (suc (suc (suc (suc (suc zero))))))) level e l = (omega arith, omega arith)
+code_range (suc (suc (suc (suc (suc (suc (suc (suc zero)))))))) level e l = (omega arith, omega arith)
+code_range (suc (suc (suc (suc (suc (suc (suc (suc (suc zero))))))))) level e l = (omega arith, omega arith)
+code_range (suc (suc (suc (suc (suc (suc (suc (suc (suc (suc zero)))))))))) level e l = (omega arith, omega arith)
+code_range (suc (suc (suc (suc (suc (suc (suc (suc (suc (suc (suc zero))))))))))) level e l = (omega arith, omega arith)
+code_range (suc (suc (suc (suc (suc (suc (suc (suc (suc (suc (suc (suc zero)))))))))))) level e l = (omega arith, omega arith)
+code_range (suc (suc (suc (suc (suc (suc (suc (suc (suc (suc (suc (suc (suc zero))))))))))))) level e l = (omega arith, omega arith)
+code_range (suc (suc (suc (suc (suc (suc (suc (suc (suc (suc (suc (suc (suc (suc n)))))))))))))) level e l = absurd (omega (arith, e, l))
 
 joined_writable : (code : ℕ) (a b : Expression) → 1 ≤ code → code ≤ 13 → IsWritable a → IsWritable b → IsWritable (binary_expression code a b)
 joined_writable code a b l h x y = by_code (code == 1) (code == 2) (λ e. grind (arith, nat_tests, e)) (λ e. grind (arith, nat_tests, e))
@@ -134,7 +134,7 @@ joined_writable code a b l h x y = by_code (code == 1) (code == 2) (λ e. grind 
     by_code false false f g = (let m = g refl (f refl) in omega (arith, m), h, x, y)
 
 -- what derives from good symbols can be written
-writable : {rank : ℕ} {ts : List Symbol} {e : Expression} → rank ≤ 6 → Derives rank ts e → AreGood ts → IsWritable e
+writable : {level : ℕ} {ts : List Symbol} {e : Expression} → 1 ≤ level → Derives level ts e → AreGood ts → IsWritable e
 writable l (grammar.Numeral n) g = first g
 writable l (grammar.Named x) g = first g
 writable l (grammar.Indexed {inside} x d) g = (first g, writable (omega arith) d (front inside _ (others (others g))))
@@ -145,11 +145,11 @@ writable l (grammar.Negative d) g = (inl refl, writable (omega arith) d (others 
 writable l (grammar.Not d) g = (inr refl, writable (omega arith) d (others g))
 writable l (grammar.Bracketed {inside} d) g = writable (omega arith) d (front inside _ (others g))
 writable l (grammar.Tighter d) g = writable (omega (arith, l)) d g
-writable l (grammar.Joined {rank} {left} {right} {a} {b} code e x y) g =
-    let c = code_range code rank e l in
+writable l (grammar.Joined {level} {left} {right} {a} {b} code e x y) g =
+    let c = code_range code level e l in
     joined_writable code a b c.0 c.1 (writable l x (front left _ g)) (writable (omega (arith, l)) y (others (back left _ g)))
 
-full : {ts : List Symbol} {e : Expression} → Derives 6 ts e → AreGood ts → IsWritable e
+full : {ts : List Symbol} {e : Expression} → Derives any_expression ts e → AreGood ts → IsWritable e
 full d g = writable (omega arith) d g
 
 -- ---- statements

@@ -1,9 +1,9 @@
 -- Expressions one symbol at a time: what still has to come, and what a symbol does to it. The grammar says what an expression is;
 -- this machine says at which symbol a reader has to stop, and laws in proofs/ tie the two.
-use Rattle.std.specs.Prelude.{◌≡◌, ℕ, List, [], ◌∷◌, ◌++◌, Bool, true, false, ◌==◌, Option, Some, None, ◌&&◌, ◌||◌, if◌then◌else◌, nat_lt, length}
+use Rattle.std.specs.Prelude.{◌≡◌, ℕ, List, [], ◌∷◌, ◌++◌, Bool, true, false, ◌==◌, Option, Some, None, ◌||◌, if◌then◌else◌, nat_lt, length}
 use Rattle.pipe_model.specs.declared.symbol.Symbol.{Symbol}
 use Rattle.pipe_model.specs.declared.symbol.Symbol.TheVariants as symbols
-use Rattle.pipe_model.specs.Language.Grammar.{rank_of}
+use Rattle.pipe_model.specs.Language.Grammar.{level_of}
 
 -- what has to come: this sign, an operand, an index or nothing, or operators that each have an operand or nothing
 pub data Want : Type 0 where
@@ -20,7 +20,7 @@ pub data Move : Type 0 where
 
 -- the code of a two-place operator
 abbrev pub is_operator : ℕ → Bool
-is_operator code = nat_lt 0 (rank_of code) && nat_lt (rank_of code) 7
+is_operator code = nat_lt 0 (level_of code)
 
 -- the word of `more`, `take` or `iter`
 abbrev pub is_call : ℕ → Bool

@@ -7,17 +7,17 @@ use Rattle.pipe_model.specs.declared.symbol.Symbol.{Symbol}
 use Rattle.pipe_model.specs.declared.symbol.Symbol.TheVariants as symbols
 use Rattle.pipe_model.specs.declared.tree.Declaration.{Declaration}
 use Rattle.pipe_model.specs.Language.SyntaxTree.{Expression, Number, Name, Element, Unary, More, Take, Iter, binary_expression, Statement, Let, Assign, AssignElement, Emit, If, While, Stage, NextStage, Statements, Empty, Then, SyntaxTree}
-use Rattle.pipe_model.specs.Language.Grammar.{rank_of, declaration, flat, limits_before}
+use Rattle.pipe_model.specs.Language.Grammar.{any_expression, operand_level, level_of, declaration, flat, limits_before}
 use Rattle.pipe_model.specs.Language.Words.{word_cell, word_pipe_while, word_pipe_wait, word_pipe_continue, word_let, word_if, word_while, word_emit, word_more, word_take, word_iter, minus, exclamation, open_round, close_round, semicolon, equals, open_square, close_square, open_brace, close_brace}
 
--- the rank of the operator at the front, 0 where there is none
-abbrev pub next_rank : List Symbol → ℕ
-next_rank [] = 0
-next_rank (symbols.Name name ∷ ts) = 0
-next_rank (symbols.Word k ∷ ts) = 0
-next_rank (symbols.Number n ∷ ts) = 0
-next_rank (symbols.Operator code ∷ ts) = rank_of code
-next_rank (symbols.Sign b ∷ ts) = 0
+-- the level of the operator at the front, 0 where there is none
+abbrev pub next_level : List Symbol → ℕ
+next_level [] = 0
+next_level (symbols.Name name ∷ ts) = 0
+next_level (symbols.Word k ∷ ts) = 0
+next_level (symbols.Number n ∷ ts) = 0
+next_level (symbols.Operator code ∷ ts) = level_of code
+next_level (symbols.Sign b ∷ ts) = 0
 
 -- this sign does not stand at the front
 abbrev pub NoSign : ℕ → List Symbol → Type 0
@@ -38,29 +38,29 @@ NoWord word (symbols.Operator code ∷ ts) = Unit {0}
 NoWord word (symbols.Sign b ∷ ts) = Unit {0}
 
 mutual
-  -- an expression of the rank stands at the front of the symbols, and the last list is left
+  -- an expression of the level stands at the front of the symbols, and the last list is left
   pub data Reads : ℕ → List Symbol → Expression → List Symbol → Type 0 where
-    ReadsNumeral : (n : ℤ) (rest : List Symbol) → Reads 0 (symbols.Number n ∷ rest) (Number n) rest
-    ReadsName : (name : List ℕ) (rest : List Symbol) → NoSign 91 rest → Reads 0 (symbols.Name name ∷ rest) (Name name) rest
-    ReadsElement : {ts rest : List Symbol} {e : Expression} (name : List ℕ) → Reads 6 ts e (close_square ∷ rest)
-        → Reads 0 (symbols.Name name ∷ open_square ∷ ts) (Element name e) rest
-    ReadsMore : (rest : List Symbol) → Reads 0 (word_more ∷ open_round ∷ close_round ∷ rest) More rest
-    ReadsTake : (rest : List Symbol) → Reads 0 (word_take ∷ open_round ∷ close_round ∷ rest) Take rest
-    ReadsIter : (rest : List Symbol) → Reads 0 (word_iter ∷ open_round ∷ close_round ∷ rest) Iter rest
-    ReadsNegative : {ts rest : List Symbol} {e : Expression} → Reads 0 ts e rest → Reads 0 (minus ∷ ts) (Unary 1 e) rest
-    ReadsNot : {ts rest : List Symbol} {e : Expression} → Reads 0 ts e rest → Reads 0 (exclamation ∷ ts) (Unary 2 e) rest
-    ReadsBracketed : {ts rest : List Symbol} {e : Expression} → Reads 6 ts e (close_round ∷ rest) → Reads 0 (open_round ∷ ts) e rest
-    ReadsChain : {rank : ℕ} {ts mid rest : List Symbol} {a e : Expression} → Reads rank ts a mid → Extends rank a mid e rest → Reads (suc rank) ts e rest
+    ReadsNumeral : (n : ℤ) (rest : List Symbol) → Reads operand_level (symbols.Number n ∷ rest) (Number n) rest
+    ReadsName : (name : List ℕ) (rest : List Symbol) → NoSign 91 rest → Reads operand_level (symbols.Name name ∷ rest) (Name name) rest
+    ReadsElement : {ts rest : List Symbol} {e : Expression} (name : List ℕ) → Reads any_expression ts e (close_square ∷ rest)
+        → Reads operand_level (symbols.Name name ∷ open_square ∷ ts) (Element name e) rest
+    ReadsMore : (rest : List Symbol) → Reads operand_level (word_more ∷ open_round ∷ close_round ∷ rest) More rest
+    ReadsTake : (rest : List Symbol) → Reads operand_level (word_take ∷ open_round ∷ close_round ∷ rest) Take rest
+    ReadsIter : (rest : List Symbol) → Reads operand_level (word_iter ∷ open_round ∷ close_round ∷ rest) Iter rest
+    ReadsNegative : {ts rest : List Symbol} {e : Expression} → Reads operand_level ts e rest → Reads operand_level (minus ∷ ts) (Unary 1 e) rest
+    ReadsNot : {ts rest : List Symbol} {e : Expression} → Reads operand_level ts e rest → Reads operand_level (exclamation ∷ ts) (Unary 2 e) rest
+    ReadsBracketed : {ts rest : List Symbol} {e : Expression} → Reads any_expression ts e (close_round ∷ rest) → Reads operand_level (open_round ∷ ts) e rest
+    ReadsChain : {level : ℕ} {ts mid rest : List Symbol} {a e : Expression} → Reads (suc level) ts a mid → Extends level a mid e rest → Reads level ts e rest
 
-  -- operators one rank looser, each with its operand, extend the expression, as long as there are any
+  -- operators of the level, each with its right side, extend the expression, as long as there are any
   pub data Extends : ℕ → Expression → List Symbol → Expression → List Symbol → Type 0 where
-    Ends : {rank : ℕ} {a : Expression} (ts : List Symbol) → next_rank ts ≢ suc rank → Extends rank a ts a ts
-    Joins : {rank : ℕ} {a b e : Expression} {ts mid rest : List Symbol} (code : ℕ) → rank_of code ≡ suc rank → Reads rank ts b mid
-        → Extends rank (binary_expression code a b) mid e rest → Extends rank a (symbols.Operator code ∷ ts) e rest
+    Ends : {level : ℕ} {a : Expression} (ts : List Symbol) → next_level ts ≢ level → Extends level a ts a ts
+    Joins : {level : ℕ} {a b e : Expression} {ts mid rest : List Symbol} (code : ℕ) → level_of code ≡ level → Reads (suc level) ts b mid
+        → Extends level (binary_expression code a b) mid e rest → Extends level a (symbols.Operator code ∷ ts) e rest
 
 -- a full expression of at most so many symbols
 pub record ReadsFull (longest : ℕ) (ts : List Symbol) (e : Expression) (rest : List Symbol) : Type 0 where
-  pub read : Reads 6 ts e rest
+  pub read : Reads any_expression ts e rest
   pub short : length ts ≤ length rest + longest
 
 mutual

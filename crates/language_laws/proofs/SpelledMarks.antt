@@ -8,7 +8,7 @@ use Rattle.pipe_model.specs.declared.tree.Declaration.{Declaration}
 use Rattle.pipe_model.specs.Language.Marks as marks
 use Rattle.pipe_model.specs.Language.Marks.{Scope, Occurrence, Mark, opening, after_statement, after_block, marks_of_expression, marks_of_statement, marks_of_statements, marks_of_cells, marks_of}
 use Rattle.pipe_model.specs.Language.SyntaxTree.{Expression, And, Or, Binary, binary_expression, Statement, Statements, SyntaxTree}
-use Rattle.pipe_model.specs.Language.Grammar.{Derives, Numeral, Named, Indexed, CallsMore, CallsTake, CallsIter, Negative, Not, Bracketed, Tighter, Joined, Piece, Single, flat, DerivesStatement, LetIs, AssignIs, AssignElementIs, EmitIs, IfIs, WhileIs, WaitIs, WaitNextIs, ContinueIs, ContinueNextIs, DerivesStatements, NoStatement, OneMore, DerivesBlock, BlockIs, DerivesPart, NoPart, PartIs, DerivesSize, NoSize, SizeIs, DerivesValue, ValueIs, NegativeValueIs, declaration, DerivesCells, NoCell, CellIs, DerivesProgram, ProgramIs}
+use Rattle.pipe_model.specs.Language.Grammar.{any_expression, Derives, Numeral, Named, Indexed, CallsMore, CallsTake, CallsIter, Negative, Not, Bracketed, Tighter, Joined, Piece, Single, flat, DerivesStatement, LetIs, AssignIs, AssignElementIs, EmitIs, IfIs, WhileIs, WaitIs, WaitNextIs, ContinueIs, ContinueNextIs, DerivesStatements, NoStatement, OneMore, DerivesBlock, BlockIs, DerivesPart, NoPart, PartIs, DerivesSize, NoSize, SizeIs, DerivesValue, ValueIs, NegativeValueIs, declaration, DerivesCells, NoCell, CellIs, DerivesProgram, ProgramIs}
 use Rattle.pipe_model.specs.Language.Words.{semicolon, equals, close_round, close_square, close_brace}
 use Rattle.grammar_laws.proofs.Pieces.{flat_append}
 
@@ -84,7 +84,7 @@ joined_texts code scope a b = by_code (code == 1) (code == 2)
     by_code false false = refl
 
 -- the marks of an expression
-expression_texts : {rank : ℕ} {ts : List Symbol} {e : Expression} (scope : Scope) → Derives rank ts e → texts_of (marks_of_expression scope e) ≡ texts_in ts
+expression_texts : {level : ℕ} {ts : List Symbol} {e : Expression} (scope : Scope) → Derives level ts e → texts_of (marks_of_expression scope e) ≡ texts_in ts
 expression_texts scope (Numeral n) = refl
 expression_texts scope (Named x) = refl
 expression_texts scope (Indexed {inside} x d) = ap (λ r. NameText x ∷ r) (expression_texts scope d ∙ sym (quiet_end inside (close_square ∷ []) refl))
@@ -95,17 +95,17 @@ expression_texts scope (Negative d) = expression_texts scope d
 expression_texts scope (Not d) = expression_texts scope d
 expression_texts scope (Bracketed {inside} d) = expression_texts scope d ∙ sym (quiet_end inside (close_round ∷ []) refl)
 expression_texts scope (Tighter d) = expression_texts scope d
-expression_texts scope (Joined {rank} {left} {right} {a} {b} code e x y) =
+expression_texts scope (Joined {level} {left} {right} {a} {b} code e x y) =
     joined_texts code scope a b
     ∙ of_both (marks_of_expression scope a) (marks_of_expression scope b) left (symbols.Operator code ∷ right)
     (expression_texts scope x) (expression_texts scope y)
 
 -- an expression before symbols that are no marks, and before other marks
-last_texts : {ts : List Symbol} {e : Expression} (scope : Scope) (us : List Symbol) → Derives 6 ts e → texts_in us ≡ []
+last_texts : {ts : List Symbol} {e : Expression} (scope : Scope) (us : List Symbol) → Derives any_expression ts e → texts_in us ≡ []
     → texts_of (marks_of_expression scope e) ≡ texts_in (ts ++ us)
 last_texts {ts} scope us d h = expression_texts scope d ∙ sym (quiet_end ts us h)
 
-front_texts : {ts : List Symbol} {e : Expression} (scope : Scope) (ms : List Mark) (us : List Symbol) → Derives 6 ts e → texts_of ms ≡ texts_in us
+front_texts : {ts : List Symbol} {e : Expression} (scope : Scope) (ms : List Mark) (us : List Symbol) → Derives any_expression ts e → texts_of ms ≡ texts_in us
     → texts_of (marks_of_expression scope e ++ ms) ≡ texts_in (ts ++ us)
 front_texts {ts} {e} scope ms us d h = of_both (marks_of_expression scope e) ms ts us (expression_texts scope d) h
 

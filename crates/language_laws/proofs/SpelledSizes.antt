@@ -7,7 +7,7 @@ use Rattle.pipe_model.specs.declared.symbol.Symbol.{Symbol}
 use Rattle.pipe_model.specs.declared.symbol.Symbol.TheVariants as symbols
 use Rattle.pipe_model.specs.Language.SpellablePrograms.{node_count, expressions_of_statement, expressions_of_statements, statement_count, statement_counts, expressions_of}
 use Rattle.pipe_model.specs.Language.SyntaxTree.{Expression, And, Or, Binary, binary_expression, Statement, Statements, SyntaxTree}
-use Rattle.pipe_model.specs.Language.Grammar.{Derives, Numeral, Named, Indexed, CallsMore, CallsTake, CallsIter, Negative, Not, Bracketed, Tighter, Joined, Piece, Single, FullExpression, flat, DerivesStatement, LetIs, AssignIs, AssignElementIs, EmitIs, IfIs, WhileIs, WaitIs, WaitNextIs, ContinueIs, ContinueNextIs, DerivesStatements, NoStatement, OneMore, DerivesBlock, BlockIs, DerivesPart, NoPart, PartIs, DerivesProgram, ProgramIs, limits_before}
+use Rattle.pipe_model.specs.Language.Grammar.{any_expression, Derives, Numeral, Named, Indexed, CallsMore, CallsTake, CallsIter, Negative, Not, Bracketed, Tighter, Joined, Piece, Single, FullExpression, flat, DerivesStatement, LetIs, AssignIs, AssignElementIs, EmitIs, IfIs, WhileIs, WaitIs, WaitNextIs, ContinueIs, ContinueNextIs, DerivesStatements, NoStatement, OneMore, DerivesBlock, BlockIs, DerivesPart, NoPart, PartIs, DerivesProgram, ProgramIs, limits_before}
 use Rattle.pipe_model.specs.Language.Spelling.{AreShort}
 use Rattle.pipe_model.specs.Language.Words.{close_round, close_square}
 use Rattle.grammar_laws.proofs.Pieces.{flat_append, short_front, short_back}
@@ -23,7 +23,7 @@ joined_nodes code a b = by_code (code == 1) (code == 2)
     by_code false false = refl
 
 -- an expression has no more nodes than symbols
-pub nodes_within : {rank : ℕ} {ts : List Symbol} {e : Expression} → Derives rank ts e → node_count e ≤ length ts
+pub nodes_within : {level : ℕ} {ts : List Symbol} {e : Expression} → Derives level ts e → node_count e ≤ length ts
 nodes_within (Numeral n) = omega arith
 nodes_within (Named x) = omega arith
 nodes_within (Indexed {inside} x d) =
@@ -40,7 +40,7 @@ nodes_within (Bracketed {inside} d) =
     let many = length-append inside (close_round ∷ []) in
     omega (arith, few, many)
 nodes_within (Tighter d) = nodes_within d
-nodes_within (Joined {rank} {left} {right} {a} {b} code e x y) =
+nodes_within (Joined {level} {left} {right} {a} {b} code e x y) =
     let all = joined_nodes code a b in
     let few = nodes_within x in
     let fewer = nodes_within y in
@@ -68,7 +68,7 @@ plain t m = record { nodes = (let x = m.nodes in omega (arith, x)); few = (let x
 one : {ps : List Piece} {es : List Expression} {n : ℕ} (t : Symbol) → Measured ps es n → Measured (Single t ∷ ps) es (1 + n)
 one t m = record { nodes = (let x = m.nodes in omega (arith, x)); few = (let x = m.few in omega (arith, x)); short = m.short }
 
-full : {ps : List Piece} {es : List Expression} {n : ℕ} {ts : List Symbol} {e : Expression} → Derives 6 ts e → Measured ps es n
+full : {ps : List Piece} {es : List Expression} {n : ℕ} {ts : List Symbol} {e : Expression} → Derives any_expression ts e → Measured ps es n
     → Measured (FullExpression ts ∷ ps) (e ∷ es) n
 full {ps} {es} {n} {ts} {e} d m =
     let size = nodes_within d in

@@ -1,17 +1,17 @@
 //! The text of expressions.
 
 ghost use Rattle.std.specs.Prelude.{◌≡◌, ◌+◌, ◌++◌, codes, OnOk};
-ghost use Rattle.pipe_model.specs.Language.CanonicalText.{at_level, expression_text, level_in, one_place_text, operator_text, tightest};
+ghost use Rattle.pipe_model.specs.Language.CanonicalText.{at_level, expression_text, level_in, one_place_text, operator_text};
 ghost use Rattle.pipe_model.specs.Language.SyntaxTree.{expression_of};
-ghost use Rattle.pipe_model.specs.Language.Grammar.{level_of};
+ghost use Rattle.pipe_model.specs.Language.Grammar.{level_of, operand_level};
 
 use crate::text::push_number;
 use pipe_model::memory::NoMemory;
 use pipe_model::name::Name;
 use pipe_model::tree::Expr;
 
-/// The level that binds more tightly than each two-place operator.
-const TIGHTEST: u8 = 7;
+/// The level of operands, which bind more tightly than each two-place operator.
+const OPERAND_LEVEL: u8 = 7;
 
 macro_rules! level_by_code {
     (($code:expr) $($row:literal $symbol:literal $length:literal $level:literal;)*) => {
@@ -58,7 +58,7 @@ fn level_in(e: &Expr) -> u8
 {
     match e {
         Expr::Binary(code, _, _) => level_of(*code),
-        _ => TIGHTEST,
+        _ => OPERAND_LEVEL,
     }
 }
 
@@ -108,7 +108,7 @@ pub fn push_expression(text: &mut Vec<u8>, e: &Expr) -> Result<(), NoMemory>
         }
         Expr::Unary(code, operand) => {
             text.extend_from_slice(one_place_symbol(*code))?;
-            push_at_level(text, TIGHTEST, operand)
+            push_at_level(text, OPERAND_LEVEL, operand)
         }
         Expr::More => Ok(text.extend_from_slice(b"more()")?),
         Expr::Take => Ok(text.extend_from_slice(b"take()")?),

@@ -1,4 +1,5 @@
 pub mod CellAccesses
+pub mod Levels
 pub mod Members
 pub mod NestedBlocks
 pub mod RacesByCell

@@ -14,6 +14,7 @@ use Rattle.grammar_laws.proofs.ExpressionWindows.{reads_more, stuck_more}
 use Rattle.grammar_laws.proofs.FullExpressions.{stuck_full, over_full}
 use Rattle.grammar_laws.proofs.ProgramFaults.{derived_runs}
 use Rattle.pipe_parser.specs.ExpressionFaults.{whole}
+use Rattle.pipe_model.specs.Language.Grammar.{any_expression}
 
 -- what is wanted where a full expression is
 abbrev full : List machine.Want
@@ -31,7 +32,7 @@ over ts left l r = record {
 }
 
 -- an expression that takes the whole window
-pub window_read : (ts rest : List Symbol) (e : Expression) → 256 < length ts → Reads 6 (take 257 ts) e rest → length rest ≡ 0
+pub window_read : (ts rest : List Symbol) (e : Expression) → 256 < length ts → Reads any_expression (take 257 ts) e rest → length rest ≡ 0
     → IsRejected 256 full ts (machine.TooLong (length ts - 257 + 1))
 window_read ts rest e l r h =
     let t = sound r in
@@ -71,7 +72,7 @@ stuck_in_window ts left l p s =
     record { refused = λ below. stuck_full 256 ts (left + length (drop 257 ts)) below all (omega (arith, length-drop 257 ts, l, p)) ∙ ap machine.Unexpected many }
 
 -- an expression that ends in the window
-pub read_in_window : (ts rest : List Symbol) (e : Expression) → 256 < length ts → Reads 6 (take 257 ts) e rest → 0 < length rest
+pub read_in_window : (ts rest : List Symbol) (e : Expression) → 256 < length ts → Reads any_expression (take 257 ts) e rest → 0 < length rest
     → ReadsFull 256 ts e (drop (257 - length rest) ts)
 read_in_window ts rest e l r p =
     let t = sound r in
@@ -82,7 +83,7 @@ read_in_window ts rest e l r p =
     let behind : drop (257 - length rest) ts ≡ rest ++ drop 257 ts =
     ap (λ n. drop n ts) (sym many) ∙ ap (drop (length t.taken)) all ∙ drop-append_seam t.taken (rest ++ drop 257 ts) in
     record {
-      read = subst (λ x. Reads 6 ts e x) (sym behind)
-          (subst (λ x. Reads 6 x e (rest ++ drop 257 ts)) (take-append-drop 257 ts) (reads_more r (λ h. absurd (omega (arith, p, ap length h))) (drop 257 ts)));
+      read = subst (λ x. Reads any_expression ts e x) (sym behind)
+          (subst (λ x. Reads any_expression x e (rest ++ drop 257 ts)) (take-append-drop 257 ts) (reads_more r (λ h. absurd (omega (arith, p, ap length h))) (drop 257 ts)));
       short = omega (arith, length-drop (257 - length rest) ts, p);
     }

@@ -6,6 +6,7 @@ use Rattle.pipe_model.specs.Language.SyntaxTree.{Expression, Unary}
 use Rattle.grammar_laws.specs.Reading.{Reads}
 use Rattle.pipe_parser.specs.declared.fault.ExpressionFault.{ExpressionFault}
 use Rattle.pipe_parser.specs.declared.fault.ExpressionFault.TheVariants as faults
+use Rattle.pipe_model.specs.Language.Grammar.{operand_level}
 
 -- the fault of reading what is wanted from the symbols
 abbrev pub ExpressionStops : List Want → List Symbol → ExpressionFault → Type 0
@@ -23,5 +24,5 @@ closed sign = Operand ∷ Tail ∷ Sign sign ∷ []
 -- an operand behind a one-place operator
 pub record ReadsUnary (code : ℕ) (ts : List Symbol) (e : Expression) (rest : List Symbol) : Type 0 where
   pub inner : Expression
-  pub reads : Reads 0 ts inner rest
+  pub reads : Reads operand_level ts inner rest
   pub is : e ≡ Unary code inner

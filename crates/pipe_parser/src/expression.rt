@@ -4,8 +4,8 @@ ghost use Rattle.std.specs.Prelude.{◌≡◌, ◌∷◌, [], ◌<◌, ◌≤◌
 ghost use Rattle.pipe_model.specs.declared.symbol.Symbol.TheVariants as terminals;
 ghost use Rattle.grammar_laws.specs.ExpressionMachine.{Sign, Operand, Index, Tail};
 ghost use Rattle.pipe_model.specs.Language.SyntaxTree.{expression_of};
-ghost use Rattle.pipe_model.specs.Language.Grammar.{rank_of};
-ghost use Rattle.grammar_laws.specs.Reading.{Reads, Extends, next_rank};
+ghost use Rattle.pipe_model.specs.Language.Grammar.{any_expression, operand_level, level_of};
+ghost use Rattle.grammar_laws.specs.Reading.{Reads, Extends, next_level};
 ghost use Rattle.pipe_parser.specs.ExpressionFaults.{ExpressionStops, whole, closed, ReadsUnary};
 
 use crate::fault::ExpressionFault;
@@ -18,35 +18,38 @@ use std::alloc::{AllocError, Global};
 /// What a reader takes from the front of symbols, and what it leaves.
 pub type Read<'a, T> = Result<(T, Symbols<'a>), ExpressionFault>;
 
-/// The rank of an expression whose operators may be of any rank.
-pub const LOOSEST: u8 = 6;
+/// The level of any expression: that of the operator that binds most loosely.
+pub const ANY_EXPRESSION: u8 = 1;
 
-macro_rules! rank_by_code {
+/// The level of operands, which bind more tightly than each two-place operator.
+const OPERAND: u8 = 7;
+
+macro_rules! level_by_code {
     (($code:expr) $($row:literal $symbol:literal $length:literal $level:literal;)*) => {
         match $code {
-            $($row => 7 - $level,)*
-            _ => 7,
+            $($row => $level,)*
+            _ => 0,
         }
     };
 }
 
-/// How loosely the two-place operator of a code binds, from 1 for the tightest to 6; 7 where no operator has the code.
-fn rank_of(code: u8) -> u8
-    ensures { result ≡ rank_of code }
+/// The level of the two-place operator of a code, from 1 to 6; 0 where no operator has the code.
+fn level_of(code: u8) -> u8
+    ensures { result ≡ level_of code }
 {
-    op_table::operators!(rank_by_code, code)
+    op_table::operators!(level_by_code, code)
 }
 
-/// An operator of the rank at the front, and what stands behind it.
-fn operator_of_rank<'a>(symbols: &Symbols<'a>, rank: u8) -> Option<(u8, Symbols<'a>)>
-    requires { 0 < rank }
-    ensures some { IfSome result (λ r. (symbols.now ≡ terminals.Operator r.0 ∷ r.1) × (rank_of r.0 ≡ rank)) }
-    ensures none { IfNone result (next_rank symbols.now ≢ rank) }
+/// An operator of the level at the front, and the symbols after it.
+fn operator_of_level<'a>(symbols: &Symbols<'a>, level: u8) -> Option<(u8, Symbols<'a>)>
+    requires { 0 < level }
+    ensures some { IfSome result (λ r. (symbols.now ≡ terminals.Operator r.0 ∷ r.1) × (level_of r.0 ≡ level)) }
+    ensures none { IfNone result (next_level symbols.now ≢ level) }
 {
     let first = symbols.first()?;
     match first.kind {
         TokenKind::Operator(code) => {
-            if rank_of(code) == rank {
+            if level_of(code) == level {
                 Some((code, first.behind))
             } else {
                 None
@@ -87,7 +90,7 @@ fn read_call<'a>(e: Expr, symbols: &Symbols<'a>) -> Read<'a, Expr>
 /// Reads an operand.
 #[cycle(expression)]
 fn read_operand<'a>(alloc: Global, symbols: &Symbols<'a>) -> Read<'a, Expr>
-    ensures ok { IfOk result (λ r. Reads 0 symbols.now (expression_of r.0) r.1) }
+    ensures ok { IfOk result (λ r. Reads operand_level symbols.now (expression_of r.0) r.1) }
     ensures err { IfErr result (λ fault. ExpressionStops (Operand ∷ []) symbols.now fault) }
     ensures shorter { IfOk result (λ r. length r.1 < length symbols.now) }
 {
@@ -110,11 +113,11 @@ fn read_operand<'a>(alloc: Global, symbols: &Symbols<'a>) -> Read<'a, Expr>
 /// Reads an expression and the sign that closes it.
 #[cycle(expression)]
 fn read_closed<'a>(alloc: Global, sign: u8, symbols: &Symbols<'a>) -> Read<'a, Expr>
-    ensures ok { IfOk result (λ r. Reads 6 symbols.now (expression_of r.0) (terminals.Sign sign ∷ r.1)) }
+    ensures ok { IfOk result (λ r. Reads any_expression symbols.now (expression_of r.0) (terminals.Sign sign ∷ r.1)) }
     ensures err { IfErr result (λ fault. ExpressionStops (closed sign) symbols.now fault) }
     ensures shorter { IfOk result (λ r. length r.1 < length symbols.now) }
 {
-    let (e, rest) = read_expression(alloc, LOOSEST, symbols)?;
+    let (e, rest) = read_expression(alloc, ANY_EXPRESSION, symbols)?;
     let rest = expect_sign(&rest, sign)?;
     Ok((e, rest))
 }
@@ -122,7 +125,7 @@ fn read_closed<'a>(alloc: Global, sign: u8, symbols: &Symbols<'a>) -> Read<'a, E
 /// Goes on behind a name: an index may follow.
 #[cycle(expression)]
 fn read_named<'a>(alloc: Global, name: &[u8], symbols: Symbols<'a>) -> Read<'a, Expr>
-    ensures ok { IfOk result (λ r. Reads 0 (terminals.Name name.now ∷ symbols.entry) (expression_of r.0) r.1) }
+    ensures ok { IfOk result (λ r. Reads operand_level (terminals.Name name.now ∷ symbols.entry) (expression_of r.0) r.1) }
     ensures err { IfErr result (λ fault. ExpressionStops (Index ∷ []) symbols.entry fault) }
     ensures shorter { IfOk result (λ r. length r.1 ≤ length symbols.entry) }
 {
@@ -147,25 +150,26 @@ fn read_unary<'a>(alloc: Global, code: u8, symbols: &Symbols<'a>) -> Read<'a, Ex
     Ok((Expr::Unary(code, boxed(alloc, e)?), rest))
 }
 
-/// Reads an expression of the rank.
+/// Reads an expression of the level.
 #[cycle(expression)]
-pub fn read_expression<'a>(alloc: Global, rank: u8, symbols: &Symbols<'a>) -> Read<'a, Expr>
-    requires { rank ≤ 6 }
-    ensures ok { IfOk result (λ r. Reads rank symbols.now (expression_of r.0) r.1) }
+pub fn read_expression<'a>(alloc: Global, level: u8, symbols: &Symbols<'a>) -> Read<'a, Expr>
+    requires from { any_expression ≤ level }
+    requires to { level ≤ operand_level }
+    ensures ok { IfOk result (λ r. Reads level symbols.now (expression_of r.0) r.1) }
     ensures err { IfErr result (λ fault. ExpressionStops whole symbols.now fault) }
     ensures shorter { IfOk result (λ r. length r.1 < length symbols.now) }
 {
-    if rank == 0 {
+    if level == OPERAND {
         return first_operand(alloc, symbols);
     }
-    let (first, rest) = read_expression(alloc, rank - 1, symbols)?;
-    extend(alloc, rank - 1, first, rest)
+    let (first, rest) = read_expression(alloc, level + 1, symbols)?;
+    extend(alloc, level, first, rest)
 }
 
 /// Reads the first operand of an expression.
 #[cycle(expression)]
 fn first_operand<'a>(alloc: Global, symbols: &Symbols<'a>) -> Read<'a, Expr>
-    ensures ok { IfOk result (λ r. Reads 0 symbols.now (expression_of r.0) r.1) }
+    ensures ok { IfOk result (λ r. Reads operand_level symbols.now (expression_of r.0) r.1) }
     ensures err { IfErr result (λ fault. ExpressionStops whole symbols.now fault) }
     ensures shorter { IfOk result (λ r. length r.1 < length symbols.now) }
 {
@@ -173,18 +177,19 @@ fn first_operand<'a>(alloc: Global, symbols: &Symbols<'a>) -> Read<'a, Expr>
     Ok((e, rest))
 }
 
-/// Extends an expression by the operators one rank looser that follow, each with its operand.
+/// Extends an expression by the operators of the level that follow, each with its right side.
 #[cycle(expression)]
-fn extend<'a>(alloc: Global, rank: u8, first: Expr, symbols: Symbols<'a>) -> Read<'a, Expr>
-    requires { rank < 6 }
-    ensures ok { IfOk result (λ r. Extends rank (expression_of first) symbols.entry (expression_of r.0) r.1) }
+fn extend<'a>(alloc: Global, level: u8, first: Expr, symbols: Symbols<'a>) -> Read<'a, Expr>
+    requires from { any_expression ≤ level }
+    requires to { level < operand_level }
+    ensures ok { IfOk result (λ r. Extends level (expression_of first) symbols.entry (expression_of r.0) r.1) }
     ensures err { IfErr result (λ fault. ExpressionStops (Tail ∷ []) symbols.entry fault) }
     ensures shorter { IfOk result (λ r. length r.1 ≤ length symbols.entry) }
 {
     let mut joined = first;
     let mut rest = symbols;
-    while let Some((code, behind)) = operator_of_rank(&rest, rank + 1) {
-        let (second, after) = read_expression(alloc, rank, &behind)?;
+    while let Some((code, behind)) = operator_of_level(&rest, level) {
+        let (second, after) = read_expression(alloc, level + 1, &behind)?;
         joined = Expr::Binary(code, boxed(alloc, joined)?, boxed(alloc, second)?);
         rest = after;
     }

@@ -6,7 +6,7 @@ ghost use Rattle.pipe_model.specs.Language.SyntaxTree.{expression_of};
 ghost use Rattle.grammar_laws.specs.Reading.{ReadsFull};
 ghost use Rattle.pipe_parser.specs.SyntaxFaults.{SyntaxStops};
 
-use crate::expression::{LOOSEST, read_expression};
+use crate::expression::{ANY_EXPRESSION, read_expression};
 use crate::fault::{ExpressionFault, SyntaxFault};
 use crate::symbols::Symbols;
 use pipe_model::tree::Expr;
@@ -28,7 +28,7 @@ pub fn read_full<'a>(alloc: Global, symbols: &Symbols<'a>) -> Parsed<'a, Expr>
     if LONGEST < symbols.len() {
         return read_in_window(alloc, symbols);
     }
-    match read_expression(alloc, LOOSEST, symbols) {
+    match read_expression(alloc, ANY_EXPRESSION, symbols) {
         Ok((e, rest)) => Ok((e, rest)),
         Err(ExpressionFault::Unexpected(left)) => Err(SyntaxFault::Unexpected(left)),
         Err(ExpressionFault::NoMemory) => Err(SyntaxFault::NoMemory),
@@ -44,7 +44,7 @@ fn read_in_window<'a>(alloc: Global, symbols: &Symbols<'a>) -> Parsed<'a, Expr>
 {
     let more = symbols.len() - (LONGEST + 1);
     let window = symbols.front(LONGEST + 1);
-    match read_expression(alloc, LOOSEST, &window) {
+    match read_expression(alloc, ANY_EXPRESSION, &window) {
         Ok((e, rest)) => {
             if rest.len() == 0 {
                 return Err(SyntaxFault::TooLong(more + 1));

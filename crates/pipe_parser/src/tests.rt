@@ -453,7 +453,7 @@ fn tested(alloc: Global, test: &str) -> Result<Expr, Fail> {
 }
 
 #[test]
-fn groups_operators_from_the_left_and_by_rank(rt: HostRuntime) -> Result<(), Fail> {
+fn groups_operators_from_the_left_and_by_level(rt: HostRuntime) -> Result<(), Fail> {
     let test = tested(rt.alloc(), "1 + n + 2 < 3")?;
     let Expr::Binary(5, sum, most) = &test else {
         return Err("no comparison")?;

@@ -9,7 +9,7 @@ use Rattle.pipe_model.specs.declared.tree.Declaration.{Declaration}
 use Rattle.pipe_model.specs.declared.tree.Limits.{Limits}
 use Rattle.pipe_model.specs.Language.Lexis.{operators}
 use Rattle.pipe_model.specs.Language.SyntaxTree.{Expression, Number, Name, Element, And, Or, Binary, Unary, More, Take, Iter, Statement, Let, Assign, AssignElement, Emit, If, While, Stage, NextStage, Statements, Empty, Then, SyntaxTree}
-use Rattle.pipe_model.specs.Language.Grammar.{level_of}
+use Rattle.pipe_model.specs.Language.Grammar.{level_of, operand_level}
 
 -- ---- expressions
 
@@ -21,22 +21,18 @@ operator_text code = slice_index_or ([] ∷ operators) code []
 abbrev pub one_place_text : ℕ → List ℕ
 one_place_text code = if code == 1 then codes "-" else codes "!"
 
--- the level that binds more tightly than each two-place operator
-abbrev pub tightest : ℕ
-tightest = 7
-
 -- how tightly an expression holds together: as its two-place operator binds, if it is one
 abbrev pub level_in : Expression → ℕ
 level_in (Or a b) = level_of 1
 level_in (And a b) = level_of 2
 level_in (Binary code a b) = level_of code
-level_in (Number n) = tightest
-level_in (Name x) = tightest
-level_in (Element x i) = tightest
-level_in (Unary code a) = tightest
-level_in More = tightest
-level_in Take = tightest
-level_in Iter = tightest
+level_in (Number n) = operand_level
+level_in (Name x) = operand_level
+level_in (Element x i) = operand_level
+level_in (Unary code a) = operand_level
+level_in More = operand_level
+level_in Take = operand_level
+level_in Iter = operand_level
 
 -- a text where a certain level is needed: in round brackets where its own is lower
 abbrev pub at_level : (needed own : ℕ) → List ℕ → List ℕ
@@ -55,7 +51,7 @@ expression_text (Element x i) = x ++ (codes "[" ++ (expression_text i ++ codes "
 expression_text (Or a b) = two_place 1 (level_in a) (level_in b) (expression_text a) (expression_text b)
 expression_text (And a b) = two_place 2 (level_in a) (level_in b) (expression_text a) (expression_text b)
 expression_text (Binary code a b) = two_place code (level_in a) (level_in b) (expression_text a) (expression_text b)
-expression_text (Unary code a) = one_place_text code ++ at_level tightest (level_in a) (expression_text a)
+expression_text (Unary code a) = one_place_text code ++ at_level operand_level (level_in a) (expression_text a)
 expression_text More = codes "more()"
 expression_text Take = codes "take()"
 expression_text Iter = codes "iter()"

@@ -1,7 +1,7 @@
 -- The grammar of the whole language: which symbols derive which expression, and which pieces derive which statements and program,
 -- one constructor a line of the grammar. A piece is one symbol, or the symbols of a full expression: one that is no part of another.
 -- The bounds on brackets and on full expressions stand beside the grammar (Spelling), not in it.
-use Rattle.std.specs.Prelude.{◌≡◌, ℕ, suc, ◌-◌, ℤ, pos, List, [], ◌∷◌, ◌++◌, slice_index, Option, Some, None}
+use Rattle.std.specs.Prelude.{◌≡◌, ℕ, suc, ℤ, pos, List, [], ◌∷◌, ◌++◌, slice_index, Option, Some, None}
 use Rattle.std.proofs.Math.IntN.{neg_ℤ}
 use Rattle.pipe_model.specs.declared.node.Kind.TheVariants as kinds
 use Rattle.pipe_model.specs.declared.symbol.Symbol.{Symbol}
@@ -14,26 +14,30 @@ use Rattle.pipe_model.specs.Language.Words.{word_limits, word_iterations, word_s
 abbrev pub level_of : ℕ → ℕ
 level_of code = slice_index (0 ∷ 1 ∷ 2 ∷ 3 ∷ 3 ∷ 4 ∷ 4 ∷ 4 ∷ 4 ∷ 5 ∷ 5 ∷ 6 ∷ 6 ∷ 6 ∷ []) code
 
--- how loosely an operator binds, from 1 for the tightest to 6 for the loosest, and 7 for no operator
-abbrev pub rank_of : ℕ → ℕ
-rank_of code = 7 - level_of code
+-- the level of an operand, which binds more tightly than each two-place operator
+abbrev pub operand_level : ℕ
+operand_level = 7
 
--- the symbols derive the expression at a rank: an operand at rank 0, and at a higher rank operands of the rank below with
--- operators of this rank between them, which group from the left
+-- the level of any expression: that of the operator that binds most loosely
+abbrev pub any_expression : ℕ
+any_expression = 1
+
+-- the symbols derive the expression at a level: an operand at the level of operands, and at a lower level expressions of the
+-- next level with operators of this level between them, which group from the left
 pub data Derives : ℕ → List Symbol → Expression → Type 0 where
-  Numeral : (n : ℤ) → Derives 0 (symbols.Number n ∷ []) (Number n)
-  Named : (name : List ℕ) → Derives 0 (symbols.Name name ∷ []) (Name name)
-  Indexed : {inside : List Symbol} {e : Expression} (name : List ℕ) → Derives 6 inside e
-      → Derives 0 (symbols.Name name ∷ open_square ∷ (inside ++ close_square ∷ [])) (Element name e)
-  CallsMore : Derives 0 (word_more ∷ open_round ∷ close_round ∷ []) More
-  CallsTake : Derives 0 (word_take ∷ open_round ∷ close_round ∷ []) Take
-  CallsIter : Derives 0 (word_iter ∷ open_round ∷ close_round ∷ []) Iter
-  Negative : {ts : List Symbol} {e : Expression} → Derives 0 ts e → Derives 0 (minus ∷ ts) (Unary 1 e)
-  Not : {ts : List Symbol} {e : Expression} → Derives 0 ts e → Derives 0 (exclamation ∷ ts) (Unary 2 e)
-  Bracketed : {inside : List Symbol} {e : Expression} → Derives 6 inside e → Derives 0 (open_round ∷ (inside ++ close_round ∷ [])) e
-  Tighter : {rank : ℕ} {ts : List Symbol} {e : Expression} → Derives rank ts e → Derives (suc rank) ts e
-  Joined : {rank : ℕ} {left right : List Symbol} {a b : Expression} (code : ℕ) → rank_of code ≡ suc rank
-      → Derives (suc rank) left a → Derives rank right b → Derives (suc rank) (left ++ symbols.Operator code ∷ right) (binary_expression code a b)
+  Numeral : (n : ℤ) → Derives operand_level (symbols.Number n ∷ []) (Number n)
+  Named : (name : List ℕ) → Derives operand_level (symbols.Name name ∷ []) (Name name)
+  Indexed : {inside : List Symbol} {e : Expression} (name : List ℕ) → Derives any_expression inside e
+      → Derives operand_level (symbols.Name name ∷ open_square ∷ (inside ++ close_square ∷ [])) (Element name e)
+  CallsMore : Derives operand_level (word_more ∷ open_round ∷ close_round ∷ []) More
+  CallsTake : Derives operand_level (word_take ∷ open_round ∷ close_round ∷ []) Take
+  CallsIter : Derives operand_level (word_iter ∷ open_round ∷ close_round ∷ []) Iter
+  Negative : {ts : List Symbol} {e : Expression} → Derives operand_level ts e → Derives operand_level (minus ∷ ts) (Unary 1 e)
+  Not : {ts : List Symbol} {e : Expression} → Derives operand_level ts e → Derives operand_level (exclamation ∷ ts) (Unary 2 e)
+  Bracketed : {inside : List Symbol} {e : Expression} → Derives any_expression inside e → Derives operand_level (open_round ∷ (inside ++ close_round ∷ [])) e
+  Tighter : {level : ℕ} {ts : List Symbol} {e : Expression} → Derives (suc level) ts e → Derives level ts e
+  Joined : {level : ℕ} {left right : List Symbol} {a b : Expression} (code : ℕ) → level_of code ≡ level
+      → Derives level left a → Derives (suc level) right b → Derives level (left ++ symbols.Operator code ∷ right) (binary_expression code a b)
 
 -- a piece of a program
 pub data Piece : Type 0 where
@@ -49,24 +53,24 @@ flat (FullExpression ts ∷ ps) = ts ++ flat ps
 mutual
   -- a statement
   pub data DerivesStatement : List Piece → Statement → Type 0 where
-    LetIs : {ts : List Symbol} {e : Expression} (name : List ℕ) → Derives 6 ts e
+    LetIs : {ts : List Symbol} {e : Expression} (name : List ℕ) → Derives any_expression ts e
         → DerivesStatement (Single word_let ∷ Single (symbols.Name name) ∷ Single equals ∷ FullExpression ts ∷ Single semicolon ∷ []) (Let name e)
-    AssignIs : {ts : List Symbol} {e : Expression} (name : List ℕ) → Derives 6 ts e
+    AssignIs : {ts : List Symbol} {e : Expression} (name : List ℕ) → Derives any_expression ts e
         → DerivesStatement (Single (symbols.Name name) ∷ Single equals ∷ FullExpression ts ∷ Single semicolon ∷ []) (Assign name e)
-    AssignElementIs : {us ts : List Symbol} {index e : Expression} (name : List ℕ) → Derives 6 us index → Derives 6 ts e
+    AssignElementIs : {us ts : List Symbol} {index e : Expression} (name : List ℕ) → Derives any_expression us index → Derives any_expression ts e
         → DerivesStatement
         (Single (symbols.Name name) ∷ Single open_square ∷ FullExpression us ∷ Single close_square ∷ Single equals ∷ FullExpression ts ∷ Single semicolon ∷ [])
         (AssignElement name index e)
-    EmitIs : {ts : List Symbol} {e : Expression} → Derives 6 ts e
+    EmitIs : {ts : List Symbol} {e : Expression} → Derives any_expression ts e
         → DerivesStatement (Single word_emit ∷ FullExpression ts ∷ Single semicolon ∷ []) (Emit e)
-    IfIs : {ts : List Symbol} {ps qs : List Piece} {e : Expression} {a b : Statements} → Derives 6 ts e → DerivesBlock ps a → DerivesPart 14 qs b
+    IfIs : {ts : List Symbol} {ps qs : List Piece} {e : Expression} {a b : Statements} → Derives any_expression ts e → DerivesBlock ps a → DerivesPart 14 qs b
         → DerivesStatement (Single word_if ∷ Single open_round ∷ FullExpression ts ∷ Single close_round ∷ (ps ++ qs)) (If e a b)
-    WhileIs : {ts : List Symbol} {ps : List Piece} {e : Expression} {a : Statements} → Derives 6 ts e → DerivesBlock ps a
+    WhileIs : {ts : List Symbol} {ps : List Piece} {e : Expression} {a : Statements} → Derives any_expression ts e → DerivesBlock ps a
         → DerivesStatement (Single word_while ∷ Single open_round ∷ FullExpression ts ∷ Single close_round ∷ ps) (While e a)
-    WaitIs : {ts : List Symbol} {e : Expression} → Derives 6 ts e
+    WaitIs : {ts : List Symbol} {e : Expression} → Derives any_expression ts e
         → DerivesStatement (Single word_pipe_wait ∷ Single open_round ∷ FullExpression ts ∷ Single close_round ∷ Single semicolon ∷ []) (Stage kinds.Wait e)
     WaitNextIs : DerivesStatement (Single word_pipe_wait ∷ Single open_round ∷ Single close_round ∷ Single semicolon ∷ []) (NextStage kinds.Wait)
-    ContinueIs : {ts : List Symbol} {e : Expression} → Derives 6 ts e
+    ContinueIs : {ts : List Symbol} {e : Expression} → Derives any_expression ts e
         → DerivesStatement (Single word_pipe_continue ∷ Single open_round ∷ FullExpression ts ∷ Single close_round ∷ Single semicolon ∷ [])
         (Stage kinds.Continue e)
     ContinueNextIs : DerivesStatement (Single word_pipe_continue ∷ Single open_round ∷ Single close_round ∷ Single semicolon ∷ [])
@@ -118,7 +122,7 @@ limits_before iterations stages steps emits ps =
 -- a program: limits, cells, what runs before the loop, the loop with its test and body, and what runs after it
 pub data DerivesProgram : List Piece → SyntaxTree → Type 0 where
   ProgramIs : {cs is bs ls : List Piece} {ts : List Symbol} {cells : List Declaration} {init body last : Statements} {test : Expression}
-      (iterations stages steps emits : ℤ) → DerivesCells cs cells → DerivesPart 7 is init → Derives 6 ts test → DerivesBlock bs body → DerivesPart 11 ls last
+      (iterations stages steps emits : ℤ) → DerivesCells cs cells → DerivesPart 7 is init → Derives any_expression ts test → DerivesBlock bs body → DerivesPart 11 ls last
       → DerivesProgram
       (limits_before iterations stages steps emits
       (cs ++ (is ++ Single word_pipe_while ∷ Single open_round ∷ FullExpression ts ∷ Single close_round ∷ (bs ++ ls))))

@@ -1,10 +1,9 @@
-use Rattle.std.proofs.Common.{rules, length, ◌≡◌, ◌∙◌, ◌-◌, suc, arith, subst, w64, ◌∷◌, ap}
+use Rattle.std.proofs.Common.{rules, length, ◌≡◌, ◌∙◌, ◌+◌, suc, arith, subst, w64, ◌∷◌, ap}
 use mir.Val.{SFits}
 use Rattle.std.proofs.lemmas.Result.{err_from_is_err_and}
 use Rattle.std.proofs.lemmas.Int.{to_z-of_z}
 use Rattle.pipe_model.specs.declared.symbol.Symbol.TheVariants as terminals
 use Rattle.grammar_laws.specs.Reading.{Reads, ReadsChain, Ends}
-use Rattle.pipe_model.specs.Language.Grammar.{rank_of}
 use Rattle.pipe_model.specs.Language.SyntaxTree.{expression_of}
 use Rattle.pipe_parser.proofs.ExpressionFronts.{fault_chained, fault_closed, joins, passes_join, name_read, element_read, number_read, more_read, take_read, iter_read, negative_read, not_read, bracket_read}
 use Rattle.pipe_parser.proofs.Results.{if_ok, if_err}
@@ -13,18 +12,20 @@ use Rattle.pipe_parser.proofs.expression.+expression.Goals as goal
 pub extend-loop-code-preserved : goal.extend-loop-code-preserved
 extend-loop-code-preserved t c =
     let front = c.in-Some.ensures.some in
-    let rank : rank_of c.in-Some.code ≡ suc c.args.rank = omega (arith, front.1) in
+    let next : c.args.level + 1 ≡ suc c.args.level = omega arith in
+    let right : Reads (suc c.args.level) c.in-Some.behind (expression_of c.in_ok-second.second) c.in_ok-second.after =
+    subst (λ level. Reads level c.in-Some.behind (expression_of c.in_ok-second.second) c.in_ok-second.after) next c.in_ok-second.ensures.ok in
     rw (c.in_ok-boxed.ensures, c.in_ok-boxed-2.ensures) (record {
       extends = λ e end g. c.loop-code.invariant.extends e end
-          (joins c.args.rank c.in-Some.code _ _ e c.loop-code.rest c.in-Some.behind c.in_ok-second.after end front.0 rank c.in_ok-second.ensures.ok g);
+          (joins c.args.level c.in-Some.code _ _ e c.loop-code.rest c.in-Some.behind c.in_ok-second.after end front.0 front.1 right g);
       passes = λ below. c.loop-code.invariant.passes below
-          ∙ passes_join c.args.rank c.in-Some.code _ c.loop-code.rest c.in-Some.behind c.in_ok-second.after c.requires front.0 rank c.in_ok-second.ensures.ok below;
+          ∙ passes_join c.args.level c.in-Some.code _ c.loop-code.rest c.in-Some.behind c.in_ok-second.after c.requires.from front.0 front.1 right below;
       shorter = omega (arith, c.loop-code.invariant.shorter, c.in_ok-second.ensures.shorter, ap length front.0);
     })
 
 pub extend-returns-clause-ok : goal.extend-returns-clause-ok
 extend-returns-clause-ok t c =
-    c.loop-code.invariant.extends _ _ (Ends c.loop-code.rest (λ e. c.in_default.ensures.none (e ∙ omega arith)))
+    c.loop-code.invariant.extends _ _ (Ends c.loop-code.rest (λ e. c.in_default.ensures.none e))
 
 pub read_closed-returns-in_err-rest-clause-err : goal.read_closed-returns-in_err-rest-clause-err
 read_closed-returns-in_err-rest-clause-err t c =
@@ -33,12 +34,14 @@ read_closed-returns-in_err-rest-clause-err t c =
 
 pub read_expression-returns-clause-ok : goal.read_expression-returns-clause-ok
 read_expression-returns-clause-ok t c =
-    let up : suc (c.args.rank - 1) ≡ c.args.rank = omega arith in
-    if_ok _ _ c.extend.result (λ x g. subst (λ r. Reads r c.args.symbols.now (expression_of x.0) x.1) up (ReadsChain c.in_ok-first.ensures.ok g)) c.extend.ensures.ok
+    let next : c.args.level + 1 ≡ suc c.args.level = omega arith in
+    let first : Reads (suc c.args.level) c.args.symbols.now (expression_of c.in_ok-first.first) c.in_ok-first.rest =
+    subst (λ level. Reads level c.args.symbols.now (expression_of c.in_ok-first.first) c.in_ok-first.rest) next c.in_ok-first.ensures.ok in
+    if_ok _ _ c.extend.result (λ x g. ReadsChain first g) c.extend.ensures.ok
 
 pub read_expression-returns-clause-err : goal.read_expression-returns-clause-err
 read_expression-returns-clause-err t c =
-    if_err _ _ c.extend.result (λ x g. fault_chained (c.args.rank - 1) _ _ _ (omega arith) c.in_ok-first.ensures.ok x g) c.extend.ensures.err
+    if_err _ _ c.extend.result (λ x g. fault_chained (c.args.level + 1) _ _ _ (omega arith) c.in_ok-first.ensures.ok x g) c.extend.ensures.err
 
 pub read_named-returns-in_ok-boxed-in-Some-clause-ok : goal.read_named-returns-in_ok-boxed-in-Some-clause-ok
 read_named-returns-in_ok-boxed-in-Some-clause-ok t c =

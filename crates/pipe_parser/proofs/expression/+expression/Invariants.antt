@@ -1,4 +1,4 @@
-use Rattle.std.proofs.Common.{length, ◌+◌, ◌*◌, ◌≤◌, ◌≡◌, List, ◌∷◌}
+use Rattle.std.proofs.Common.{length, ◌+◌, ◌-◌, ◌*◌, ◌≤◌, ◌≡◌, List, ◌∷◌}
 use Rattle.pipe_model.specs.declared.symbol.Symbol.{Symbol}
 use Rattle.grammar_laws.specs.ExpressionMachine.{Want, Tail, ending}
 use Rattle.pipe_model.specs.Language.SyntaxTree.{Expression, expression_of}
@@ -9,7 +9,7 @@ abbrev pub decreases-extend : goal.decreases-extend
 decreases-extend l = 32 * length l.symbols
 
 abbrev pub decreases-read_expression : goal.decreases-read_expression
-decreases-read_expression l = 32 * length l.symbols.now + 2 * l.rank + 4
+decreases-read_expression l = 32 * length l.symbols.now + 2 * (7 - l.level) + 4
 
 abbrev pub decreases-first_operand : goal.decreases-first_operand
 decreases-first_operand l = 32 * length l.symbols.now + 2
@@ -29,8 +29,8 @@ decreases-read_unary l = 32 * length l.symbols.now + 1
 -- whatever extends what was joined extends the first
 abbrev pub invariant-extend-loop-code : goal.invariant-extend-loop-code
 invariant-extend-loop-code l = record {
-  extends : (e : Expression) (end : List Symbol) → Extends l.fn.rank (expression_of l.joined) l.rest e end
-      → Extends l.fn.rank (expression_of l.initial.joined) l.initial.rest e end;
+  extends : (e : Expression) (end : List Symbol) → Extends l.fn.level (expression_of l.joined) l.rest e end
+      → Extends l.fn.level (expression_of l.initial.joined) l.initial.rest e end;
   passes : (below : List Want) → ending l.initial.rest (Tail ∷ below) ≡ ending l.rest (Tail ∷ below);
   shorter : length l.rest ≤ length l.initial.rest;
 }
