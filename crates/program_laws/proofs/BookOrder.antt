@@ -22,7 +22,8 @@ use Rattle.pipe_model.specs.Runs.State.{Frame, State, enter_pending, frame_at, n
 use Rattle.pipe_model.specs.declared.status.Status.{Status}
 use Rattle.pipe_model.specs.declared.status.Status.TheVariants.{Running, Pending, Completed}
 use Rattle.pipe_model.specs.Orders.Starts.{started_by}
-use Rattle.pipe_model.specs.Runs.TicketLogs.{BookEntry, end_ticket, end_tickets, if_ticket, start_ticket, start_tickets, ticket_at}
+use Rattle.pipe_model.specs.Runs.TicketLogs.{end_ticket, end_tickets, if_ticket, start_ticket, start_tickets, ticket_at}
+use Rattle.pipe_model.specs.declared.ticket.BookEntry.{BookEntry}
 use Rattle.run_laws.proofs.ListOrders.JoinedPlaces.{last_up_to_found}
 use Rattle.run_laws.proofs.ListOrders.LeftParents.{left_is}
 use Rattle.run_laws.proofs.ListOrders.StartsOfRuns.{IsStartSound, grew_begin, grew_enter, sound_step}

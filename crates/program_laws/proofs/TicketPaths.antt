@@ -6,7 +6,9 @@ use Rattle.pipe_model.specs.declared.node.NodeId.{NodeId}
 use Rattle.pipe_model.specs.Races.Columns.{AreColumns}
 use Rattle.pipe_model.specs.Races.Dag.{Edge, DownEdge, AcrossEdge, Precedes, ByEdge, ByPath}
 use Rattle.pipe_model.specs.Orders.LeftParent.{joined_at, left_parent}
-use Rattle.pipe_model.specs.Runs.TicketLogs.{BookEntry, ShardEntry, TimedAction}
+use Rattle.pipe_model.specs.Runs.TicketLogs.{TimedAction}
+use Rattle.pipe_model.specs.declared.ticket.BookEntry.{BookEntry}
+use Rattle.pipe_model.specs.declared.ticket.ShardEntry.{ShardEntry}
 use Rattle.run_laws.proofs.ListOrders.JoinedPlaces.{reach_here, reach_left}
 use Rattle.run_laws.proofs.ListOrders.PrecedingPlaces.{below_path}
 use Rattle.run_laws.proofs.ListOrders.Reach.{reach}

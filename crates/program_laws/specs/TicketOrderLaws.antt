@@ -6,7 +6,9 @@ use Rattle.pipe_model.specs.Races.Columns.{AreColumns}
 use Rattle.pipe_model.specs.Runs.ControlRun.{ControlRun}
 use Rattle.pipe_model.specs.Races.Dag.{Precedes}
 use Rattle.pipe_model.specs.Runs.State.{State, own_columns}
-use Rattle.pipe_model.specs.Runs.TicketLogs.{BookEntry, InTicketOrder, ShardEntry, TimedAction}
+use Rattle.pipe_model.specs.Runs.TicketLogs.{InTicketOrder, TimedAction}
+use Rattle.pipe_model.specs.declared.ticket.BookEntry.{BookEntry}
+use Rattle.pipe_model.specs.declared.ticket.ShardEntry.{ShardEntry}
 use Rattle.pipe_model.specs.Runs.TicketOrder.{InstancesAreOrdered, StartsAfterEnd, TicketsAreInOrder, TicketsRiseInLogs, start_ticket_of}
 
 -- tickets that are in order have the order that the merge of the logs requires

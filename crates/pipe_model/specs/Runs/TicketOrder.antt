@@ -3,7 +3,9 @@ use Rattle.std.specs.Prelude.{◌≡◌, ◌<◌, ◌+◌, ℕ, suc, List, Optio
 use Rattle.pipe_model.specs.declared.node.Node.{Node}
 use Rattle.pipe_model.specs.Orders.LeftParent.{left_parent}
 use Rattle.pipe_model.specs.Races.DeterminacyRaces.{Among}
-use Rattle.pipe_model.specs.Runs.TicketLogs.{BookEntry, ShardEntry, TimedAction, TicketsRise, start_tickets, end_tickets, ticket_at}
+use Rattle.pipe_model.specs.Runs.TicketLogs.{TimedAction, TicketsRise, start_tickets, end_tickets, ticket_at}
+use Rattle.pipe_model.specs.declared.ticket.BookEntry.{BookEntry}
+use Rattle.pipe_model.specs.declared.ticket.ShardEntry.{ShardEntry}
 
 -- the ticket at which instance k of iteration i started, if it has started
 abbrev pub start_ticket_of : List BookEntry → ℕ → ℕ → Option ℕ
