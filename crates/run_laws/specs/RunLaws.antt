@@ -1,5 +1,5 @@
 -- Laws of runs: what every run keeps, that it goes on, and that it comes to an end.
-use Rattle.std.specs.Prelude.{List, ℕ, [], suc, ◌∷◌, length, ◌≡◌, ◌+◌, ◌≤◌, ◌<◌, false, ◌≢◌, ◌⊎◌, zero, ◌*◌, ◌↔◌}
+use Rattle.std.specs.Prelude.{List, ℕ, suc, length, ◌≡◌, ◌+◌, ◌≤◌, ◌<◌, false, ◌≢◌, ◌⊎◌, zero, ◌*◌, ◌↔◌}
 use Rattle.pipe_model.specs.Runs.Allowed.{Allowed}
 use Rattle.pipe_model.specs.Races.Columns.{IsRising, nodes_at}
 use Rattle.pipe_model.specs.Pipelines.Pipeline.{Pipeline, IsWellFormed, AlwaysClosesLoop, HasBoundedWork}
