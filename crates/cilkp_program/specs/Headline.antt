@@ -25,7 +25,7 @@ pub record IsToRun (words : List (List ℕ)) (content : Content) (tree : SyntaxT
 pub record MeetsHeadline (tree : SyntaxTree) (limit : ℕ) (log : RunLog) (reports : List Report) (status : ℕ) (text : List ℕ) : Type 0 where
   -- the log tells a finished run of the program on its input, with the run's own columns
   pub run : IsFinishedRun (pipeline_of tree []) limit log
-  -- a cell is reported exactly when two conflicting accesses to it are parallel in the run's own dag
+  -- a cell has a report exactly if two conflicting accesses to it are parallel in the run's own dag; it has at most one, and the reports rise by cell
   pub reported : AreRight (columns_after log.events) (accesses_after log.events) reports
   -- no cell is reported exactly when the dag of the serial elision has no race
   pub silent : (reports ≡ []) ↔ ElisionHasNoRace tree

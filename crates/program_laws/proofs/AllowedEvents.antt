@@ -1,4 +1,4 @@
--- The next event of each iteration, told by tests, is what is allowed.
+-- An event is allowed exactly if it is the next event of an iteration or the beginning of the next iteration.
 use Rattle.std.proofs.Common.{◌≡◌, ◌≢◌, ◌∙◌, sym, ap, subst, refl, ℕ, ℤ, zero, suc, List, [], ◌∷◌, ◌++◌, Bool, true, false, not, inl, inr, ◌<ℤ◌, ◌-◌, length, nat_lt, Option, Some, None, arith, ◌&&◌, ◌||◌}
 use Rattle.std.specs.Prelude.{int_lt}
 use Rattle.std.proofs.lemmas.Bool.{cases_Bool, lt-ltb, ltb-true}
@@ -23,7 +23,7 @@ use Rattle.run_laws.proofs.RunStates.Progress.{LegalNow, AllLegal, run_legal}
 use Rattle.pipe_model.specs.Runs.NextEvents.{has_passed, frame_has_passed, left_has_passed, may_enter, continues_loop, frame_continues_loop, event_of_behaviour, event_if, event_of_status, event_of_frame, next_event, next_begin}
 use Rattle.program_laws.specs.ScheduleLaws.{AllowedEventsAreNext, IsNext}
 
--- ---- tests
+-- ---- the tests of `NextEvents` and the propositions of `Allowed`
 
 pub int_lt_from_test : (a b : ℤ) → int_lt a b ≡ true → a <ℤ b
 int_lt_from_test a b t = grind (arith, ints)
@@ -36,7 +36,6 @@ both_true true true e = (refl, refl)
 both_true true false e = absurd (cc)
 both_true false b e = absurd (cc)
 
--- the test of passing
 pub passed_from_test : (w : Status) (nodes : List Node) (n : ℤ) → has_passed w nodes n ≡ true → HasPassed w nodes n
 passed_from_test Running nodes n e = int_lt_from_test n (node_at nodes (length nodes - 1)).number e
 passed_from_test (Pending k m) nodes n e = int_lt_from_test n m e
@@ -69,33 +68,31 @@ enter_to_test fs i Zero n h = refl
 enter_to_test fs i Wait n h = left_passed_to_test fs i n (h refl)
 enter_to_test fs i Continue n h = refl
 
--- the test of going on
-or_tells : (a b : Bool) → (not a || b) ≡ true → a ≡ true → b ≡ true
-or_tells true b e t = e
-or_tells false b e t = absurd (cc)
+or_from_test : (a b : Bool) → (not a || b) ≡ true → a ≡ true → b ≡ true
+or_from_test true b e t = e
+or_from_test false b e t = absurd (cc)
 
-or_told : (a b : Bool) → (a ≡ true → b ≡ true) → (not a || b) ≡ true
-or_told true b h = h refl
-or_told false b h = refl
+or_to_test : (a b : Bool) → (a ≡ true → b ≡ true) → (not a || b) ≡ true
+or_to_test true b h = h refl
+or_to_test false b h = refl
 
 pub continues_from_test : (w : Status) (nodes : List Node) → continues_loop w nodes ≡ true → ContinuesLoop w nodes
 continues_from_test Running nodes e = ltb-true 1 (length nodes) e
 continues_from_test (Pending k m) nodes e = tt
-continues_from_test (Completed d) nodes e = λ t. ltb-true 1 (length nodes) (or_tells (closes_at_once d) (nat_lt 1 (length nodes)) e t)
+continues_from_test (Completed d) nodes e = λ t. ltb-true 1 (length nodes) (or_from_test (closes_at_once d) (nat_lt 1 (length nodes)) e t)
 
 pub continues_to_test : (w : Status) (nodes : List Node) → ContinuesLoop w nodes → continues_loop w nodes ≡ true
 continues_to_test Running nodes g = lt-ltb 1 (length nodes) g
 continues_to_test (Pending k m) nodes g = refl
-continues_to_test (Completed d) nodes g = or_told (closes_at_once d) (nat_lt 1 (length nodes)) (λ t. lt-ltb 1 (length nodes) (g t))
+continues_to_test (Completed d) nodes g = or_to_test (closes_at_once d) (nat_lt 1 (length nodes)) (λ t. lt-ltb 1 (length nodes) (g t))
 
 -- ---- the running instance
 
--- the next event of an iteration that runs
 pub event_at_running : (p : Pipeline) (s : State) (i : ℕ) (r : IsRunning s i)
     → next_event p s i ≡ Some (event_of_behaviour p (p.preamble ++ accesses_of s.accesses) i (behaviour_after_all (p.behaviour i) r.frame.trace))
 event_at_running p s i r = ap (event_of_frame p s i) r.is ∙ ap (λ w. event_of_status p s i w r.frame.trace) r.runs
 
--- a read that is offered is the read of the cell's value
+-- the only read that the behaviour offers has the value of its cell as reply
 offered_read : (p : Pipeline) (before : List Cell_access) (i c : ℕ) (v : ℤ) (a : Cell_access) → a ≡ read_access c v → HasReply p.store before a
     → Access i (read_access c (value_after p.store before c)) ≡ Access i a
 offered_read p before i c v a e h =
@@ -141,7 +138,6 @@ begin_is_next limit s i m =
             let place : i ≡ suc (length s.frames - 1) = omega (arith, long, number) in
             continues_to_test f.status f.nodes (m.follows (length s.frames - 1) f place e)
 
--- what is allowed is next
 pub allowed_is_next : (p : Pipeline) (limit : ℕ) (s : State) (e : Event) → e ≢ Stop → Allowed p limit s e → IsNext p limit s e
 allowed_is_next p limit s (Begin i) apart h = inr (begin_is_next limit s i h.control)
 allowed_is_next p limit s (Access i a) apart h =
@@ -176,14 +172,14 @@ allowed_is_next p limit s Stop apart h = absurd (apart refl)
 
 -- ---- from next to allowed
 
--- what the behaviour offers the program offers
+-- the program part offers the next action of the behaviour
 offered_at : (p : Pipeline) (s : State) (i : ℕ) (r : IsRunning s i) (x : Action) (d : Behaviour)
     → behaviour_after_all (p.behaviour i) r.frame.trace ≡ d → Offers d x → OffersAt p s i x
 offered_at p s i r x d e o =
     subst (λ (h : List Action). Offers (behaviour_after_all (p.behaviour i) h) x) (sym (ap trace_in r.is))
     (subst (λ c. Offers c x) (sym e) o)
 
--- the running instance may go on
+-- the next action of a running instance is allowed
 pub offered_is_allowed : (p : Pipeline) (limit : ℕ) (s : State) (i : ℕ) (d : Behaviour) → s.stopped ≡ false
     → (r : IsRunning s i) → behaviour_after_all (p.behaviour i) r.frame.trace ≡ d → (first : Bool)
     → (first ≡ true → length r.frame.nodes ≡ 1) → HasLegalStages first (last_node r.frame.nodes).number d
@@ -198,7 +194,6 @@ offered_is_allowed p limit s i (Staging k n d) going r e first one l =
 offered_is_allowed p limit s i (Ending f) going r e first one l =
     record { going = going; control = record { running = r; first = λ q. one (l q) }; program = offered_at p s i r (Ended f) (Ending f) e refl }
 
--- the event of a status is allowed
 pub event_is_allowed : (p : Pipeline) (limit : ℕ) (s : State) (i : ℕ) (f : Frame) (e : Event) → s.stopped ≡ false → AllLegal p s.frames
     → frame_at s.frames i ≡ Some f → (w : Status) → f.status ≡ w → event_of_status p s i w f.trace ≡ Some e → Allowed p limit s e
 event_is_allowed p limit s i f e going legal is Running runs q =
@@ -218,7 +213,6 @@ event_is_allowed p limit s i f e going legal is (Pending k n) runs q = by_test (
     by_test false t q = absurd (cc)
 event_is_allowed p limit s i f e going legal is (Completed d) runs q = absurd (cc)
 
--- the beginning is allowed
 pub begin_is_allowed : (p : Pipeline) (limit : ℕ) (s : State) (e : Event) → s.stopped ≡ false → next_begin limit s ≡ Some e → Allowed p limit s e
 begin_is_allowed p limit s e going q =
     by_test (nat_lt (alive s) limit && frame_continues_loop (frame_at s.frames (length s.frames - 1))) refl q
@@ -242,7 +236,6 @@ begin_is_allowed p limit s e going q =
         })
     by_test false t q = absurd (cc)
 
--- what is next is allowed
 pub next_is_allowed : (p : Pipeline) (limit : ℕ) (s : State) (e : Event) → s.stopped ≡ false → AllLegal p s.frames → IsNext p limit s e → Allowed p limit s e
 next_is_allowed p limit s e going legal (inl n) = by_frame (frame_at s.frames n.0) refl n.1
   where
@@ -251,7 +244,6 @@ next_is_allowed p limit s e going legal (inl n) = by_frame (frame_at s.frames n.
     by_frame (Some f) is q = event_is_allowed p limit s n.0 f e going legal is f.status refl q
 next_is_allowed p limit s e going legal (inr b) = begin_is_allowed p limit s e going b
 
--- the law of next events
 pub allowed_events_are_next : AllowedEventsAreNext
 allowed_events_are_next p limit events s e r well going apart =
     (allowed_is_next p limit s e apart, next_is_allowed p limit s e going (run_legal well r))

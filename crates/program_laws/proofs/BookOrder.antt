@@ -1,4 +1,4 @@
--- The tickets of a book rise, so its instances are in order along their parents.
+-- If the tickets of a book rise, its instances are ordered along their parents.
 use Rattle.std.proofs.Common.{◌≢◌, ◌≡◌, ◌∙◌, sym, ap, subst, refl, ℕ, ℤ, zero, suc, List, [], ◌∷◌, ◌++◌, Bool, true, false, inl, inr, ◌⊎◌, ◌<◌, ◌+◌, ◌-◌, ◌==◌, length, map, Option, Some, None, arith, slice_index_or, append-nil}
 use Rattle.std.specs.Prelude.{AllPairs}
 use Rattle.std.proofs.lemmas.Bool.{cases_lt, eqb-true}
@@ -28,6 +28,7 @@ use Rattle.run_laws.proofs.ListOrders.JoinedPlaces.{last_up_to_found}
 use Rattle.run_laws.proofs.ListOrders.LeftParents.{left_is}
 use Rattle.run_laws.proofs.ListOrders.StartsOfRuns.{IsStartSound, grew_begin, grew_enter, sound_step}
 use Rattle.run_laws.proofs.LogMerge.InstanceCounts.{IsCountedAt, control_counts, end_tickets_counted, ended_in, ended_by_status, start_tickets_counted, started_in}
+use Rattle.run_laws.proofs.LogMerge.LastElements.{LastOf, IsEmpty, HasLast, last_of_list}
 use Rattle.run_laws.proofs.LogMerge.InstanceTickets.{start_tickets-append, end_tickets-append, ticket_left, start_has, end_has, ticket_within}
 use Rattle.run_laws.proofs.RunStates.FrameMoves.{enter_pending_is}
 use Rattle.run_laws.proofs.RunStates.Frames.{frame_at_exists, frame_at_past, frame_at_within, nodes_at_frame}
@@ -35,7 +36,7 @@ use Rattle.run_laws.proofs.RunStates.GrowingColumns.{columns-action, nodes_at_mo
 use Rattle.pipe_model.specs.Runs.TicketOrder.{InstancesAreOrdered, StartsAfterEnd, end_ticket_of, start_ticket_of}
 use Rattle.program_laws.specs.TicketOrderLaws.{BooksOrderInstances, RisingTicketsAreInOrder}
 
--- the instances of a book are ordered in a state of the control part
+-- the instances of a book are ordered by the columns of a state
 abbrev OrdersInstances : List BookEntry → State → Type 0
 OrdersInstances book c = InstancesAreOrdered (own_columns c) book
 
@@ -61,9 +62,9 @@ pairs_rise (x ∷ xs) h = (
   pairs_rise xs (λ i j d l w. h (suc i) (suc j) d (omega (arith, l)) (omega (arith, w))),
 )
 
-rise_front : (xs : List BookEntry) (b : BookEntry) → Rise (xs ++ b ∷ []) → Rise xs
-rise_front [] b h = tt
-rise_front (x ∷ xs) b h = ((λ y m. h.0 y (among_left y xs (b ∷ []) m)), rise_front xs b h.1)
+rise_prefix : (xs : List BookEntry) (b : BookEntry) → Rise (xs ++ b ∷ []) → Rise xs
+rise_prefix [] b h = tt
+rise_prefix (x ∷ xs) b h = ((λ y m. h.0 y (among_left y xs (b ∷ []) m)), rise_prefix xs b h.1)
 
 rise_last : (xs : List BookEntry) (b : BookEntry) → Rise (xs ++ b ∷ []) → (x : BookEntry) → Among x xs → x.ticket < b.ticket
 rise_last [] b h x m = absurd (none_among x m)
@@ -77,7 +78,7 @@ ticket_stays [] ys n t e = absurd (cc)
 ticket_stays (x ∷ xs) ys zero t e = e
 ticket_stays (x ∷ xs) ys (suc n) t e = ticket_stays xs ys n t e
 
--- a ticket of a list that one may have been put behind
+-- a ticket of a list to which one may have been appended
 ticket_split : (xs : List ℕ) (b : Bool) (u n t : ℕ) → ticket_at (xs ++ (if_ticket b u ++ [])) n ≡ Some t
     → (ticket_at xs n ≡ Some t) ⊎ ((b ≡ true) × (n ≡ length xs) × (t ≡ u))
 ticket_split [] true u zero t e = inr (refl, refl, (cc))
@@ -89,7 +90,7 @@ ticket_split (x ∷ xs) b u (suc n) t e = elim (ticket_split xs b u n t e) [
   | inr new ↦ (let l = new.1 in inr (new.0, omega (arith, l), new.2))
 ]
 
--- nothing is put behind
+-- if none was appended
 ticket_same : (xs : List ℕ) (n t : ℕ) → ticket_at (xs ++ []) n ≡ Some t → ticket_at xs n ≡ Some t
 ticket_same xs n t e = subst (λ l. ticket_at l n ≡ Some t) (append-nil xs) e
 
@@ -106,14 +107,14 @@ module _ (bs : List BookEntry) (b : BookEntry) where
   after_stays h j i k u =
       record { start = u.start; end = u.end; starts = start_stays i k u.start u.starts; ends = end_stays h j u.end u.ends; later = u.later }
 
-  -- what the tickets of the longer book are
+  -- the tickets of the longer book
   start_is : (i k t : ℕ) → start_ticket_of (bs ++ b ∷ []) i k ≡ Some t → ticket_at (start_tickets i bs ++ start_tickets i (b ∷ [])) k ≡ Some t
   start_is i k t e = subst (λ l. ticket_at l k ≡ Some t) (start_tickets-append i bs (b ∷ [])) e
 
   end_is : (i k t : ℕ) → end_ticket_of (bs ++ b ∷ []) i k ≡ Some t → ticket_at (end_tickets i bs ++ end_tickets i (b ∷ [])) k ≡ Some t
   end_is i k t e = subst (λ l. ticket_at l k ≡ Some t) (end_tickets-append i bs (b ∷ [])) e
 
-  -- an instance that has ended did so before the last entry
+  -- an instance that has ended has a smaller ticket than the last entry
   ended_first : ((x : BookEntry) → Among x bs → x.ticket < b.ticket) → (i k : ℕ) → k < length (end_tickets i bs) → (t : ℕ) × (end_ticket_of (bs ++ b ∷ []) i k ≡ Some t) × (t < b.ticket)
   ended_first last i k l =
       let h = ticket_left (end_tickets i bs) (end_tickets i (b ∷ [])) k l in
@@ -140,7 +141,7 @@ module _ (bs : List BookEntry) (b : BookEntry) where
 
 -- ---- the frames
 
--- a column in which so many have started
+-- the number of started instances of a column
 column_started : (s : State) (i k : ℕ) → k < started_in (frame_at s.frames i) → k < length (nodes_at (own_columns s) i)
 column_started s i k l = by_frame (frame_at s.frames i) refl l
   where
@@ -154,7 +155,7 @@ continues_ended Running nodes l g = omega (arith, g)
 continues_ended (Pending k n) nodes l g = l
 continues_ended (Completed e) nodes l g = l
 
--- an instance up to a number that was passed has ended
+-- if the number was passed, the instances up to it have ended
 passed_ended : (w : Status) (nodes : List Node) (n : ℤ) (j : ℕ) → HasPassed w nodes n → IsLastUpTo nodes j n → j < ended_by_status w (length nodes)
 passed_ended Running nodes n j h last =
     let within = last.within in
@@ -169,7 +170,7 @@ passed_ended Running nodes n j h last =
 passed_ended (Pending k m) nodes n j h last = last.within
 passed_ended (Completed e) nodes n j h last = last.within
 
--- what is joined first by an instance is what it waits for
+-- a new left parent of an instance is the last instance up to its number
 joined_first : (kind : Kind) (x j : ℕ) (found : Option ℕ) → joined_by kind x found ≡ j → x < j → (kind ≡ Wait) × (found ≡ Some j)
 joined_first Zero x j found e l = absurd (omega (arith, e, l))
 joined_first Continue x j found e l = absurd (omega (arith, e, l))
@@ -183,7 +184,7 @@ module _ (limit : ℕ) (bs : List BookEntry) (ticket : ℕ) (d : State) (starts 
     (sound : IsStartSound d.frames starts)
     (counts : (i : ℕ) → IsCountedAt (map (λ b. b.event) bs) d i)
     (before : OrdersInstances bs d) where
-  -- how many tickets there are
+  -- the number of tickets
   starts_counted : (i : ℕ) → length (start_tickets i bs) ≡ started_in (frame_at d.frames i)
   starts_counted i = start_tickets_counted i bs ∙ (counts i).starts
 
@@ -193,7 +194,7 @@ module _ (limit : ℕ) (bs : List BookEntry) (ticket : ℕ) (d : State) (starts 
   abbrev entry : Event → BookEntry
   entry e = record { ticket = ticket; event = e }
 
-  -- an old start has its parents as before
+  -- an instance that had started keeps its parents
   old_left : (e : Event) → ((c k : ℕ) → k < length (nodes_at (own_columns d) c) → left_parent (own_columns (next_state d e)) c k ≡ left_parent (own_columns d) c k)
       → (i j k start : ℕ) → left_parent (own_columns (next_state d e)) (suc i) k ≡ Some j → start_ticket_of bs (suc i) k ≡ Some start
       → StartsAfterEnd (bs ++ entry e ∷ []) i j (suc i) k
@@ -300,7 +301,7 @@ module _ (limit : ℕ) (bs : List BookEntry) (ticket : ℕ) (d : State) (starts 
       let l = continues_ended f.0.status f.0.nodes filled (may.follows i f.0 here f.1) in
       subst (λ n. n < ended_in (frame_at d.frames i)) z (subst (λ o. 0 < ended_in o) (sym f.1) l)
 
-  -- the entering of a stage by iteration i + 1
+  -- iteration i + 1 enters a stage
   enter_left : (j : ℕ) → MayEnter d j → (i h : ℕ) → j ≡ suc i
       → left_parent (own_columns (next_state d (Enter j))) (suc i) (started_in (frame_at d.frames (suc i))) ≡ Some h → h < ended_in (frame_at d.frames i)
   enter_left j may i h here parent =
@@ -357,18 +358,7 @@ module _ (limit : ℕ) (bs : List BookEntry) (ticket : ℕ) (d : State) (starts 
 
 -- ---- the book
 
-data LastOf : List BookEntry → Type 0 where
-  IsEmpty : LastOf []
-  HasLast : (xs : List BookEntry) (x : BookEntry) → LastOf (xs ++ x ∷ [])
-
-last_of_list : (xs : List BookEntry) → LastOf xs
-last_of_list [] = IsEmpty
-last_of_list (x ∷ xs) = elim (last_of_list xs) as (λ l h. LastOf (x ∷ l)) [
-  | IsEmpty ↦ HasLast [] x
-  | HasLast ys y ↦ HasLast (x ∷ ys) y
-]
-
--- what holds of a book so far
+-- the induction over the book
 record IsOrdered (book : List BookEntry) (c : State) : Type 0 where
   starts : List NodeId
   sound : IsStartSound c.frames starts
@@ -402,7 +392,7 @@ ordered_book {limit} (ControlRunThen {events = es} {c = d} r e free going h) boo
         no_last (y ∷ xs) x q = cc
     go bk (HasLast bs b) q w again =
         let both = same_from_push es (map (λ (x : BookEntry). x.event) bs) e b.event (sym q ∙ map-append (λ (x : BookEntry). x.event) bs (b ∷ [])) in
-        let k = again bs (sym both.0) (rise_front bs b w) in
+        let k = again bs (sym both.0) (rise_prefix bs b w) in
         let counts = λ (i : ℕ). subst (λ l. IsCountedAt l d i) both.0 (control_counts r i) in
         let ordered : OrdersInstances (bs ++ (let x : BookEntry = record { ticket = b.ticket; event = e } in x) ∷ []) (next_state d e) =
         step limit bs b.ticket d k.starts (rise_last bs b w) k.sound counts k.ordered e free h in

@@ -26,7 +26,7 @@ use Rattle.program_laws.specs.WorkBounds.{ProgramsHaveBoundedWork, ProgramRunsAr
 
 -- ---- trees without stages
 
--- before its first step the tree makes at most so many accesses, and at most two between two steps; it names no stage
+-- the tree makes at most `credit` accesses before its first step, and at most two between two steps; it names no stage
 pub data IsFrugal {A : Type 0} : ℕ → Interaction A → Type 0 where
   FrugalReturn : {credit : ℕ} (a : A) → IsFrugal credit (Return a)
   FrugalRaise : {credit : ℕ} (t : Trap) → IsFrugal credit (Raise t)
@@ -34,7 +34,7 @@ pub data IsFrugal {A : Type 0} : ℕ → Interaction A → Type 0 where
   FrugalGet : {credit : ℕ} {go : ℤ → Interaction A} (c : ℕ) → ((v : ℤ) → IsFrugal credit (go v)) → IsFrugal (suc credit) (Get c go)
   FrugalSet : {credit : ℕ} {d : Interaction A} (c : ℕ) (v : ℤ) → IsFrugal credit d → IsFrugal (suc credit) (Set c v d)
 
--- it may make more
+-- a greater credit does no harm
 frugal_more : {A : Type 0} {credit : ℕ} {d : Interaction A} → IsFrugal credit d → (more : ℕ) → credit ≤ more → IsFrugal more d
 frugal_more (FrugalReturn a) more le = FrugalReturn a
 frugal_more (FrugalRaise t) more le = FrugalRaise t
@@ -44,7 +44,7 @@ frugal_more (FrugalGet c s) (suc more) le = FrugalGet c (λ v. frugal_more (s v)
 frugal_more (FrugalSet c v s) zero le = absurd (omega (arith, le))
 frugal_more (FrugalSet c v s) (suc more) le = FrugalSet c v (frugal_more s more (omega (arith, le)))
 
--- one after another that makes no access before its first step
+-- one tree after another, if the second makes no access before its first step
 frugal-bind : {A B : Type 0} {credit : ℕ} {d : Interaction A} {f : A → Interaction B} → IsFrugal credit d → ((a : A) → IsFrugal 0 (f a)) → IsFrugal credit (bind d f)
 frugal-bind (FrugalReturn {credit} a) h = frugal_more (h a) credit (omega arith)
 frugal-bind (FrugalRaise t) h = FrugalRaise t
@@ -82,7 +82,6 @@ frugal-named_value (Some v) range = FrugalReturn v
 frugal-named_value None (Some range) = FrugalGet _ (λ v. FrugalReturn v)
 frugal-named_value None None = FrugalRaise _
 
--- the cell of an element is found without an access
 frugal-in : {B : Type 0} (credit : ℕ) (b : Bool) (c : ℕ) (t : Trap) (f : ℕ → Interaction B) → ((cell : ℕ) → IsFrugal credit (f cell)) → IsFrugal credit (bind (if b then Return c else Raise t) f)
 frugal-in credit true c t f h = h c
 frugal-in credit false c t f h = FrugalRaise t
@@ -96,7 +95,6 @@ frugal-take_at : (input : List ℤ) (cursor : ℤ) → IsFrugal 1 (take_at input
 frugal-take_at input (pos n) = frugal_if (nat_lt n (length input)) _ _ (FrugalSet _ _ (FrugalReturn _)) (FrugalRaise _)
 frugal-take_at input (negsuc n) = FrugalRaise _
 
--- an expression is frugal
 pub frugal-evaluate : (w : Setting) (locals : List Local) (e : Expression) → IsFrugal 0 (evaluate w locals e)
 frugal-evaluate w locals (Number n) = FrugalStep (FrugalReturn n)
 frugal-evaluate w locals (Name x) = FrugalStep (frugal-named_value (local_value locals x) (w.cells x))
@@ -115,7 +113,7 @@ frugal-evaluate w locals Iter = FrugalStep (FrugalReturn _)
 
 -- ---- trees with stages
 
--- the same of a tree that names at most `room` next stages; what it returns has the property at the room that is left
+-- the same of a tree that names at most `room` next stages; its result has the property P at the room that is left
 pub data IsBounded {A : Type 0} (P : ℕ → A → Type 0) : ℕ → ℕ → Interaction A → Type 0 where
   BoundReturn : {credit room : ℕ} {a : A} → P room a → IsBounded P credit room (Return a)
   BoundRaise : {credit room : ℕ} (t : Trap) → IsBounded P credit room (Raise t)
@@ -162,7 +160,7 @@ bounded_by_zero (pos zero) s t = s
 bounded_by_zero (pos (suc n)) s t = t
 bounded_by_zero (negsuc n) s t = t
 
--- the instances so far, and those that may follow, are all that are allowed
+-- the instances so far and those for which there is room are the limit
 abbrev pub FitsIn : ℕ → ℕ → Environment → Type 0
 FitsIn stages room env = stages ≤ env.stage.count + room
 
@@ -209,7 +207,6 @@ bounded-turns stages (suc turns) test body env room frugal bounded has =
     (bounded_more (bounded-bind (bounded env room has) (λ r after has2. bounded-turns stages turns test body (leave_block env after) r frugal bounded has2)) 2 (omega arith))))
 
 mutual
-  -- a statement is bounded
   pub bounded-execute : (w : Setting) (s : Statement) (env : Environment) (room : ℕ) → w.world.stages ≤ env.stage.count + room
       → IsBounded (FitsIn w.world.stages) 0 room (execute w s env)
   bounded-execute w (Let x e) env room has = frugal-then room (frugal-evaluate w env.locals e) (λ v. BoundStep (BoundReturn has))
@@ -238,7 +235,6 @@ mutual
   bounded-execute_all w Empty env room has = BoundReturn has
   bounded-execute_all w (Then s ss) env room has = bounded-bind (bounded-execute w s env room has) (λ r after has2. bounded-execute_all w ss after r has2)
 
--- any end
 abbrev AnyEnd : ℕ → ColumnEnd → Type 0
 AnyEnd room e = Unit {0}
 
@@ -251,7 +247,6 @@ bounded-run_iteration w test body room has =
 
 -- ---- the behaviour
 
--- a bounded tree has bounded work
 work-with_budget : {P : ℕ → ColumnEnd → Type 0} {credit room : ℕ} {d : Interaction ColumnEnd} → IsBounded P credit room d
     → (budget left allowed : ℕ) → credit + 2 * left ≤ allowed → HasBoundedWork (2 * budget) allowed room (with_budget budget left d)
 work-with_budget (BoundReturn p) budget left allowed le = tt
@@ -264,21 +259,20 @@ work-with_budget (BoundSet c v s) budget left zero le = absurd (omega (arith, le
 work-with_budget (BoundSet c v s) budget left (suc allowed) le = (allowed, refl, work-with_budget s budget left allowed (omega (arith, le)))
 work-with_budget (BoundStage {credit} {room} k n s) budget left allowed le = (room, refl, work-with_budget s budget budget (2 * budget) (omega arith))
 
--- the law of the work of programs
 pub programs_have_bounded_work : ProgramsHaveBoundedWork
 programs_have_bounded_work tree input i =
     let budget = natural tree.limits.steps in
     let stages = natural tree.limits.stages in
     work-with_budget (bounded-run_iteration (setting_of tree input i) tree.test tree.body (stages - 1) (omega arith)) budget budget (2 * budget) (omega arith)
 
--- what always closes the loop makes no further instance
+-- an iteration that always closes the loop has one instance
 closes_alone : (d : Behaviour) (each left more : ℕ) → AlwaysClosesLoop d → HasBoundedWork each left more d → HasBoundedWork each left 0 d
 closes_alone (Reading c go) each left more h b = (b.0, b.1, (λ v. closes_alone (go v) each b.0 more (h v) (b.2 v)))
 closes_alone (Writing c v d) each left more h b = (b.0, b.1, closes_alone d each b.0 more h b.2)
 closes_alone (Staging k n d) each left more h b = absurd h
 closes_alone (Ending e) each left more h b = tt
 
--- how many instances may follow instance 0 of iteration i, where the loop ends in iteration `last`
+-- the greatest number of instances after instance 0 of iteration i, if the loop ends in iteration `last`
 abbrev pub further : ℕ → ℕ → ℕ → ℕ
 further last stages i = if i == last then 0 else stages - 1
 
@@ -327,7 +321,7 @@ sum_all last stages each n one le = elim (cases_lt last n) [
       omega (arith, rest, small, m, q))
 ]
 
--- where the first test failed the answer would be another
+-- the first of two faults is None if the result is
 test_passed : {A : Type 0} (ok : Bool) (v : A) (rest : Option A) → (if not ok then Some v else rest) ≡ None → (ok ≡ true) × (rest ≡ None)
 test_passed true v rest h = (refl, h)
 test_passed false v rest h = absurd (cc)
@@ -337,20 +331,18 @@ no_limit_out : (o : Option ℕ) (rest : Option Fault) → limit_fault_or o rest 
 no_limit_out None rest h = refl
 no_limit_out (Some which) rest h = absurd (cc)
 
--- a number from 1 on
 from_one : (high z : ℤ) → is_between (pos 1) high z ≡ true → 1 ≤ natural z
 from_one high (pos zero) h = absurd (cc)
 from_one high (pos (suc n)) h = omega arith
 from_one high (negsuc n) h = absurd (cc)
 
--- an accepted program allows an instance
+-- the stage limit of an accepted program is at least 1
 pub stages_from_one : (tree : SyntaxTree) → fault_of tree ≡ None → 1 ≤ natural tree.limits.stages
 stages_from_one tree h =
     let first = test_passed _ 1 _ (no_limit_out (first_limit_out tree.limits) _ h) in
     let second = test_passed _ 2 _ first.1 in
     from_one (pos 4096) tree.limits.stages second.0
 
--- the law of the events of accepted programs
 pub program_runs_are_bounded : ProgramRunsAreBounded
 program_runs_are_bounded source tree input limit events s a r going =
     let budget = natural tree.limits.steps in

@@ -1,4 +1,4 @@
--- Candidates are allowed, there always is one, and at most `workers` instances run.
+-- Candidates are allowed, an unfinished run has one, and at most `workers` instances run.
 use Rattle.std.proofs.Common.{◌≡◌, ◌≢◌, ◌∙◌, sym, ap, subst, refl, ℕ, zero, suc, List, [], ◌∷◌, ◌++◌, Bool, true, false, not, inl, inr, ◌⊎◌, ◌<◌, ◌≤◌, ◌+◌, length, nat_lt, Option, Some, None, arith, ◌||◌, if◌then◌else◌, append-nil, append_assoc}
 use Rattle.std.proofs.lemmas.Bool.{cases_lt, lt-ltb, ltb-true}
 use Rattle.std.proofs.lemmas.List.{same_from_push}
@@ -14,6 +14,7 @@ use Rattle.pipe_model.specs.Runs.Run.{Run, EmptyRun, RunThen, state_from}
 use Rattle.pipe_model.specs.Runs.State.{Frame, State, frame_at, update_frame, with_action, enter_pending, fresh_frame, initial_state, next_state, accesses_of}
 use Rattle.pipe_model.specs.declared.status.Status.{Status}
 use Rattle.pipe_model.specs.declared.status.Status.TheVariants.{Running, Pending, Completed}
+use Rattle.run_laws.proofs.LogMerge.LastElements.{LastOf, IsEmpty, HasLast, last_of_list}
 use Rattle.run_laws.proofs.RunStates.FrameMoves.{enter_pending_is}
 use Rattle.run_laws.proofs.RunStates.FrontAndBack.{run_state_is}
 use Rattle.run_laws.proofs.RunStates.Progress.{run_legal, runs_never_stick}
@@ -22,7 +23,7 @@ use Rattle.pipe_model.specs.Runs.Schedules.{running_of_status, running_in_frames
 use Rattle.program_laws.specs.ScheduleLaws.{CandidatesAreAllowed, RunsHaveCandidates, PlayedRunsAreRuns, IsNext}
 use Rattle.program_laws.proofs.AllowedEvents.{allowed_is_next, begin_is_allowed, event_is_allowed}
 
--- ---- what is in the list
+-- ---- the list of candidates
 
 -- the event may be a candidate: there is room, or it starts no instance
 abbrev pub HasRoomFor : Bool → Event → Type 0
@@ -38,7 +39,6 @@ room_tested true starts h = refl
 room_tested false true h = elim h [ inl e ↦ absurd (cc) | inr e ↦ absurd (cc) ]
 room_tested false false h = refl
 
--- one event of at most one
 if_room_gives : (room : Bool) (o : Option Event) (e : Event) → Among e (if_room room o) → (o ≡ Some e) × HasRoomFor room e
 if_room_gives room None e m = absurd (none_among e m)
 if_room_gives room (Some x) e m = by_test (room || not (starts_instance x)) refl m
@@ -86,7 +86,7 @@ of_frame p s room i (f ∷ fs) e m = elim (among_either e (if_room room (event_o
       })
 ]
 
--- the next event of an iteration is a candidate where there is room for it
+-- the next event of an iteration is a candidate if there is room for it
 among_frames : (p : Pipeline) (s : State) (room : Bool) (i : ℕ) (fs : List Frame) (k : ℕ) (f : Frame) (e : Event) → frame_at fs k ≡ Some f
     → event_of_status p s (i + k) f.status f.trace ≡ Some e → HasRoomFor room e → Among e (candidates_from p s room i fs)
 among_frames p s room i [] k f e is q h = absurd (cc)
@@ -122,7 +122,6 @@ event_is_no_stop p s i Running t q =
 event_is_no_stop p s i (Pending k n) t q = if_is_no_stop (may_enter s.frames i k n) (Enter i) (λ e. cc (e)) q
 event_is_no_stop p s i (Completed d) t q = cc
 
--- what a candidate is
 pub record IsGood (p : Pipeline) (limit workers : ℕ) (s : State) (e : Event) : Type 0 where
   pub allowed : Allowed p limit s e
   pub no_stop : e ≢ Stop
@@ -163,7 +162,7 @@ among_length : {A : Type 0} (x : A) (xs : List A) → Among x xs → 0 < length 
 among_length x [] m = absurd (none_among x m)
 among_length x (y ∷ ys) m = omega arith
 
--- a running instance, where there is one
+-- an iteration that runs, if any does
 running_place : (fs : List Frame) → 0 < running_in_frames fs → (k : ℕ) × (f : Frame) × (frame_at fs k ≡ Some f) × (f.status ≡ Running)
 running_place [] l = absurd (omega (arith, l))
 running_place (f ∷ fs) l = by_status f.status refl (λ m. running_place fs m)
@@ -183,7 +182,7 @@ offered_starts_none p before i (Writing c v d) = refl
 offered_starts_none p before i (Staging k n d) = refl
 offered_starts_none p before i (Ending f) = refl
 
--- the next event is a candidate where there is room
+-- the next event is a candidate if there is room
 next_is_candidate : (p : Pipeline) (limit workers : ℕ) (s : State) (e : Event) → nat_lt (running_instances s) workers ≡ true → IsNext p limit s e
     → Among e (candidates p limit workers s)
 next_is_candidate p limit workers s e room (inl n) = by_frame (frame_at s.frames n.0) refl n.1
@@ -216,7 +215,7 @@ runs_have_candidates p limit workers events s r well one busy going = elim (runs
   ])
 ]
 
--- ---- how many instances run
+-- ---- the number of running instances
 
 running_in_frames-update_frame : (fs : List Frame) (i : ℕ) (f : Frame) (u : Frame → Frame) → frame_at fs i ≡ Some f
     → running_in_frames (update_frame fs i u) + running_of_status f.status ≡ running_in_frames fs + running_of_status (u f).status
@@ -228,7 +227,7 @@ running_in_frames-begun : (fs : List Frame) → running_in_frames (fs ++ fresh_f
 running_in_frames-begun [] = omega arith
 running_in_frames-begun (x ∷ fs) = let h = running_in_frames-begun fs in omega (arith, h)
 
--- an event starts at most one instance, and only where it says so
+-- an event starts at most one instance, and only if it is a `Begin` or an `Enter`
 record StartsFew (s : State) (e : Event) : Type 0 where
   most : running_instances (next_state s e) ≤ running_instances s + 1
   none : starts_instance e ≡ false → running_instances (next_state s e) ≤ running_instances s
@@ -256,7 +255,6 @@ few_after p limit s (Finish i e) h =
     record { most = omega (arith, m); none = λ q. omega (arith, m) }
 few_after p limit s Stop h = record { most = omega arith; none = λ q. omega arith }
 
--- an event that is no stop does not stop the run
 going_after : (s : State) (e : Event) → e ≢ Stop → s.stopped ≡ false → (next_state s e).stopped ≡ false
 going_after s (Begin i) apart going = going
 going_after s (Access i a) apart going = going
@@ -265,7 +263,7 @@ going_after s (Enter i) apart going = going
 going_after s (Finish i e) apart going = going
 going_after s Stop apart going = absurd (apart refl)
 
--- what is played so far
+-- the induction over a played run
 record IsSoFar (p : Pipeline) (limit workers : ℕ) (events : List Event) (s : State) : Type 0 where
   run : Run p limit events s
   going : s.stopped ≡ false
@@ -287,38 +285,26 @@ so_far {p} {limit} {workers} (OneTurn {events} {s} r e m) well =
       ];
     }
 
--- a list is empty or has a last element
-data LastOf : List Event → Type 0 where
-  IsEmpty : LastOf []
-  HasLast : (xs : List Event) (x : Event) → LastOf (xs ++ x ∷ [])
-
-last_of_list : (xs : List Event) → LastOf xs
-last_of_list [] = IsEmpty
-last_of_list (x ∷ xs) = elim (last_of_list xs) as (λ l h. LastOf (x ∷ l)) [
-  | IsEmpty ↦ HasLast [] x
-  | HasLast ys y ↦ HasLast (x ∷ ys) y
-]
-
--- at each point at most so many instances run
+-- at most `workers` instances run after each prefix
 busy_at : {p : Pipeline} {limit workers : ℕ} {events : List Event} {s : State} → PlayedRun p limit workers events s → IsWellFormed p
-    → (front rest : List Event) → events ≡ front ++ rest → running_instances (state_from initial_state front) ≤ workers
+    → (before rest : List Event) → events ≡ before ++ rest → running_instances (state_from initial_state before) ≤ workers
 busy_at NoTurn well [] rest q = omega arith
-busy_at NoTurn well (x ∷ front) rest q = absurd (cc)
-busy_at {p} {limit} {workers} (OneTurn {events} {s} r e m) well front rest q =
-    go rest (last_of_list rest) q (λ more z. busy_at r well front more z)
+busy_at NoTurn well (x ∷ before) rest q = absurd (cc)
+busy_at {p} {limit} {workers} (OneTurn {events} {s} r e m) well before rest q =
+    go rest (last_of_list rest) q (λ more z. busy_at r well before more z)
   where
-    go : (ys : List Event) → LastOf ys → events ++ e ∷ [] ≡ front ++ ys
-        → ((more : List Event) → events ≡ front ++ more → running_instances (state_from initial_state front) ≤ workers)
-        → running_instances (state_from initial_state front) ≤ workers
+    go : (ys : List Event) → LastOf ys → events ++ e ∷ [] ≡ before ++ ys
+        → ((more : List Event) → events ≡ before ++ more → running_instances (state_from initial_state before) ≤ workers)
+        → running_instances (state_from initial_state before) ≤ workers
     go ys IsEmpty z again =
-        let all : events ++ e ∷ [] ≡ front = z ∙ append-nil front in
+        let all : events ++ e ∷ [] ≡ before = z ∙ append-nil before in
         let whole : PlayedRun p limit workers (events ++ e ∷ []) (next_state s e) = OneTurn r e m in
         let k = so_far whole well in
         subst (λ l. running_instances (state_from initial_state l) ≤ workers) all
         (subst (λ t. running_instances t ≤ workers) (run_state_is k.run) k.busy)
     go ys (HasLast zs y) z again =
-        let z' : events ++ e ∷ [] ≡ (front ++ zs) ++ y ∷ [] = z ∙ sym (append_assoc front zs (y ∷ [])) in
-        again zs (same_from_push events (front ++ zs) e y z').0
+        let z' : events ++ e ∷ [] ≡ (before ++ zs) ++ y ∷ [] = z ∙ sym (append_assoc before zs (y ∷ [])) in
+        again zs (same_from_push events (before ++ zs) e y z').0
 
 pub played_runs_are_runs : PlayedRunsAreRuns
 played_runs_are_runs p limit workers events s r well =

@@ -1,4 +1,4 @@
--- The control part: what goes by the outlines of the frames, and counters.
+-- The control part depends on the outlines of the frames alone; stage counters.
 use Rattle.std.proofs.Common.{◌≡◌, ◌∙◌, sym, ap, subst, refl, ℕ, ℤ, List, [], ◌∷◌, ◌++◌, Bool, true, false, inl, inr, map, Some, arith, if◌then◌else◌, append-nil}
 use Rattle.pipe_model.specs.declared.event.Event.{Event}
 use Rattle.pipe_model.specs.declared.event.Event.TheVariants.{Begin, Access, Advance, Enter, Finish, Stop}
@@ -138,20 +138,20 @@ greater_limits_allow limit more events c le (ControlRunThen {events = es} {c = d
 
 -- ---- counters
 
-passes_told : (w : Status) (nodes : List Node) (n : ℤ) → HasPassed w nodes n → Passes (counter_of w nodes) n
-passes_told Running nodes n h = h
-passes_told (Pending k m) nodes n h = h
-passes_told (Completed e) nodes n h = h
+passes_counter : (w : Status) (nodes : List Node) (n : ℤ) → HasPassed w nodes n → Passes (counter_of w nodes) n
+passes_counter Running nodes n h = h
+passes_counter (Pending k m) nodes n h = h
+passes_counter (Completed e) nodes n h = h
 
-passes_tells : (w : Status) (nodes : List Node) (n : ℤ) → Passes (counter_of w nodes) n → HasPassed w nodes n
-passes_tells Running nodes n h = h
-passes_tells (Pending k m) nodes n h = h
-passes_tells (Completed e) nodes n h = h
+counter_passes : (w : Status) (nodes : List Node) (n : ℤ) → Passes (counter_of w nodes) n → HasPassed w nodes n
+counter_passes Running nodes n h = h
+counter_passes (Pending k m) nodes n h = h
+counter_passes (Completed e) nodes n h = h
 
 pub counters_decide_passing : CountersDecidePassing
-counters_decide_passing w nodes n = (passes_told w nodes n, passes_tells w nodes n)
+counters_decide_passing w nodes n = (passes_counter w nodes n, counter_passes w nodes n)
 
--- a move keeps what was passed
+-- an action does not lower the counter
 grows_moved : (fs : List Frame) (i j : ℕ) (f u g : Frame) (v : Frame → Frame) → frame_at fs i ≡ Some u → IsMove fs i u (v u)
     → frame_at fs j ≡ Some f → frame_at (update_frame fs i v) j ≡ Some g
     → (n : ℤ) → Passes (counter_of f.status f.nodes) n → Passes (counter_of g.status g.nodes) n
@@ -159,8 +159,8 @@ grows_moved fs i j f u g v is m before after n h = elim (frame_at_moved fs i j u
   | inl here ↦ (
       let was : frame_at fs i ≡ Some f = subst (λ k. frame_at fs k ≡ Some f) here.0 before in
       let same : u ≡ f = cc in
-      let old : HasPassed u.status u.nodes n = subst (λ (x : Frame). HasPassed x.status x.nodes n) (sym same) (passes_tells f.status f.nodes n h) in
-      passes_told g.status g.nodes n (subst (λ (x : Frame). HasPassed x.status x.nodes n) (sym here.1) (m.passes n old)))
+      let old : HasPassed u.status u.nodes n = subst (λ (x : Frame). HasPassed x.status x.nodes n) (sym same) (counter_passes f.status f.nodes n h) in
+      passes_counter g.status g.nodes n (subst (λ (x : Frame). HasPassed x.status x.nodes n) (sym here.1) (m.passes n old)))
   | inr there ↦ (
       let is2 = there.1 in
       let same : f ≡ g = cc in

@@ -31,13 +31,13 @@ named_race columns accesses r n = record {
 no_report : (columns : List (List Node)) (accesses : List NodeAccess) → AreRight columns accesses [] → IsRaceFree columns accesses
 no_report columns accesses right a b race = let h = right.all a b race in none_among h.0 h.1
 
--- with one there is
+-- with a report there is one
 some_report : (columns : List (List Node)) (accesses : List NodeAccess) (r : Report) (rs : List Report) → AreRight columns accesses (r ∷ rs) → IsRaceFree columns accesses → ⊥
 some_report columns accesses r rs right free =
     let n = right.name r Here in
     free n.earlier n.later (named_race columns accesses r n)
 
--- the headline, by whether there is a report and a trap
+-- the headline, by cases on the reports and the trap
 headline_of : (w : WholeProgram) (limit : ℕ) (log : RunLog) (reports : List Report) (races : List ℕ) → IsFinishedProgramRun w limit log
     → AreRight (columns_after log.events) (accesses_after log.events) reports → MeetsElision w limit log
     → (trap : Option TrapAt) → run_trap w (state_after log.events) ≡ trap

@@ -1,5 +1,5 @@
 -- The fold of a history, access by access, finds the first race.
-use Rattle.std.proofs.Common.{◌≡◌, ◌∙◌, sym, ap, refl, ℕ, zero, suc, List, [], ◌∷◌, ◌++◌, inl, ◌<◌, ◌≤◌, ◌+◌, length, Option, Some, None, arith}
+use Rattle.std.proofs.Common.{◌≡◌, ◌∙◌, ap, refl, ℕ, zero, suc, List, [], ◌∷◌, ◌++◌, inl, ◌<◌, ◌≤◌, ◌+◌, length, Option, Some, None, arith}
 use Rattle.pipe_model.specs.declared.node.Kind.TheVariants.{Zero}
 use Rattle.pipe_model.specs.declared.node.NodeId.{NodeId}
 use Rattle.pipe_model.specs.Orders.AccessHistory.{FoundRace, check_access, found_race_from, race_or, updated_history}
@@ -9,9 +9,8 @@ use Rattle.pipe_model.specs.Races.Dag.{AreParallel, ByEdge, DownEdge}
 use Rattle.run_laws.proofs.ListOrders.PrecedingPlaces.{below_path}
 use Rattle.pipe_model.specs.Orders.HistoryStates.{HistoryState, empty_state, found_or, history_from, noted}
 use Rattle.program_laws.specs.HistoryStateLaws.{HistoriesAreStates, SearchesNameDifferentAccesses, twice_columns, twice_accesses}
-use Rattle.program_laws.specs.TicketOrderLaws.{OrderedTicketsMerge}
 
--- a race that was found, or else the rest
+-- the race that was found, or else the other
 abbrev either_race : Option FoundRace → Option FoundRace → Option FoundRace
 either_race (Some race) rest = Some race
 either_race None rest = rest
@@ -78,7 +77,7 @@ write_and_read_parallel = record {
       omega (arith, column));
 }
 
--- one instance is not parallel to a later one of its column
+-- instances of one column are not parallel
 no_race_in_column : (n k : ℕ) → n < 2 → RacesAt twice_columns twice_accesses n k → ⊥
 no_race_in_column zero k l r = let e = r.earlier in omega (arith, e)
 no_race_in_column (suc zero) zero l r = r.parallel.not_before (ByEdge (DownEdge 0 1 (omega arith)))

@@ -1,4 +1,4 @@
--- How many instances a run has, also one that was stopped.
+-- The number of instances of a run, stopped or not.
 use Rattle.std.proofs.Common.{◌≡◌, ◌∙◌, sym, ap, subst, refl, ℕ, zero, suc, List, [], ◌∷◌, ◌++◌, inl, inr, ◌≤◌, ◌+◌, ◌*◌, length, map, Some, arith, mul-le-mul_right}
 use Rattle.std.proofs.Math.Nat.{suc-mul}
 use Rattle.std.proofs.lemmas.Bool.{cases_lt, eq-eqb}
@@ -77,9 +77,9 @@ starts_are_counted p limit events s (RunThen {events = es} {s = t} r e h) =
     let now = counted_after p limit t e h in
     omega (arith, before, all, now)
 
--- ---- how many an iteration has
+-- ---- the instances of an iteration
 
--- what is performed names at most so many stages
+-- the actions of a bounded behaviour name at most `more` stages
 names_few : (each left more : ℕ) (d : Behaviour) (xs : List Action) → Performs d xs → HasBoundedWork each left more d → length (nodes_in xs) ≤ more
 names_few each left more d [] p b = omega arith
 names_few each left more (Reading c go) (Accessed a ∷ xs) p b = names_few each b.0 more (go a.value) xs p.1 (b.2 a.value)
@@ -106,11 +106,11 @@ frame_is_small p each more i f t b =
     ap (λ (l : List Node). length l) t.nodes ∙ length-append f.nodes (pending_node f.status) in
     omega (arith, few, all)
 
--- ---- in all
+-- ---- the instances of all iterations
 
-sum_from_front : (f : ℕ → ℕ) (n : ℕ) → sum_below f (suc n) ≡ f 0 + sum_below (λ i. f (suc i)) n
-sum_from_front f zero = omega arith
-sum_from_front f (suc n) = let h = sum_from_front f n in omega (arith, h)
+sum_from_first : (f : ℕ → ℕ) (n : ℕ) → sum_below f (suc n) ≡ f 0 + sum_below (λ i. f (suc i)) n
+sum_from_first f zero = omega arith
+sum_from_first f (suc n) = let h = sum_from_first f n in omega (arith, h)
 
 instances_below : (fs : List Frame) (f : ℕ → ℕ) → ((i : ℕ) (g : Frame) → frame_at fs i ≡ Some g → length g.nodes ≤ f i)
     → instances_in (map (λ g. g.nodes) fs) ≤ sum_below f (length fs)
@@ -118,7 +118,7 @@ instances_below [] f h = omega arith
 instances_below (x ∷ fs) f h =
     let one = h 0 x refl in
     let rest = instances_below fs (λ i. f (suc i)) (λ i g e. h (suc i) g e) in
-    let all = sum_from_front f (length fs) in
+    let all = sum_from_first f (length fs) in
     omega (arith, one, rest, all)
 
 count_before : (last stages n : ℕ) → 1 ≤ stages → sum_below (λ i. further last stages i + 1) n ≤ n * stages

@@ -39,7 +39,7 @@ unbroken_right : (xs ys : List Mark) → AreUnbroken (xs ++ ys) → AreUnbroken 
 unbroken_right [] ys u = u
 unbroken_right (x ∷ xs) ys u = unbroken_right xs ys u.1
 
--- a stage statement breaks a rule where no stages may stand
+-- a stage statement breaks a rule in `init` and `final`
 stage_is_broken : (scope : Scope) → has_stages scope.region ≡ false → broken_at (marks.mark_at scope StageWord) ≡ None → ⊥
 stage_is_broken scope outside h =
     let broken : broken_at (marks.mark_at scope StageWord) ≡ Some PipeOutside = rw outside in
@@ -52,14 +52,14 @@ mutual
   region_after scope (Assign x e) = refl
   region_after scope (AssignElement x i e) = refl
   region_after scope (Emit e) = refl
-  region_after scope (If e a b) = region_behind (after_block scope a) b ∙ region_behind scope a
-  region_after scope (While e a) = region_behind scope a
+  region_after scope (If e a b) = region_after_all (after_block scope a) b ∙ region_after_all scope a
+  region_after scope (While e a) = region_after_all scope a
   region_after scope (syntax.Stage kind e) = refl
   region_after scope (NextStage kind) = refl
 
-  region_behind : (scope : Scope) (ss : Statements) → (after_statements scope ss).region ≡ scope.region
-  region_behind scope Empty = refl
-  region_behind scope (Then s ss) = region_behind (after_statement scope s) ss ∙ region_after scope s
+  region_after_all : (scope : Scope) (ss : Statements) → (after_statements scope ss).region ≡ scope.region
+  region_after_all scope Empty = refl
+  region_after_all scope (Then s ss) = region_after_all (after_statement scope s) ss ∙ region_after scope s
 
 abbrev mutual
   -- the statement names no stage
@@ -73,7 +73,7 @@ abbrev mutual
   NamesNone (syntax.Stage kind e) = ⊥
   NamesNone (NextStage kind) = ⊥
 
-  -- nor do these statements
+  -- nor do statements in order
   NameNone : Statements → Type 0
   NameNone Empty = Unit {0}
   NameNone (Then s ss) = NamesNone s × NameNone ss
@@ -87,7 +87,7 @@ mutual
   unbroken_names_none scope (If e a b) outside u =
       let blocks = unbroken_right (marks_of_expression scope e) (marks_of_statements scope a ++ marks_of_statements (after_block scope a) b) u in (
         unbroken_name_none scope a outside (unbroken_left (marks_of_statements scope a) (marks_of_statements (after_block scope a) b) blocks),
-        unbroken_name_none (after_block scope a) b (ap has_stages (region_behind scope a) ∙ outside)
+        unbroken_name_none (after_block scope a) b (ap has_stages (region_after_all scope a) ∙ outside)
             (unbroken_right (marks_of_statements scope a) (marks_of_statements (after_block scope a) b) blocks),
       )
   unbroken_names_none scope (While e a) outside u =
@@ -156,9 +156,9 @@ one_instance tree input statements k =
     one-with_budget (natural tree.limits.steps) (natural tree.limits.steps)
     (straight-bind (straight-execute_all (setting_of tree input 0) statements first_environment k) (λ env h. Returns tt))
 
-none_behind : (o : Option ℕ) (rest : Option Fault) → limit_fault_or o rest ≡ None → rest ≡ None
-none_behind None rest h = h
-none_behind (Some which) rest h = absurd (cc)
+rest_is_none : (o : Option ℕ) (rest : Option Fault) → limit_fault_or o rest ≡ None → rest ≡ None
+rest_is_none None rest h = h
+rest_is_none (Some which) rest h = absurd (cc)
 
 pub parts_are_one_instance : PartsAreOneInstance
 parts_are_one_instance source tree input a =
@@ -166,7 +166,7 @@ parts_are_one_instance source tree input a =
     let test = marks_of_expression (opening regions.Test tree.cells) tree.test in
     let body = marks_of_statements (opening regions.Body tree.cells) tree.body in
     let last = marks_of_statements (opening regions.Last tree.cells) tree.last in
-    let all : AreUnbroken (marks_of tree) = unbroken 0 (marks_of tree) (none_behind (first_limit_out tree.limits) (first_fault 0 (marks_of tree)) a.obeys) in
+    let all : AreUnbroken (marks_of tree) = unbroken 0 (marks_of tree) (rest_is_none (first_limit_out tree.limits) (first_fault 0 (marks_of tree)) a.obeys) in
     let parts = unbroken_right (marks_of_cells [] tree.cells) (init ++ (test ++ (body ++ last))) all in
     let later = unbroken_right init (test ++ (body ++ last)) parts in
     let end = unbroken_right body last (unbroken_right test (body ++ last) later) in (

@@ -1,4 +1,4 @@
--- Schedules: a run is finished exactly where it has no candidate, and with enough turns every schedule comes to its end.
+-- Schedules: a run is finished exactly if it has no candidate, and with enough turns every schedule finishes.
 use Rattle.std.proofs.Common.{◌≡◌, ◌≢◌, ◌∙◌, sym, ap, subst, refl, ℕ, ℤ, zero, suc, List, [], ◌∷◌, ◌++◌, inl, inr, ◌<◌, ◌≤◌, ◌+◌, ◌*◌, ◌%◌, length, Option, Some, None, arith, append-nil, append_assoc, get_or}
 use Rattle.std.proofs.lemmas.Bool.{cases_lt, false≢true}
 use Rattle.std.proofs.lemmas.List.{length_push}
@@ -60,7 +60,7 @@ finished_allows_none p limit events s e r fin apart h = by_event e h apart
     by_event (Finish i d) h apart = runs_not i h.control.running
     by_event Stop h apart = apart refl
 
--- a list in which nothing is
+-- a list without an element is empty
 nothing_in : {A : Type 0} (xs : List A) → ((x : A) → Among x xs → ⊥) → xs ≡ []
 nothing_in [] h = refl
 nothing_in (x ∷ xs) h = absurd (h x Here)
@@ -78,7 +78,6 @@ finished_runs_have_no_candidate p limit workers events s r well one busy going =
 
 -- ---- schedules
 
--- what is chosen is a candidate
 chosen_is_among : (choice : ℕ) (es : List Event) (e : Event) → chosen choice es ≡ Some e → Among e es
 chosen_is_among choice [] e q = absurd (cc)
 chosen_is_among choice (x ∷ xs) e q =
@@ -87,12 +86,12 @@ chosen_is_among choice (x ∷ xs) e q =
     let same : get_or (x ∷ xs) (choice % length (x ∷ xs)) x ≡ e = cc in
     subst (λ y. Among y (x ∷ xs)) same (among_at (x ∷ xs) (choice % length (x ∷ xs)) x within)
 
--- nothing is chosen from nothing alone
+-- no event is chosen only if there is no candidate
 none_is_chosen : (choice : ℕ) (es : List Event) → chosen choice es ≡ None → es ≡ []
 none_is_chosen choice [] q = refl
 none_is_chosen choice (x ∷ xs) q = absurd (cc)
 
--- what more turns play
+-- the events of further turns
 record PlaysOn (p : Pipeline) (limit workers : ℕ) (events : List Event) (s : State) (turns : ℕ) (more : List Event) : Type 0 where
   run : PlayedRun p limit workers (events ++ more) (state_from s more)
   most : length more ≤ turns
@@ -136,12 +135,11 @@ schedules_play_runs p limit workers choices turns well one busy =
     let h = plays_on p limit workers choices turns 0 [] initial_state well one busy NoTurn in
     record { run = h.run; within = h.most; ended = h.ended }
 
--- one of a list
 first_in : {A : Type 0} (xs : List A) → 0 < length xs → (x : A) × Among x xs
 first_in [] l = absurd (omega (arith, l))
 first_in (x ∷ xs) l = (x, Here)
 
--- a played run of an accepted program that is as long as its bound is finished
+-- a played run of an accepted program is finished if it is as long as the bound
 long_is_finished : (source : List ℕ) (tree : _) (input : List ℤ) (limit workers : ℕ) (events : List Event) (s : State) → IsAccepted source tree
     → 0 < limit → 0 < workers → PlayedRun (pipeline_after_init tree input) limit workers events s
     → most_instances tree * (2 * natural tree.limits.steps + 2) ≤ length events → IsFinished s

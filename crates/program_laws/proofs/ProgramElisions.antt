@@ -28,7 +28,6 @@ use Rattle.pipe_model.specs.declared.trap.TrapPlace.TheVariants.{Last}
 use Rattle.program_laws.specs.ProgramRunLaws.{ProgramElisionIsARun, AcceptedProgramsMeetTheElision, NoInitNoAccesses, LoopsAlone}
 use Rattle.program_laws.proofs.ProgramRuns.{loop_traces_are, no_loop_traces, well_formed_after, race_free_program_runs_are_serial, program_races_are_those_of_the_elision}
 
--- the law of the elision as a run
 pub program_elision_is_a_run : ProgramElisionIsARun
 program_elision_is_a_run w limit well room = elim (cases_Bool (is_some (init_trap w))) [
   | inl trapped ↦ (
@@ -60,7 +59,6 @@ program_elision_is_a_run w limit well room = elim (cases_Bool (is_some (init_tra
       })
 ]
 
--- the law of accepted programs
 pub accepted_programs_meet_the_elision : AcceptedProgramsMeetTheElision
 accepted_programs_meet_the_elision source tree input limit log a h =
     let w = whole_of tree input in
@@ -81,7 +79,6 @@ accepted_programs_meet_the_elision source tree input limit log a h =
 
 -- ---- programs without `init` and `final`
 
--- a part without statements has no access
 empty_part : (tree : SyntaxTree) (input : List ℤ) (p : Pipeline) (statements : Statements) → statements ≡ Empty
     → serial_trace p.store (part_of tree input statements) [] ≡ Ended ends.End ∷ []
 empty_part tree input p statements e = ap (λ ss. serial_trace p.store (part_of tree input ss) []) e
@@ -90,11 +87,9 @@ pub no_init_no_accesses : NoInitNoAccesses
 no_init_no_accesses tree input e =
     ap (λ l. (let p : Pipeline = record (pipeline_of tree input) { preamble = accesses_in l } in p)) (empty_part tree input (pipeline_of tree input) tree.init e)
 
--- a program without both
 abbrev bare : SyntaxTree → SyntaxTree
 bare tree = record tree { init = Empty; last = Empty }
 
--- it is its loop
 abbrev IsLoopAlone : SyntaxTree → List ℤ → Type 0
 IsLoopAlone tree input = (program_output (whole_of tree input) ≡ serial_output (pipeline_of tree input)) × (program_trap (whole_of tree input) ≡ serial_trap (pipeline_of tree input))
 

@@ -1,4 +1,4 @@
--- Finished runs of whole programs, and what they come to.
+-- Finished runs of whole programs: their traces, columns, output and trap.
 use Rattle.std.proofs.Common.{◌≡◌, ◌∙◌, sym, ap, subst, refl, ℕ, ℤ, List, [], ◌∷◌, ◌++◌, true, false, inl, inr, map, take, ◌+◌}
 use Rattle.std.specs.Prelude.{is_some}
 use Rattle.std.proofs.lemmas.Bool.{false≢true}
@@ -29,24 +29,24 @@ use Rattle.program_laws.specs.ProgramRunLaws.{IsSerialProgram, RaceFreeProgramRu
 abbrev pub WriteTheSame : List Access → List Access → Type 0
 WriteTheSame b d = (c : ℕ) → written c b ≡ written c d
 
--- they do so with the same accesses before and after them
+-- so do the lists with the same accesses before and after them
 pub same_between : (front b d rest : List Access) → WriteTheSame b d → WriteTheSame (front ++ (b ++ rest)) (front ++ (d ++ rest))
 same_between front b d rest h = λ c.
     written-append c front (b ++ rest) ∙ ap (λ l. written c front ++ l)
     (written-append c b rest ∙ ap (λ l. l ++ written c rest) (h c) ∙ sym (written-append c d rest))
     ∙ sym (written-append c front (d ++ rest))
 
--- and with the same accesses before them
+-- with the same accesses before them
 pub same_after : (front b d : List Access) → WriteTheSame b d → WriteTheSame (front ++ b) (front ++ d)
 same_after front b d h = λ c.
     written-append c front b ∙ ap (λ l. written c front ++ l) (h c) ∙ sym (written-append c front d)
 
--- and with the same accesses after them
+-- with the same accesses after them
 pub same_before : (b d rest : List Access) → WriteTheSame b d → WriteTheSame (b ++ rest) (d ++ rest)
 same_before b d rest h = λ c.
     written-append c b rest ∙ ap (λ l. l ++ written c rest) (h c) ∙ sym (written-append c d rest)
 
--- after accesses that write the same a part has the same trace
+-- a part has the same trace after accesses that write the same
 pub serial_trace-same : (p : Pipeline) (d : Behaviour) (b e : List Access) → WriteTheSame b e
     → serial_trace p.store d b ≡ serial_trace p.store d e
 serial_trace-same p (Reading c go) b e h =
@@ -69,19 +69,19 @@ final_trace-same w t b d h =
     ap (unless (is_some (trap_before_final w t)))
     (serial_trace-same w.loop w.last (init_accesses w ++ b) (init_accesses w ++ d) (same_after (init_accesses w) b d h))
 
--- the output goes by what was written
+-- the output is the same if the same was written
 output-same : (w : WholeProgram) (t : List (List Action)) (b d : List Access) → WriteTheSame b d
     → output_with w t b ≡ output_with w t d
 output-same w t b d h =
     ap (λ x. take w.loop.store.output_limit x) (same_between (init_accesses w) b d (accesses_in (final_trace w t b)) h 1)
     ∙ ap (λ x. take w.loop.store.output_limit (written 1 (init_accesses w ++ (d ++ accesses_in x)))) (final_trace-same w t b d h)
 
--- the trap goes by what was written
+-- the trap is the same if the same was written
 trap-same : (w : WholeProgram) (t : List (List Action)) (b d : List Access) → WriteTheSame b d
     → trap_with w t b ≡ trap_with w t d
 trap-same w t b d h = ap (λ x. first_of_both (trap_before_final w t) (part_trap Last (trace_end x))) (final_trace-same w t b d h)
 
--- the columns of whole iterations with their ends are those of their traces
+-- the ended columns of finished iterations are those of their traces
 ended_columns_of_traces : (p : Pipeline) (i : ℕ) (fs : List Frame) → IsWhole p i fs
     → map column_of_frame fs ≡ map ended_column (map (λ f. f.trace) fs)
 ended_columns_of_traces p i [] w = absurd w
@@ -101,15 +101,15 @@ ended_columns_of_traces p i (f ∷ fs) w =
 pub well_formed_after : (w : WholeProgram) → IsWellFormed w.loop → IsWellFormed (loop_after_init w)
 well_formed_after w h = record { legal = h.legal; closes = h.closes }
 
--- the traces of the loop where `init` did not trap
+-- the traces of the loop if `init` did not trap
 pub loop_traces_are : (w : WholeProgram) → is_some (init_trap w) ≡ false → loop_traces w ≡ serial_traces (loop_after_init w)
 loop_traces_are w e = unless_false (is_some (init_trap w)) (serial_traces (loop_after_init w)) e
 
--- and where it trapped
+-- and if it trapped
 pub no_loop_traces : (w : WholeProgram) → is_some (init_trap w) ≡ true → loop_traces w ≡ []
 no_loop_traces w e = unless_true (is_some (init_trap w)) (serial_traces (loop_after_init w)) e
 
--- what is serial from these traces on
+-- a run with the traces of the elision is serial
 serial_with : (w : WholeProgram) (s : State) (t : List (List Action)) → loop_traces w ≡ t → run_traces s ≡ t
     → map column_of_frame s.frames ≡ map ended_column t
     → WriteTheSame (accesses_of s.accesses) (accesses_of (located_from 0 t))
@@ -133,7 +133,7 @@ serial_with w s t e traces columns cells free =
 none_race_free : (columns : List (List Node)) → IsRaceFree columns []
 none_race_free columns a b r = none_among a r.first
 
--- what is written before and after the same front is the same without it
+-- if the same is written after a common prefix, the same is written without it
 same_without : (front b d : List Access) → WriteTheSame (front ++ b) (front ++ d) → WriteTheSame b d
 same_without front b d h = λ c. same_tail (written c front) (written c b) (written c d)
     (sym (written-append c front b) ∙ h c ∙ written-append c front d)
@@ -142,7 +142,6 @@ same_without front b d h = λ c. same_tail (written c front) (written c b) (writ
     same_tail [] ys zs e = e
     same_tail (x ∷ xs) ys zs e = same_tail xs ys zs (cc)
 
--- the law of finished runs without a race
 pub race_free_program_runs_are_serial : RaceFreeProgramRunsAreSerial
 race_free_program_runs_are_serial w limit events s (NoLoop e) closing fin free =
     serial_with w s [] (no_loop_traces w e) refl refl (λ c. refl) (none_race_free [])
@@ -156,7 +155,6 @@ race_free_program_runs_are_serial w limit events s (OfLoop e r) closing (WithLoo
     (same_without (init_accesses w) (accesses_of s.accesses) (accesses_of (serial_accesses p)) serial.cells)
     serial.free
 
--- the law of the races of finished runs
 pub program_races_are_those_of_the_elision : ProgramRacesAreThoseOfTheElision
 program_races_are_those_of_the_elision w limit events s (NoLoop e) proper fin =
     let t = no_loop_traces w e in
@@ -167,11 +165,9 @@ program_races_are_those_of_the_elision w limit events s (OfLoop e r) proper (Wit
     let h = races_are_those_of_the_elision (loop_after_init w) limit events s r (well_formed_after w proper) fin in
     rw t h
 
--- where `final` ran
 pub played_where_final_ran : PlayedWhereFinalRan
 played_where_final_ran w s = (refl, refl)
 
--- the law of outcomes
 pub race_free_runs_have_outcomes : RaceFreeRunsHaveOutcomes
 race_free_runs_have_outcomes p limit events s r closing fin free =
     let serial = race_free_runs_are_serial p limit events s r closing fin free in

@@ -1,4 +1,4 @@
--- More turns of loops than all instances may take steps change nothing of a behaviour.
+-- A bound on the turns of loops that is above the steps of all instances has no effect on a behaviour.
 use Rattle.std.proofs.Common.{◌≡◌, ◌∙◌, sym, ap, ℕ, zero, suc, ℤ, pos, negsuc, Bool, true, false, List, [], Option, Some, None, if◌then◌else◌, nat_lt, ◌<◌, ◌≤◌, ◌+◌, ◌*◌, ◌-◌, refl, arith}
 use Rattle.std.specs.Prelude.{int_lt, ◌+ℤ◌}
 use Rattle.std.specs.Ordering.{int_eq}
@@ -20,12 +20,12 @@ use Rattle.program_laws.specs.LoopTurns.{with_turns}
 use Rattle.pipe_model.specs.Language.ProgramsOfTrees.{execute_part}
 use Rattle.program_laws.specs.LoopTurns.{MoreTurnsChangeNothing, MoreTurnsChangeNoPart}
 
--- functions that agree are one
+-- functions that agree everywhere are equal
 pub fun_ext : {A B : Type 0} (f g : A → B) → ((x : A) → f x ≡ g x) → f ≡ g
 fun_ext f g h = λ i. λ x. h x i
 
--- with so many steps left in this instance, and room for so many instances, the trees do the same;
--- what both return has the property at what is then left
+-- with `left` steps left in this instance, and room for `room` more instances, the trees do the same;
+-- the results of both have the property P at the steps and the room that are then left
 pub data SameWithin (budget : ℕ) {A : Type 0} (P : ℕ → ℕ → A → Type 0) : ℕ → ℕ → Interaction A → Interaction A → Type 0 where
   SameReturn : {left room : ℕ} {a : A} → P left room a → SameWithin budget P left room (Return a) (Return a)
   SameRaise : {left room : ℕ} (t : Trap) → SameWithin budget P left room (Raise t) (Raise t)
@@ -47,7 +47,7 @@ same_behaviour {budget} (SameGet {left} {room} {go} {goes} c s) =
 same_behaviour (SameSet c v s) = ap (λ d. Writing c v d) (same_behaviour s)
 same_behaviour (SameStage k n s) = ap (λ d. Staging k n d) (same_behaviour s)
 
--- one tree after another: in all no more steps are left
+-- one tree after another: the number of all steps that are left does not grow
 pub same-bind : {A B : Type 0} {P : ℕ → ℕ → A → Type 0} {Q : ℕ → ℕ → B → Type 0} (budget : ℕ) {left room : ℕ} {x y : Interaction A} {f g : A → Interaction B}
     → SameWithin budget P left room x y
     → ((l r : ℕ) (a : A) → l + budget * r ≤ left + budget * room → P l r a → SameWithin budget Q l r (f a) (g a))
@@ -61,13 +61,13 @@ same-bind budget (SameSet c v s) h = SameSet c v (same-bind budget s h)
 same-bind budget (SameStage {left} {room} k n s) h =
     SameStage k n (same-bind budget s (λ l r a le p. (let m = mul-suc budget room in h l r a (omega (arith, le, m)) p)))
 
--- a step, or none is left
+-- both take a step, or no step is left
 step_or_stop : {A : Type 0} {P : ℕ → ℕ → A → Type 0} (budget left room : ℕ) (d e : Interaction A)
     → ((l : ℕ) → l < left → SameWithin budget P l room d e) → SameWithin budget P left room (Step d) (Step e)
 step_or_stop budget zero room d e h = SameStop
 step_or_stop budget (suc l) room d e h = SameStep (h l (omega arith))
 
--- a tree without stages, and two others after it
+-- a tree without stages before two others
 pub straight-same : {A B : Type 0} {P : A → Type 0} {Q : ℕ → ℕ → B → Type 0} (budget left room : ℕ) {d : Interaction A} {f g : A → Interaction B}
     → IsStraight P d → ((l : ℕ) (a : A) → l ≤ left → P a → SameWithin budget Q l room (f a) (g a))
     → SameWithin budget Q left room (bind d f) (bind d g)
@@ -78,7 +78,7 @@ straight-same budget (suc left) room (Steps s) h = SameStep (straight-same budge
 straight-same budget left room (Gets c s) h = SameGet c (λ v. straight-same budget left room (s v) h)
 straight-same budget left room (Sets c v s) h = SameSet c v (straight-same budget left room s h)
 
--- either of two pairs of trees, by a number
+-- two pairs of trees, chosen by a number
 same_by_zero : {A : Type 0} {P : ℕ → ℕ → A → Type 0} {budget left room : ℕ} (v : ℤ) {x y x' y' : Interaction A}
     → SameWithin budget P left room x x' → SameWithin budget P left room y y' → SameWithin budget P left room (if_zero v x y) (if_zero v x' y')
 same_by_zero (pos zero) s t = s
@@ -98,15 +98,13 @@ evaluate-with_turns w turns locals More = refl
 evaluate-with_turns w turns locals Take = refl
 evaluate-with_turns w turns locals Iter = refl
 
--- the instances so far, and those for which there is room, are all that are allowed
+-- the instances so far and those for which there is room are the limit
 abbrev pub HasRoom : ℕ → ℕ → ℕ → Environment → Type 0
 HasRoom stages left room env = stages ≤ env.stage.count + room
 
--- the same of a position
 abbrev pub HasRoomAt : ℕ → ℕ → ℕ → StagePosition → Type 0
 HasRoomAt stages left room here = stages ≤ here.count + room
 
--- a next stage, where there is room
 same-stage : (budget stages left room : ℕ) (kind : Kind) (here : StagePosition) (n : ℤ) → stages ≤ here.count + room → here.count < stages
     → SameWithin budget (HasRoomAt stages) left room (Stage kind n (Return (record { number = n; count = here.count + 1 })))
     (Stage kind n (Return (record { number = n; count = here.count + 1 })))
@@ -124,7 +122,7 @@ same-go_to_stage budget stages left room kind here n has =
     same_if (int_lt here.number n) _ _ (λ above. same_if (nat_lt here.count stages) _ _
     (λ free. same-stage budget stages left room kind here n has (ltb-true here.count stages free)) (SameRaise traps.StageLimit)) (SameRaise traps.StageOrder)
 
--- the stage of an environment has been kept
+-- the environment has the stage of the one before
 abbrev KeepsStage : Environment → Environment → Type 0
 KeepsStage env after = after.stage ≡ env.stage
 
@@ -136,7 +134,7 @@ straight-assign env None None x v = Raises _
 straight-emit : (limit : ℕ) (v : ℤ) → IsStraight Anything (emit limit v)
 straight-emit limit v = Gets 1 (λ count. straight_either Anything (int_eq count (pos limit)) _ _ (Raises _) (Sets 1 v (Returns tt)))
 
--- a straight tree does what it does
+-- a tree without stages does the same as itself
 same_straight : {A : Type 0} {P : A → Type 0} {Q : ℕ → ℕ → A → Type 0} (budget left room : ℕ) {d : Interaction A} → IsStraight P d
     → ((l : ℕ) (a : A) → P a → Q l room a) → SameWithin budget Q left room d d
 same_straight budget left room (Returns {a} p) h = SameReturn (h left a p)
@@ -217,7 +215,6 @@ same_or_raise : {P : ℕ → ℕ → ColumnEnd → Type 0} {budget left room : �
 same_or_raise true t x y s = SameRaise t
 same_or_raise false t x y s = s
 
--- any end
 abbrev pub AnyEnd : ℕ → ℕ → ColumnEnd → Type 0
 AnyEnd left room e = Unit {0}
 
@@ -232,7 +229,7 @@ same-run_iteration budget w n m test body left room has ln lm =
     (same-bind budget (same-execute_all budget w n m body first_environment k room has (omega (arith, ln, le, lk)) (omega (arith, lm, le, lk)))
     (λ l2 r2 env le2 has2. SameReturn tt))))))
 
--- a part does so
+-- so does a part
 pub same-execute_part : (budget : ℕ) (w : Setting) (n m : ℕ) (statements : Statements) (left room : ℕ) → w.world.stages ≤ 1 + room
     → left + budget * room < n → left + budget * room < m
     → SameWithin budget AnyEnd left room (execute_part (with_turns n w) statements) (execute_part (with_turns m w) statements)
@@ -247,7 +244,6 @@ steps_below budget (suc k) turns one le =
     let z : suc k - 1 ≡ k = omega arith in
     rw z (omega (arith, le, all))
 
--- the law of more turns in an iteration
 pub more_turns_change_nothing : MoreTurnsChangeNothing
 more_turns_change_nothing tree input turns i one le =
     let budget = natural tree.limits.steps in
@@ -256,7 +252,6 @@ more_turns_change_nothing tree input turns i one le =
     same_behaviour (same-run_iteration budget (setting_of tree input i) turns (stages * (budget + 1)) tree.test tree.body budget (stages - 1)
     (omega (arith, one)) (steps_below budget stages turns one le) (steps_below budget stages (stages * (budget + 1)) one bound))
 
--- the law of more turns in a part
 pub more_turns_change_no_part : MoreTurnsChangeNoPart
 more_turns_change_no_part tree input turns statements one le =
     let budget = natural tree.limits.steps in

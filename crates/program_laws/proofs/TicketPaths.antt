@@ -16,7 +16,7 @@ use Rattle.pipe_model.specs.Runs.TicketOrder.{StartsAfterEnd, TicketsAreInOrder,
 use Rattle.program_laws.specs.TicketOrderLaws.{OrderedTicketsMerge, PrecedingInstancesEndFirst}
 
 module _ (columns : List (List Node)) (book : List BookEntry) (shards : ℕ → List ShardEntry) (made : ℕ → ℕ → List TimedAction) where
-  -- in a column an earlier instance has ended by then
+  -- an earlier instance of the column ended no later
   ended_before : TicketsAreInOrder columns book shards made → (i k end : ℕ) → end_ticket_of book i k ≡ Some end → (j : ℕ) → j ≤ k
       → (e : ℕ) × (end_ticket_of book i j ≡ Some e) × (e ≤ end)
   ended_before h i zero end is j le = let z : j ≡ 0 = omega (arith, le) in (end, (rw z is), omega arith)
@@ -36,7 +36,7 @@ module _ (columns : List (List Node)) (book : List BookEntry) (shards : ℕ → 
     | inr more ↦ (let z : j ≡ suc k = omega (arith, le, more) in (end, (rw z is), omega arith))
   ]
 
-  -- an instance starts after the end of one whose end is no later than that of another
+  -- an instance that starts after the end of one starts after the ends of those above it
   starts_after : TicketsAreInOrder columns book shards made → (i j l m n start end : ℕ) → start_ticket_of book m n ≡ Some start → end_ticket_of book i l ≡ Some end → end < start → j ≤ l
       → StartsAfterEnd book i j m n
   starts_after h i j l m n start end starts ends later le =
@@ -44,7 +44,7 @@ module _ (columns : List (List Node)) (book : List BookEntry) (shards : ℕ → 
       let a = r.2 in
       record { start = start; end = r.0; starts = starts; ends = r.1; later = omega (arith, later, a) }
 
-  -- so it is with the places of the left column that precede an instance
+  -- an instance starts after the ends of the instances of the left column that precede it
   left_ended : TicketsAreInOrder columns book shards made → (i k start : ℕ) → start_ticket_of book (suc i) k ≡ Some start → (j : ℕ) → j ≤ joined_at columns i k
       → StartsAfterEnd book i j (suc i) k
   left_ended h i zero start is j le =

@@ -1,9 +1,13 @@
 pub mod ControlLaws
+pub mod ExampleParts
+pub mod ExpressionExamples
 pub mod HistoryStateLaws
 pub mod LoopTurns
 pub mod ProgramExamples
 pub mod ProgramHeadline
 pub mod ProgramRunLaws
+pub mod ScheduleExamples
 pub mod ScheduleLaws
+pub mod StatementExamples
 pub mod TicketOrderLaws
 pub mod WorkBounds

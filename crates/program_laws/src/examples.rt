@@ -1,23 +1,103 @@
-//! Worked examples of whole programs, by computation.
+//! Worked examples of expressions, statements, whole programs and schedules, which the checker computes.
 
-ghost use Rattle.program_laws.specs.ProgramExamples.{InitPreparesTheLoop, SchedulesArePlayed, TrappedInitEndsAll};
-ghost use Rattle.program_laws.specs.ProgramExamples.{EveryOtherWaits, WaitsEmit, LoopsTurn, StepsAreExact};
-ghost use Rattle.program_laws.specs.ProgramExamples.{InputsAreTaken, InitAndFinalRun, TrapsCloseTheLoop, ArraysAreRead};
-ghost use Rattle.program_laws.specs.ProgramExamples.{OperatorsCompute, RightSidesAreLeftOut, LeastNumberOverflows};
+ghost use Rattle.program_laws.specs.ExpressionExamples.{ArithmeticComputes, ArraysAreRead, ComparisonsCompute, DivisorsAreNotZero};
+ghost use Rattle.program_laws.specs.ExpressionExamples.{InputsAreTaken, IterationsAreNumbered, NamesAreRead, ResultsOverflow};
+ghost use Rattle.program_laws.specs.ExpressionExamples.{RightSidesAreLeftOut};
+ghost use Rattle.program_laws.specs.StatementExamples.{BlocksEndLocals, BranchesAreTaken, ElementsAreAssigned, EveryOtherWaits};
+ghost use Rattle.program_laws.specs.StatementExamples.{LoopsTurn, NamesAreAssigned, StagesAreNamed, StagesTrap};
+ghost use Rattle.program_laws.specs.StatementExamples.{WaitsEmit};
+ghost use Rattle.program_laws.specs.ProgramExamples.{InitAndFinalRun, InitPreparesTheLoop, StepsAreExact, TrappedInitEndsAll};
+ghost use Rattle.program_laws.specs.ProgramExamples.{TrapsCloseTheLoop};
+ghost use Rattle.program_laws.specs.ScheduleExamples.{SchedulesArePlayed};
 
-/// Stages that only every other iteration has.
+/// Numbers, a local and a cell.
+pub fn names_are_read()
+    ensures { NamesAreRead }
+{}
+
+/// Elements of an array, and indices outside it.
+pub fn arrays_are_read()
+    ensures { ArraysAreRead }
+{}
+
+/// Each comparison.
+pub fn comparisons_compute()
+    ensures { ComparisonsCompute }
+{}
+
+/// `+`, `-`, `*`, `/`, `%`, negatives and `!`.
+pub fn arithmetic_computes()
+    ensures { ArithmeticComputes }
+{}
+
+/// Results outside `i64`.
+pub fn results_overflow()
+    ensures { ResultsOverflow }
+{}
+
+/// Quotient and remainder by 0.
+pub fn divisors_are_not_zero()
+    ensures { DivisorsAreNotZero }
+{}
+
+/// `&&` and `||`, with and without their right sides.
+pub fn right_sides_are_left_out()
+    ensures { RightSidesAreLeftOut }
+{}
+
+/// `more()` and `take()`, and the end of the input.
+pub fn inputs_are_taken()
+    ensures { InputsAreTaken }
+{}
+
+/// `iter()`.
+pub fn iterations_are_numbered()
+    ensures { IterationsAreNumbered }
+{}
+
+/// Assignments to a local and to a cell.
+pub fn names_are_assigned()
+    ensures { NamesAreAssigned }
+{}
+
+/// Assignments to elements of an array, inside and outside it.
+pub fn elements_are_assigned()
+    ensures { ElementsAreAssigned }
+{}
+
+/// Both branches of an `if`.
+pub fn branches_are_taken()
+    ensures { BranchesAreTaken }
+{}
+
+/// A local of a block, and a local around it.
+pub fn blocks_end_locals()
+    ensures { BlocksEndLocals }
+{}
+
+/// Loops of three turns, of none, and without an end.
+pub fn loops_turn()
+    ensures { LoopsTurn }
+{}
+
+/// `pipe_wait` and `pipe_continue`, with and without a number.
+pub fn stages_are_named()
+    ensures { StagesAreNamed }
+{}
+
+/// Each trap of a stage statement.
+pub fn stages_trap()
+    ensures { StagesTrap }
+{}
+
+/// A stage that only every other iteration has.
 pub fn every_other_waits()
     ensures { EveryOtherWaits }
 {}
 
-/// Waits whose edges are redundant, and one whose edge comes from a stage before.
+/// Waits with redundant edges, and a wait for an earlier stage.
 pub fn waits_emit()
     ensures { WaitsEmit }
-{}
-
-/// A loop of three turns.
-pub fn loops_turn()
-    ensures { LoopsTurn }
 {}
 
 /// A budget that is just enough, and one that is one step short.
@@ -25,52 +105,27 @@ pub fn steps_are_exact()
     ensures { StepsAreExact }
 {}
 
-/// Numbers of the input, and its end.
-pub fn inputs_are_taken()
-    ensures { InputsAreTaken }
-{}
-
 /// `init`, the loop and `final`, and traps in `init` and in `final`.
 pub fn init_and_final_run()
     ensures { InitAndFinalRun }
 {}
 
-/// Traps in instance 0 close the loop and leave `final` out.
+/// Traps in instance 0 close the loop and leave out `final`.
 pub fn traps_close_the_loop()
     ensures { TrapsCloseTheLoop }
 {}
 
-/// Elements of an array.
-pub fn arrays_are_read()
-    ensures { ArraysAreRead }
-{}
-
-/// Each operator.
-pub fn operators_compute()
-    ensures { OperatorsCompute }
-{}
-
-/// The right side of a logical operator is left out where the left side tells.
-pub fn right_sides_are_left_out()
-    ensures { RightSidesAreLeftOut }
-{}
-
-/// Quotient, remainder and negative of the least number.
-pub fn least_number_overflows()
-    ensures { LeastNumberOverflows }
-{}
-
-/// The loop goes on with what `init` wrote, and `init` has a budget of its own.
+/// The loop sees what `init` wrote, and `init` has a budget of its own.
 pub fn init_prepares_the_loop()
     ensures { InitPreparesTheLoop }
+{}
+
+/// A trap in `init` leaves out the loop and `final`.
+pub fn trapped_init_ends_all()
+    ensures { TrappedInitEndsAll }
 {}
 
 /// Schedules of one worker: which candidates there are, and in which order.
 pub fn schedules_are_played()
     ensures { SchedulesArePlayed }
-{}
-
-/// A trap in `init` leaves out a loop and a `final` that would emit.
-pub fn trapped_init_ends_all()
-    ensures { TrappedInitEndsAll }
 {}

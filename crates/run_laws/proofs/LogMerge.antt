@@ -11,6 +11,7 @@ pub mod FittingLogs
 pub mod InstanceCounts
 pub mod InstanceTickets
 pub mod InstanceTraces
+pub mod LastElements
 pub mod MergeSplits
 pub mod MergedActions
 pub mod MergedLogs

@@ -24,8 +24,8 @@ pub fn histories_decide_races()
     ensures { HistoriesDecideRaces }
 {}
 
-/// In every run, each report of what the histories find names a race, the earlier access first, and each cell with a
-/// race has a report.
+/// In every run, each report of what the histories find names a race, the earlier access first; each cell with a race
+/// has exactly one report, and the reports rise by cell.
 pub fn reports_are_right()
     ensures { ReportsAreRight }
 {}

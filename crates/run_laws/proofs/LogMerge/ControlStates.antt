@@ -6,6 +6,7 @@ use Rattle.pipe_model.specs.Runs.ControlRun.{ControlRun, EmptyControlRun, Contro
 use Rattle.pipe_model.specs.Runs.Run.{state_from}
 use Rattle.pipe_model.specs.Runs.State.{State, initial_state, next_state}
 use Rattle.pipe_model.specs.declared.event.Event.{Event}
+use Rattle.run_laws.proofs.LogMerge.LastElements.{LastOf, IsEmpty, HasLast, last_of_list}
 use Rattle.run_laws.proofs.RunStates.FrontAndBack.{state_from-push}
 
 -- the state of a control run is what its events make
@@ -22,19 +23,6 @@ pub record IsAllowedAt (limit : ℕ) (front : List Event) (e : Event) : Type 0 w
   pub no_access : is_access e ≡ false
   pub going : state.stopped ≡ false
   pub control : ControlAllows limit state e
-
--- a list is empty or has a last element
-data LastOf : List Event → Type 0 where
-  IsEmpty : LastOf []
-  HasLast : (xs : List Event) (x : Event) → LastOf (xs ++ x ∷ [])
-
--- each list
-last_of_list : (xs : List Event) → LastOf xs
-last_of_list [] = IsEmpty
-last_of_list (x ∷ xs) = elim (last_of_list xs) as (λ l h. LastOf (x ∷ l)) [
-  | IsEmpty ↦ HasLast [] x
-  | HasLast ys y ↦ HasLast (x ∷ ys) y
-]
 
 -- each event of a control run is allowed at its place
 pub allowed_at : {limit : ℕ} {es : List Event} {c : State} → ControlRun limit es c
