@@ -72,11 +72,11 @@ closes_by_nodes (n ∷ ns) (ends.Trapped t) = two_are_not_one n ns
 pub is_iteration : (tree : SyntaxTree) (input : List ℤ) (i : ℕ) (k j : ElisionState) (e : ColumnEnd) → k.basis ≡ basis_of tree → k.iteration ≡ i
     → k.nodes ≡ first_node ∷ [] → k.left ≡ k.basis.budget
     → IsEnd e j (perform (run_iteration (setting_of tree input i) tree.test tree.body) k)
-    → IsIteration i k.accesses (serial_trace (pipeline_of tree input).store.store ((pipeline_of tree input).behaviour i) (accesses_of k.accesses)) e j
+    → IsIteration i k.accesses (serial_trace (pipeline_of tree input).store ((pipeline_of tree input).behaviour i) (accesses_of k.accesses)) e j
 is_iteration tree input i k j e basis iteration nodes left h =
     let d : Interaction ColumnEnd = run_iteration (setting_of tree input i) tree.test tree.body in
     let before : List Access = accesses_of k.accesses in
-    let t : List Action = serial_trace (pipeline_of tree input).store.store (with_budget (natural tree.limits.steps) (natural tree.limits.steps) d) before in
+    let t : List Action = serial_trace (pipeline_of tree input).store (with_budget (natural tree.limits.steps) (natural tree.limits.steps) d) before in
     let begun : 0 < length k.nodes = rw nodes (lit< tt) in
     let own : serial_trace k.basis.store (with_budget k.basis.budget k.left d) before ≡ t =
     ap (λ n. serial_trace k.basis.store (with_budget k.basis.budget n d) before) left
