@@ -10,7 +10,7 @@ use Rattle.cilkp_program.specs.Rows.{FileContents, RunResult, Races, Finishes, T
 use Rattle.cilkp_program.proofs.OneRow.{run_is_no_format}
 
 -- the status of a run
-pub outcome_status : {tree : SyntaxTree} {status : ℕ} {text : List ℕ} {reports : List Report} → RunResult tree status text reports
+pub outcome_status : {tree : SyntaxTree} {input : List ℤ} {status : ℕ} {text : List ℕ} {reports : List Report} → RunResult tree input status text reports
     → (status ≡ 0) ⊎ ((status ≡ 2) ⊎ (status ≡ 3))
 outcome_status (Races reports some first) = inr (inl refl)
 outcome_status (Finishes free ends) = inl refl
@@ -71,7 +71,7 @@ row_status (SourceRefused s w r) = refusal
 row_status (Formats s tree w o) = printed (s, w)
 row_status (NotBuilt s i tree w o n) = refusal
 row_status (InputRefused s i tree w o r) = refusal
-row_status (Runs s i tree w o e r) = with_run (elision_log tree) (λ format. run_is_no_format w format.1) (outcome_status r)
+row_status (Runs s i tree w o e r) = with_run (elision_log tree []) (λ format. run_is_no_format w format.1) (outcome_status r)
 
 -- the status of an answer
 tells_status : {words : List (List ℕ)} {holds : Option Content} {before now status : ℕ} {text : List ℕ} {log : Option RunLog} {reports : List Report}

@@ -1,5 +1,5 @@
 -- What is asked of the statements of a block, one after the other, is asked of a list of statements.
-use Rattle.std.proofs.Common.{arith, ◌≡◌, ◌+◌, ◌==◌, ◌||◌, ◌&&◌, ◌↔◌, false, true, Bool, cond, [], ◌∷◌, refl, ap, ℕ, List}
+use Rattle.std.proofs.Common.{arith, ◌≡◌, ◌+◌, ◌==◌, ◌||◌, ◌&&◌, ◌↔◌, false, true, Bool, cond, [], ◌∷◌, length, refl, ap, ℕ, List}
 use Rattle.std.specs.List.{count_by, list_all, list_any}
 use Rattle.std.proofs.lemmas.List.Recursion.{is_count_by}
 use Rattle.std.proofs.lemmas.List.Sums.{sum_by-cons}
@@ -7,7 +7,7 @@ use Rattle.pipe_model.specs.declared.token.Token.{Token}
 use Rattle.pipe_model.specs.declared.tree.Stmt.{Stmt}
 use Rattle.pipe_model.specs.Language.FirstForm.{are_plain_statements, begins_part, is_plain_statement, stages_in, stages_of}
 use Rattle.pipe_model.specs.Language.Tokens.{symbol_in, symbols_in}
-use Rattle.pipe_model.specs.Language.SyntaxTree.{Statement, Let, Assign, AssignElement, Emit, If, While, Stage, NextStage, statement_of, statements_of}
+use Rattle.pipe_model.specs.Language.SyntaxTree.{Empty, Statement, Let, Assign, AssignElement, Emit, If, While, Stage, NextStage, statement_of, statements_of}
 
 -- the statements of a list are plain where each is
 pub plain_statements : (ss : List Stmt) → are_plain_statements (statements_of ss) ≡ list_all (λ s. is_plain_statement (statement_of s)) ss
@@ -43,3 +43,8 @@ no_part_counted source (t ∷ ts) =
     rw (sum_by-cons (λ s. cond (begins_part s) 1 0) (symbol_in source t) (symbols_in source ts))
     (none_counted (begins_part (symbol_in source t)) (list_any (λ u. begins_part (symbol_in source u)) ts)
     (count_by begins_part (symbols_in source ts)) (no_part_counted source ts))
+
+-- a block without statements is the empty one
+pub no_statement : (ss : List Stmt) → ((length ss == 0) ≡ true) ↔ (statements_of ss ≡ Empty)
+no_statement [] = ((λ e. refl), (λ e. refl))
+no_statement (s ∷ ss) = ((λ e. absurd (cc e)), (λ e. absurd (cc e)))

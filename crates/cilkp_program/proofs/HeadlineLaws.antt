@@ -3,25 +3,23 @@ use Rattle.std.proofs.Common.{◌≡◌, ◌≢◌, ◌≤◌, ◌∙◌, ◌++�
 use Rattle.pipe_model.specs.declared.event.RunLog.{RunLog}
 use Rattle.pipe_model.specs.declared.report.Report.{Report}
 use Rattle.pipe_model.specs.declared.trap.TrapAt.{TrapAt}
-use Rattle.pipe_model.specs.Pipelines.Pipeline.{Pipeline}
-use Rattle.pipe_model.specs.Language.Programs.{pipeline_of}
+use Rattle.pipe_model.specs.Language.ProgramsOfTrees.{whole_of}
+use Rattle.pipe_model.specs.Pipelines.WholePrograms.{WholeProgram, loop_traces, program_log}
 use Rattle.pipe_model.specs.Races.Reports.{AreRight}
-use Rattle.pipe_model.specs.Runs.Run.{Run, IsFinished}
-use Rattle.pipe_model.specs.Runs.RunLogs.{IsFinishedRun, accesses_after, column_of_frame, columns_after, state_after}
-use Rattle.pipe_model.specs.Pipelines.SerialElision.{serial_events}
+use Rattle.pipe_model.specs.Runs.RunLogs.{accesses_after, column_of_frame, columns_after, state_after}
+use Rattle.pipe_model.specs.Runs.WholeProgramRuns.{IsFinishedProgramRun}
 use Rattle.pipe_model.specs.Language.SourceRefusals.{IsAccepted}
-use Rattle.pipe_model.specs.Runs.State.{State, own_columns}
+use Rattle.pipe_model.specs.Runs.State.{Frame, State}
 use Rattle.pipe_model.specs.Language.SyntaxTree.{SyntaxTree}
 use Rattle.pipe_model.specs.Texts.{trap_lines}
 use Rattle.pipe_model.specs.Runs.Throttling.{IsThrottled}
 use Rattle.pipe_model.proofs.Members.{none_among}
 use Rattle.dag_build.proofs.FirstRaceLaws.{first_races_are_right, no_report_is_race_free}
+use Rattle.dag_build.specs.NodeColumns.{node_columns}
 use Rattle.language_laws.proofs.WellFormed.{accepted_is_well_formed}
-use Rattle.run_laws.proofs.Elision.SerialRun.{serial_elision_is_a_run}
-use Rattle.run_laws.proofs.RunStates.FrontAndBack.{run_state_is}
-use Rattle.run_laws.proofs.RunStates.IterationCounts.{runs_keep_rules}
-use Rattle.run_laws.specs.RunLaws.{KeepsRules}
-use Rattle.run_laws.specs.SerialLaws.{HasSerialRun}
+use Rattle.program_laws.proofs.ProgramElisions.{accepted_programs_meet_the_elision, program_elision_is_a_run}
+use Rattle.program_laws.specs.ProgramRunLaws.{HasElisionLog, MeetsElision}
+use Rattle.cilkp_program.proofs.SerialDags.{ended_nodes}
 use Rattle.cilkp_program.specs.CallResults.{IsCallResult, OfRow, SourceFault, InputFault, IsPrinted}
 use Rattle.cilkp_program.specs.Faults.{CountRose}
 use Rattle.cilkp_program.specs.Headline.{ReturnsRun, IsToRun, MeetsHeadline}
@@ -30,38 +28,39 @@ use Rattle.cilkp_program.specs.Rows.{ElisionHasNoRace, FileContents, RunResult, 
 use Rattle.cilkp_program.proofs.AnswerStatus.{outcome_status}
 use Rattle.cilkp_program.proofs.OneRow.{one_source, plain_is_source, refused_not_accepted_file, refused_not_empty, run_is_no_format}
 
--- the log of the serial elision tells a finished run, and its own columns and accesses are those of the elision
+-- the log of the serial elision is a finished run, with the columns and accesses of the elision
 record IsSerialLog (tree : SyntaxTree) (limit : ℕ) : Type 0 where
-  run : IsFinishedRun (pipeline_of tree []) limit (elision_log tree)
-  columns : columns_after (elision_log tree).events ≡ elision_columns tree
-  accesses : accesses_after (elision_log tree).events ≡ elision_accesses tree
-  throttled : IsThrottled limit (elision_log tree).events
+  run : IsFinishedProgramRun (whole_of tree []) limit (elision_log tree [])
+  columns : columns_after (elision_log tree []).events ≡ elision_columns tree []
+  accesses : accesses_after (elision_log tree []).events ≡ elision_accesses tree []
+  throttled : IsThrottled limit (elision_log tree []).events
+
+-- the instances of frames, with and without the ends of their columns
+nodes_of_frames : (frames : List Frame) → node_columns (map column_of_frame frames) ≡ map (λ (f : Frame). f.nodes) frames
+nodes_of_frames [] = refl
+nodes_of_frames (f ∷ frames) = ap (λ ns. f.nodes ∷ ns) (nodes_of_frames frames)
 
 -- so it is for every accepted program and every limit of at least 1
 serial_log : (source : List ℕ) (tree : SyntaxTree) (limit : ℕ) → IsAccepted source tree → 1 ≤ limit → IsSerialLog tree limit
 serial_log source tree limit form room =
-    let p : Pipeline = pipeline_of tree [] in
-    let h : HasSerialRun p limit = serial_elision_is_a_run p limit (accepted_is_well_formed source tree [] form) (omega arith) in
-    let e : h.state ≡ state_after (serial_events p) = run_state_is h.run in
-    let rules : KeepsRules limit (serial_events p) h.state = runs_keep_rules p limit (serial_events p) h.state h.run in
+    let w : WholeProgram = whole_of tree [] in
+    let h : HasElisionLog w limit = program_elision_is_a_run w limit (accepted_is_well_formed source tree [] form) (omega arith) in
+    let meets : MeetsElision w limit (program_log w) = accepted_programs_meet_the_elision source tree [] limit (program_log w) form h.run in
+    let end : State = state_after (program_log w).events in
     record {
-      run = record {
-        run = subst (λ t. Run p limit (serial_events p) t) e h.run;
-        finished = subst IsFinished e h.finished;
-        columns = sym h.ended ∙ ap (λ (t : State). map column_of_frame t.frames) e;
-      };
-      columns = sym (ap own_columns e) ∙ h.columns;
-      accesses = sym (ap (λ (t : State). t.accesses) e) ∙ h.accesses;
-      throttled = rules.throttled;
+      run = h.run;
+      columns = sym (nodes_of_frames end.frames) ∙ ap node_columns (sym h.run.columns) ∙ ended_nodes (loop_traces w);
+      accesses = h.accesses;
+      throttled = meets.throttled;
     }
 
 -- reports that are right for the elision are right for the run of its log
-reports_are_right : (tree : SyntaxTree) (limit : ℕ) (reports : List Report) → IsSerialLog tree limit → AreRight (elision_columns tree) (elision_accesses tree) reports
-    → AreRight (columns_after (elision_log tree).events) (accesses_after (elision_log tree).events) reports
+reports_are_right : (tree : SyntaxTree) (limit : ℕ) (reports : List Report) → IsSerialLog tree limit → AreRight (elision_columns tree []) (elision_accesses tree []) reports
+    → AreRight (columns_after (elision_log tree []).events) (accesses_after (elision_log tree []).events) reports
 reports_are_right tree limit reports h right = rw (h.columns, h.accesses) right
 
 -- where the elision has no race, no report is right
-none_are_right : (tree : SyntaxTree) → ElisionHasNoRace tree → AreRight (elision_columns tree) (elision_accesses tree) []
+none_are_right : (tree : SyntaxTree) → ElisionHasNoRace tree [] → AreRight (elision_columns tree []) (elision_accesses tree []) []
 none_are_right tree free = record {
   name = λ r among. absurd (none_among r among);
   all = λ a b race. absurd (free a b race);
@@ -70,18 +69,18 @@ none_are_right tree free = record {
 
 -- what a program comes to, by its log
 outcome_meets : (source : List ℕ) (tree : SyntaxTree) (limit : ℕ) {status : ℕ} {text : List ℕ} {reports : List Report} → IsAccepted source tree → 1 ≤ limit
-    → RunResult tree status text reports → MeetsHeadline tree limit (elision_log tree) reports status text
+    → RunResult tree [] status text reports → MeetsHeadline tree [] limit (elision_log tree []) reports status text
 outcome_meets source tree limit form room (Races reports some first) =
     let h = serial_log source tree limit form room in
     record {
       run = h.run;
-      reported = reports_are_right tree limit reports h (first_races_are_right (elision_columns tree) (elision_accesses tree) reports first);
-      silent = no_report_is_race_free (elision_columns tree) (elision_accesses tree) reports first;
+      reported = reports_are_right tree limit reports h (first_races_are_right (elision_columns tree []) (elision_accesses tree []) reports first);
+      silent = no_report_is_race_free (elision_columns tree []) (elision_accesses tree []) reports first;
       racy = (λ e. some, λ e. refl);
       races = λ e. refl;
       otherwise = λ free. absurd (some free);
       trapped = ((λ e. absurd (omega (arith, e))), λ free. absurd (some free.0));
-      finished = ((λ e. absurd (omega (arith, e))), λ free. absurd (some free.0));
+      untrapped = ((λ e. absurd (omega (arith, e))), λ free. absurd (some free.0));
       throttled = h.throttled;
     }
 outcome_meets source tree limit form room (Finishes free ends) =
@@ -92,9 +91,9 @@ outcome_meets source tree limit form room (Finishes free ends) =
       silent = (λ e. free, λ e. refl);
       racy = ((λ e. absurd (omega (arith, e))), λ some. absurd (some free));
       races = λ e. absurd (omega (arith, e));
-      otherwise = λ e. sym (append-nil (elision_output_text tree)) ∙ ap (λ t. elision_output_text tree ++ trap_lines t) (sym ends);
+      otherwise = λ e. sym (append-nil (elision_output_text tree [])) ∙ ap (λ t. elision_output_text tree [] ++ trap_lines t) (sym ends);
       trapped = ((λ e. absurd (omega (arith, e))), λ some. absurd (some.1 ends));
-      finished = (λ e. (free, ends), λ e. refl);
+      untrapped = (λ e. (free, ends), λ e. refl);
       throttled = h.throttled;
     }
 outcome_meets source tree limit form room (Traps t free ends) =
@@ -105,19 +104,19 @@ outcome_meets source tree limit form room (Traps t free ends) =
       silent = (λ e. free, λ e. refl);
       racy = ((λ e. absurd (omega (arith, e))), λ some. absurd (some free));
       races = λ e. absurd (omega (arith, e));
-      otherwise = λ e. ap (λ t. elision_output_text tree ++ trap_lines t) (sym ends);
+      otherwise = λ e. ap (λ t. elision_output_text tree [] ++ trap_lines t) (sym ends);
       trapped = (λ e. (free, traps ends), λ e. refl);
-      finished = ((λ e. absurd (omega (arith, e))), λ none. absurd (traps ends none.1));
+      untrapped = ((λ e. absurd (omega (arith, e))), λ none. absurd (traps ends none.1));
       throttled = h.throttled;
     }
   where
-    traps : {at : TrapAt} → elision_trap tree ≡ Some at → elision_trap tree ≢ None
+    traps : {at : TrapAt} → elision_trap tree [] ≡ Some at → elision_trap tree [] ≢ None
     traps {at} some none = let d : None ≡ Some at = sym none ∙ some in cc (d)
 
 -- the row of an accepted program is that of its run
 record IsRunOf (tree : SyntaxTree) (status : ℕ) (text : List ℕ) (log : Option RunLog) (reports : List Report) : Type 0 where
-  logged : log ≡ Some (elision_log tree)
-  outcome : RunResult tree status text reports
+  logged : log ≡ Some (elision_log tree [])
+  outcome : RunResult tree [] status text reports
 
 accepted_row : {words : List (List ℕ)} {content : Content} {held : FileContents} {status : ℕ} {text : List ℕ} {log : Option RunLog} {reports : List Report} (tree : SyntaxTree)
     → (a : IsToRun words content tree) → content a.source ≡ held.source → content a.input ≡ held.input → Row words held status text log reports
@@ -129,7 +128,7 @@ accepted_row tree a s i (NotBuilt source input other w o r) = absurd (r (rw (one
 accepted_row tree a s i (InputRefused source input other w o r) = absurd (refused_not_empty r (sym i ∙ a.empty))
 accepted_row tree a s i (Runs source input other w o e r) =
     let same : other ≡ tree = one_source other tree (plain_is_source o) (plain_is_source (rw (← s) a.program)) in
-    record { logged = ap (λ t. Some (elision_log t)) same; outcome = rw (← same) r }
+    record { logged = ap (λ t. Some (elision_log t [])) same; outcome = rw (← same) r }
 
 -- what a call answers for an accepted program, where no read failed
 answer_meets : {words : List (List ℕ)} {content : Content} {before now status : ℕ} {text : List ℕ} {log : Option RunLog} {reports : List Report} (tree : SyntaxTree)
@@ -147,7 +146,7 @@ printed_meets words None before now status written log reports taken_before take
 printed_meets words (Some content) before now status written log reports taken_before taken_now calm printed = λ tree a. (
     let h = answer_meets tree calm a printed.answer in
     record {
-      log = elision_log tree;
+      log = elision_log tree [];
       logged = h.logged;
       text = printed.text;
       whole = printed.whole;

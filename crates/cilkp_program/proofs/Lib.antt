@@ -12,3 +12,4 @@ pub mod AnswerStatus
 pub mod FormatLaws
 pub mod SourceFaults
 pub mod FirstFormTests
+pub mod LoopsAlone

@@ -59,10 +59,10 @@ one_source tree other s o =
     one_accepted s.bytes tree other s.accepted (rw same at o.accepted)
 
 -- a program comes to one outcome
-one_outcome : {tree : SyntaxTree} {status other : ℕ} {text other_text : List ℕ} {reports other_reports : List Report} → RunResult tree status text reports
-    → RunResult tree other other_text other_reports → AreOneRow status other text other_text reports other_reports
+one_outcome : {tree : SyntaxTree} {status other : ℕ} {text other_text : List ℕ} {reports other_reports : List Report} → RunResult tree [] status text reports
+    → RunResult tree [] other other_text other_reports → AreOneRow status other text other_text reports other_reports
 one_outcome {tree} (Races rs some h) (Races rs' some' h') =
-    let same : rs ≡ rs' = one_first_races (elision_columns tree) (elision_accesses tree) rs rs' h h' in (refl, ap (race_lines tree.cells) same, same)
+    let same : rs ≡ rs' = one_first_races (elision_columns tree []) (elision_accesses tree []) rs rs' h h' in (refl, ap (race_lines tree.cells) same, same)
 one_outcome (Races rs some h) (Finishes free e') = absurd (some free)
 one_outcome (Races rs some h) (Traps t' free e') = absurd (some free)
 one_outcome (Finishes free e) (Races rs' some' h') = absurd (some' free)
@@ -71,15 +71,15 @@ one_outcome (Finishes free e) (Traps t free' e') = absurd (let d : None ≡ Some
 one_outcome (Traps t free e) (Races rs' some' h') = absurd (some' free)
 one_outcome (Traps t free e) (Finishes free' e') = absurd (let d : None ≡ Some t = sym e' ∙ e in cc (d))
 one_outcome {tree} (Traps t free e) (Traps t' free' e') =
-    (refl, let d : Some t ≡ Some t' = sym e ∙ e' in let same : t ≡ t' = cc (d) in ap (λ x. elision_output_text tree ++ trap_line x) same, refl)
+    (refl, let d : Some t ≡ Some t' = sym e ∙ e' in let same : t ≡ t' = cc (d) in ap (λ x. elision_output_text tree [] ++ trap_line x) same, refl)
 
 -- a program has one run
 one_run : {tree other_tree : SyntaxTree} {status other : ℕ} {text other_text : List ℕ} {reports other_reports : List Report} → tree ≡ other_tree
-    → RunResult tree status text reports → RunResult other_tree other other_text other_reports
-    → (status ≡ other) × (text ≡ other_text) × (Some (elision_log tree) ≡ Some (elision_log other_tree)) × (reports ≡ other_reports)
+    → RunResult tree [] status text reports → RunResult other_tree [] other other_text other_reports
+    → (status ≡ other) × (text ≡ other_text) × (Some (elision_log tree []) ≡ Some (elision_log other_tree [])) × (reports ≡ other_reports)
 one_run {tree} {other_tree} {status} {other} {text} {other_text} {reports} {other_reports} same r r' =
     let one : AreOneRow status other text other_text reports other_reports = one_outcome r (rw same r') in
-    (one.0, one.1, ap (λ t. Some (elision_log t)) same, one.2)
+    (one.0, one.1, ap (λ t. Some (elision_log t [])) same, one.2)
 
 -- the words name one source, and one input
 pub sources_same : (words : List (List ℕ)) (source source' input input' : List ℕ) → words ≡ run_words source input → words ≡ run_words source' input' → source ≡ source'

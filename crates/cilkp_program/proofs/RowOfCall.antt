@@ -139,8 +139,8 @@ input_failed holds before mid now source input text loaded same rose plain s t =
 -- a run
 pub answer_of_run : (holds later : Option Content) (before mid now : ℕ) (source input text : List ℕ) (status : ℕ) (reports : List Report) (loaded : Loaded)
     → later ≡ holds → CountsFault false before mid → CountsFault false mid now → IsTrue loaded.is_first_form → IsSourceResult holds source (sources.Accepted loaded)
-    → IsInputResult later input inputs.Empty → RunResult (tree_of loaded.program) status text reports
-    → IsCallResult (run_words source input) holds before now status text (Some (elision_log (tree_of loaded.program))) reports
+    → IsInputResult later input inputs.Empty → RunResult (tree_of loaded.program) [] status text reports
+    → IsCallResult (run_words source input) holds before now status text (Some (elision_log (tree_of loaded.program) [])) reports
 answer_of_run holds later before mid now source input text status reports loaded keeps same same' plain s i outcome = OfRow (same' ∙ same) (record {
   held = record { source = s.file; input = i.file };
   told = run_told holds source input _ s.told (rw keeps at i.told);

@@ -4,18 +4,19 @@ use Rattle.pipe_model.specs.declared.access.NodeAccess.{NodeAccess}
 use Rattle.pipe_model.specs.declared.column.Column.{Column}
 use Rattle.pipe_model.specs.declared.event.Event.{Event}
 use Rattle.pipe_model.specs.declared.node.Node.{Node}
+use Rattle.pipe_model.specs.declared.event.RunLog.{RunLog}
 use Rattle.pipe_model.specs.declared.report.Report.{Report}
 use Rattle.pipe_model.specs.declared.trap.TrapAt.{TrapAt}
 use Rattle.pipe_model.specs.Pipelines.Behaviour.{Action, column_of}
 use Rattle.pipe_model.specs.Language.CheckingRules.{first_limit_out}
 use Rattle.pipe_model.specs.Races.Columns.{nodes_at}
 use Rattle.pipe_model.specs.Races.FirstRaces.{AreFirstRaces}
-use Rattle.pipe_model.specs.Pipelines.ElisionResults.{ended_column, serial_ended_columns, serial_output}
+use Rattle.pipe_model.specs.Pipelines.ElisionResults.{ended_column, serial_ended_columns, serial_output, serial_trap}
 use Rattle.pipe_model.specs.Pipelines.Pipeline.{Pipeline}
 use Rattle.pipe_model.specs.Language.Programs.{pipeline_of}
-use Rattle.pipe_model.specs.Pipelines.SerialElision.{serial_accesses, serial_events, serial_traces}
+use Rattle.pipe_model.specs.Pipelines.SerialElision.{located_from, serial_accesses, serial_columns, serial_events, serial_traces, trace_events_from}
 use Rattle.pipe_model.specs.Language.SourceRefusals.{IsAccepted}
-use Rattle.pipe_model.specs.Language.SyntaxTree.{SyntaxTree}
+use Rattle.pipe_model.specs.Language.SyntaxTree.{Empty, SyntaxTree}
 use Rattle.pipe_model.proofs.Members.{among_at}
 use Rattle.dag_build.specs.NodeColumns.{AreRising, IsAccessOf, node_columns}
 use Rattle.dag_build.proofs.FirstRaceLaws.{no_report_is_race_free}
@@ -26,16 +27,18 @@ use Rattle.serial_elision.proofs.LimitRanges.{few_iterations}
 use Rattle.run_laws.proofs.Elision.SerialRun.{serial_elision_is_a_run}
 use Rattle.run_laws.proofs.RunStates.IterationCounts.{runs_keep_rules}
 use Rattle.run_laws.specs.SerialLaws.{HasSerialRun}
-use Rattle.cilkp_program.specs.Rows.{RunResult, Races, Finishes, Traps, elision_accesses, elision_columns, elision_log, elision_trap}
+use Rattle.program_laws.proofs.ProgramElisions.{loops_alone}
+use Rattle.cilkp_program.proofs.LoopsAlone.{loop_traces_alone}
+use Rattle.cilkp_program.specs.Rows.{RunResult, Races, Finishes, Traps, elision_accesses, elision_columns, elision_log}
 use Rattle.cilkp_program.specs.RunTexts.{IsPrintedAs, WithRaces, ToItsEnd, WithTrap}
 
 -- the instances of ended columns
-ended_nodes : (traces : List (List Action)) → node_columns (map ended_column traces) ≡ map column_of traces
+pub ended_nodes : (traces : List (List Action)) → node_columns (map ended_column traces) ≡ map column_of traces
 ended_nodes [] = refl
 ended_nodes (t ∷ traces) = ap (λ cs. column_of t ∷ cs) (ended_nodes traces)
 
 -- what the elision tells of its columns are the program's columns
-pub told_columns : (tree : SyntaxTree) (columns : List Column) → columns ≡ serial_ended_columns (pipeline_of tree []) → node_columns columns ≡ elision_columns tree
+pub told_columns : (tree : SyntaxTree) (columns : List Column) → columns ≡ serial_ended_columns (pipeline_of tree []) → node_columns columns ≡ serial_columns (pipeline_of tree [])
 told_columns tree columns e = ap node_columns e ∙ ended_nodes (serial_traces (pipeline_of tree []))
 
 -- the serial elision is a run that begins one iteration after the other
@@ -43,7 +46,7 @@ serial_run : (source : List ℕ) (tree : SyntaxTree) → IsAccepted source tree 
 serial_run source tree form = serial_elision_is_a_run (pipeline_of tree []) 1 (accepted_is_well_formed source tree [] form) (omega arith)
 
 -- the stage numbers of the program's columns rise
-columns_rise : (source : List ℕ) (tree : SyntaxTree) → IsAccepted source tree → AreRising (elision_columns tree)
+columns_rise : (source : List ℕ) (tree : SyntaxTree) → IsAccepted source tree → AreRising (serial_columns (pipeline_of tree []))
 columns_rise source tree form =
     let h = serial_run source tree form in
     let rules = runs_keep_rules _ _ _ _ h.run in
@@ -61,38 +64,48 @@ column_inside (c ∷ cs) zero k w = omega arith
 column_inside (c ∷ cs) (suc i) k w = let h = column_inside cs i k w in omega (arith, h)
 
 -- the program's accesses are made by instances of its columns
-accesses_inside : (source : List ℕ) (tree : SyntaxTree) → IsAccepted source tree → All (IsAccessOf (elision_columns tree)) (elision_accesses tree)
+accesses_inside : (source : List ℕ) (tree : SyntaxTree) → IsAccepted source tree → All (IsAccessOf (serial_columns (pipeline_of tree []))) (serial_accesses (pipeline_of tree []))
 accesses_inside source tree form =
     let h = serial_run source tree form in
     let rules = runs_keep_rules _ _ _ _ h.run in
-    subst (λ cs. All (IsAccessOf cs) (elision_accesses tree)) h.columns (subst (All (IsAccessOf _)) h.accesses
+    subst (λ cs. All (IsAccessOf cs) (serial_accesses (pipeline_of tree []))) h.columns (subst (All (IsAccessOf _)) h.accesses
     (λ k d w. let inside = rules.inside _ (among_at _ k d w) in (column_inside _ _ _ inside, inside)))
 
 -- the accesses that the elision tells are made by instances of the dag that is built
 pub told_accesses_inside : (source : List ℕ) (tree : SyntaxTree) (dag : List (List Node)) (columns : List Column) (accesses : List NodeAccess) → IsAccepted source tree
-    → dag ≡ node_columns columns → columns ≡ serial_ended_columns (pipeline_of tree []) → accesses ≡ elision_accesses tree → All (IsAccessOf dag) accesses
+    → dag ≡ node_columns columns → columns ≡ serial_ended_columns (pipeline_of tree []) → accesses ≡ serial_accesses (pipeline_of tree []) → All (IsAccessOf dag) accesses
 told_accesses_inside source tree dag columns accesses form d e a =
     rw (a, d ∙ told_columns tree columns e) (accesses_inside source tree form)
 
 -- the races of the dag that is built are those of the program
 told_races : (tree : SyntaxTree) (dag : List (List Node)) (columns : List Column) (accesses : List NodeAccess) (reports : List Report) → dag ≡ node_columns columns
-    → columns ≡ serial_ended_columns (pipeline_of tree []) → accesses ≡ elision_accesses tree → AreFirstRaces dag accesses reports → AreFirstRaces (elision_columns tree) (elision_accesses tree) reports
+    → columns ≡ serial_ended_columns (pipeline_of tree []) → accesses ≡ serial_accesses (pipeline_of tree []) → AreFirstRaces dag accesses reports → AreFirstRaces (serial_columns (pipeline_of tree [])) (serial_accesses (pipeline_of tree [])) reports
 told_races tree dag columns accesses reports d e a r = rw (← a, ← (d ∙ told_columns tree columns e)) r
 
--- what is printed of the elision's parts is what the program comes to
+-- without `init` they are the first races of the whole program
+whole_races : (tree : SyntaxTree) (dag : List (List Node)) (columns : List Column) (accesses : List NodeAccess) (reports : List Report) → tree.init ≡ Empty
+    → dag ≡ node_columns columns → columns ≡ serial_ended_columns (pipeline_of tree []) → accesses ≡ serial_accesses (pipeline_of tree [])
+    → AreFirstRaces dag accesses reports → AreFirstRaces (elision_columns tree []) (elision_accesses tree []) reports
+whole_races tree dag columns accesses reports none d e a r =
+    subst (λ traces. AreFirstRaces (map column_of traces) (located_from 0 traces) reports) (sym (loop_traces_alone tree [] none))
+    (told_races tree dag columns accesses reports d e a r)
+
+-- what is printed for the elision's output, trap and races is the result of the program's run
 pub outcome_of_run : (tree : SyntaxTree) (dag : List (List Node)) (columns : List Column) (accesses : List NodeAccess) (output : List ℤ) (trap : Option TrapAt) (reports : List Report)
-    {status : ℕ} {text : List ℕ} → dag ≡ node_columns columns → columns ≡ serial_ended_columns (pipeline_of tree []) → accesses ≡ elision_accesses tree
-    → output ≡ serial_output (pipeline_of tree []) → trap ≡ elision_trap tree → AreFirstRaces dag accesses reports
-    → IsPrintedAs tree.cells output trap reports status text → RunResult tree status text reports
-outcome_of_run tree dag columns accesses output trap reports d e a o t r (WithRaces some) =
-    let first = told_races tree dag columns accesses reports d e a r in
+    {status : ℕ} {text : List ℕ} → tree.init ≡ Empty → tree.last ≡ Empty → dag ≡ node_columns columns → columns ≡ serial_ended_columns (pipeline_of tree [])
+    → accesses ≡ serial_accesses (pipeline_of tree []) → output ≡ serial_output (pipeline_of tree []) → trap ≡ serial_trap (pipeline_of tree [])
+    → AreFirstRaces dag accesses reports → IsPrintedAs tree.cells output trap reports status text → RunResult tree [] status text reports
+outcome_of_run tree dag columns accesses output trap reports no_init no_final d e a o t r (WithRaces some) =
+    let first = whole_races tree dag columns accesses reports no_init d e a r in
     Races reports (λ free. some ((no_report_is_race_free _ _ reports first).1 free)) first
-outcome_of_run tree dag columns accesses output trap reports d e a o t r (ToItsEnd none ends) =
-    let free = (no_report_is_race_free _ _ reports (told_races tree dag columns accesses reports d e a r)).0 none in
-    rw (none, o) (Finishes free (sym t ∙ ends))
-outcome_of_run tree dag columns accesses output trap reports d e a o t r (WithTrap at none ends) =
-    let free = (no_report_is_race_free _ _ reports (told_races tree dag columns accesses reports d e a r)).0 none in
-    rw (none, o) (Traps at free (sym t ∙ ends))
+outcome_of_run tree dag columns accesses output trap reports no_init no_final d e a o t r (ToItsEnd none ends) =
+    let free = (no_report_is_race_free _ _ reports (whole_races tree dag columns accesses reports no_init d e a r)).0 none in
+    let alone = loops_alone tree [] no_init no_final in
+    rw (none, o ∙ sym alone.0) (Finishes free (alone.1 ∙ sym t ∙ ends))
+outcome_of_run tree dag columns accesses output trap reports no_init no_final d e a o t r (WithTrap at none ends) =
+    let free = (no_report_is_race_free _ _ reports (whole_races tree dag columns accesses reports no_init d e a r)).0 none in
+    let alone = loops_alone tree [] no_init no_final in
+    rw (none, o ∙ sym alone.0) (Traps at free (alone.1 ∙ sym t ∙ ends))
 
 -- the elision has few enough columns for its events to be told
 pub told_columns_are_few : (source : List ℕ) (tree : SyntaxTree) (columns : List Column) → IsAccepted source tree
@@ -102,9 +115,12 @@ told_columns_are_few source tree columns form e =
     let most = few_iterations tree.limits (no_fault (first_limit_out tree.limits) _ form.obeys).0 in
     omega (arith, ap length e, few, most)
 
--- the log of the elision's columns and events is that of the program
-pub told_log : (tree : SyntaxTree) (columns : List Column) (accesses : List NodeAccess) (events : List Event)
-    → columns ≡ serial_ended_columns (pipeline_of tree []) → accesses ≡ elision_accesses tree
+-- the elision's columns and events are the log of the program
+pub told_log : (tree : SyntaxTree) (columns : List Column) (accesses : List NodeAccess) (events : List Event) → tree.init ≡ Empty
+    → columns ≡ serial_ended_columns (pipeline_of tree []) → accesses ≡ serial_accesses (pipeline_of tree [])
     → ((p : Pipeline) → columns ≡ serial_ended_columns p → accesses ≡ serial_accesses p → events ≡ serial_events p)
-    → record { columns = columns; events = events } ≡ elision_log tree
-told_log tree columns accesses events e a told = λ i. record { columns = e i; events = told (pipeline_of tree []) e a i }
+    → record { columns = columns; events = events } ≡ elision_log tree []
+told_log tree columns accesses events none e a told =
+    let serial : RunLog = record { columns = serial_ended_columns (pipeline_of tree []); events = serial_events (pipeline_of tree []) } in
+    let same : (let l : RunLog = record { columns = columns; events = events } in l) ≡ serial = λ i. record { columns = e i; events = told (pipeline_of tree []) e a i } in
+    same ∙ ap (λ traces. (let l : RunLog = record { columns = map ended_column traces; events = trace_events_from 0 traces } in l)) (sym (loop_traces_alone tree [] none))

@@ -1,13 +1,14 @@
 -- The headline: what a call promises of a program that it accepts, whatever the throttling limit.
-use Rattle.std.specs.Prelude.{◌≡◌, ◌≢◌, ◌≤◌, ◌⊎◌, ◌↔◌, ◌++◌, ℕ, List, [], length, Option, Some, None}
+use Rattle.std.specs.Prelude.{◌≡◌, ◌≢◌, ◌≤◌, ◌⊎◌, ◌↔◌, ◌++◌, ℕ, ℤ, List, [], length, Option, Some, None}
 use Rattle.pipe_model.specs.declared.event.RunLog.{RunLog}
 use Rattle.pipe_model.specs.declared.report.Report.{Report}
-use Rattle.pipe_model.specs.Language.Programs.{pipeline_of}
+use Rattle.pipe_model.specs.Language.ProgramsOfTrees.{whole_of}
 use Rattle.pipe_model.specs.Races.Reports.{AreRight}
-use Rattle.pipe_model.specs.Runs.RunLogs.{IsFinishedRun, accesses_after, columns_after}
+use Rattle.pipe_model.specs.Runs.RunLogs.{accesses_after, columns_after}
 use Rattle.pipe_model.specs.Language.SyntaxTree.{SyntaxTree}
 use Rattle.pipe_model.specs.Texts.{trap_lines}
 use Rattle.pipe_model.specs.Runs.Throttling.{IsThrottled}
+use Rattle.pipe_model.specs.Runs.WholeProgramRuns.{IsFinishedProgramRun}
 use Rattle.cilkp_program.specs.CallResults.{HasTaken}
 use Rattle.cilkp_program.specs.CellNames.{race_lines}
 use Rattle.cilkp_program.specs.Reads.{Content}
@@ -22,20 +23,20 @@ pub record IsToRun (words : List (List ℕ)) (content : Content) (tree : SyntaxT
   pub empty : content input ≡ Some []
 
 -- a run of the program under the throttling limit, by its log, its reports, and the status and the text of the call
-pub record MeetsHeadline (tree : SyntaxTree) (limit : ℕ) (log : RunLog) (reports : List Report) (status : ℕ) (text : List ℕ) : Type 0 where
+pub record MeetsHeadline (tree : SyntaxTree) (input : List ℤ) (limit : ℕ) (log : RunLog) (reports : List Report) (status : ℕ) (text : List ℕ) : Type 0 where
   -- the log tells a finished run of the program on its input, with the run's own columns
-  pub run : IsFinishedRun (pipeline_of tree []) limit log
+  pub run : IsFinishedProgramRun (whole_of tree input) limit log
   -- a cell has a report exactly if two conflicting accesses to it are parallel in the run's own dag; it has at most one, and the reports rise by cell
   pub reported : AreRight (columns_after log.events) (accesses_after log.events) reports
   -- no cell is reported exactly when the dag of the serial elision has no race
-  pub silent : (reports ≡ []) ↔ ElisionHasNoRace tree
+  pub silent : (reports ≡ []) ↔ ElisionHasNoRace tree input
   -- status 2 comes exactly when the dag of the serial elision has a race, and the races are printed
-  pub racy : (status ≡ 2) ↔ (ElisionHasNoRace tree → ⊥)
+  pub racy : (status ≡ 2) ↔ (ElisionHasNoRace tree input → ⊥)
   pub races : status ≡ 2 → text ≡ race_lines tree.cells reports
   -- otherwise the output and the trap of the serial elision are printed, with status 3 exactly when it has a trap
-  pub otherwise : ElisionHasNoRace tree → text ≡ elision_output_text tree ++ trap_lines (elision_trap tree)
-  pub trapped : (status ≡ 3) ↔ (ElisionHasNoRace tree × (elision_trap tree ≢ None))
-  pub finished : (status ≡ 0) ↔ (ElisionHasNoRace tree × (elision_trap tree ≡ None))
+  pub otherwise : ElisionHasNoRace tree input → text ≡ elision_output_text tree input ++ trap_lines (elision_trap tree input)
+  pub trapped : (status ≡ 3) ↔ (ElisionHasNoRace tree input × (elision_trap tree input ≢ None))
+  pub untrapped : (status ≡ 0) ↔ (ElisionHasNoRace tree input × (elision_trap tree input ≡ None))
   -- at most the throttling limit of iterations are alive at any event
   pub throttled : IsThrottled limit log.events
 
@@ -48,4 +49,4 @@ pub record ReturnsRun (tree : SyntaxTree) (status written : ℕ) (run_log : Opti
   pub whole : written ≡ length text
   pub taken : HasTaken written text taken_before taken_now
   pub complete : (status ≡ 0) ⊎ ((status ≡ 2) ⊎ (status ≡ 3))
-  pub meets : (limit : ℕ) → 1 ≤ limit → MeetsHeadline tree limit log reports status text
+  pub meets : (limit : ℕ) → 1 ≤ limit → MeetsHeadline tree [] limit log reports status text

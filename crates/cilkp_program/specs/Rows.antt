@@ -1,5 +1,5 @@
 -- The table of answers: what a call prints, with its status, its run log and its reports of races, where nothing goes wrong outside.
-use Rattle.std.specs.Prelude.{◌≡◌, ◌≢◌, ℕ, ◌++◌, List, [], ◌∷◌, map, Option, Some, None, codes, String, string_bytes}
+use Rattle.std.specs.Prelude.{◌≡◌, ◌≢◌, ℕ, ℤ, ◌++◌, List, [], ◌∷◌, map, Option, Some, None, codes, String, string_bytes}
 use Rattle.std.specs.declared.alloc.Global.{Global}
 use Rattle.pipe_model.specs.declared.access.NodeAccess.{NodeAccess}
 use Rattle.pipe_model.specs.declared.event.RunLog.{RunLog}
@@ -9,10 +9,10 @@ use Rattle.pipe_model.specs.declared.trap.TrapAt.{TrapAt}
 use Rattle.pipe_model.specs.Language.CanonicalText.{program_text}
 use Rattle.pipe_model.specs.Language.FirstForm.{IsFirstForm}
 use Rattle.pipe_model.specs.Races.FirstRaces.{AreFirstRaces}
-use Rattle.pipe_model.specs.Pipelines.ElisionResults.{serial_ended_columns, serial_output, serial_trap}
-use Rattle.pipe_model.specs.Language.Programs.{pipeline_of}
+use Rattle.pipe_model.specs.Pipelines.Behaviour.{column_of}
+use Rattle.pipe_model.specs.Pipelines.WholePrograms.{loop_accesses, loop_traces, program_log, program_output, program_trap}
+use Rattle.pipe_model.specs.Language.ProgramsOfTrees.{whole_of}
 use Rattle.pipe_model.specs.Races.DeterminacyRaces.{IsRaceFree}
-use Rattle.pipe_model.specs.Pipelines.SerialElision.{serial_columns, serial_accesses, serial_events}
 use Rattle.pipe_model.specs.Language.SourceRefusals.{IsAccepted, IsRefused, Refusal}
 use Rattle.pipe_model.specs.Language.SyntaxTree.{SyntaxTree}
 use Rattle.pipe_model.specs.Texts.{output_lines, trap_line, refusal_line, refused_usage, refused_missing, refused_program, refused_input}
@@ -76,36 +76,36 @@ pub data InputRefusal (name : List ℕ) (file : Option (List ℕ)) : List ℕ �
   InputMissing : file ≡ None → InputRefusal name file (refused_missing name)
   InputNotEmpty : (bytes : List ℕ) → file ≡ Some bytes → bytes ≢ [] → InputRefusal name file refused_input
 
--- the output of the program's serial elision, with an empty input
-abbrev pub elision_output_text : SyntaxTree → List ℕ
-elision_output_text tree = output_lines (serial_output (pipeline_of tree []))
+-- ---- the serial elision of a program on an input
 
--- the trap of the program's serial elision, with an empty input
-abbrev pub elision_trap : SyntaxTree → Option TrapAt
-elision_trap tree = serial_trap (pipeline_of tree [])
+abbrev pub elision_output_text : SyntaxTree → List ℤ → List ℕ
+elision_output_text tree input = output_lines (program_output (whole_of tree input))
 
--- the columns of the program's serial elision, with an empty input
-abbrev pub elision_columns : SyntaxTree → List (List Node)
-elision_columns tree = serial_columns (pipeline_of tree [])
+abbrev pub elision_trap : SyntaxTree → List ℤ → Option TrapAt
+elision_trap tree input = program_trap (whole_of tree input)
 
--- the accesses of the program's serial elision, with an empty input
-abbrev pub elision_accesses : SyntaxTree → List NodeAccess
-elision_accesses tree = serial_accesses (pipeline_of tree [])
+-- the columns of its loop
+abbrev pub elision_columns : SyntaxTree → List ℤ → List (List Node)
+elision_columns tree input = map column_of (loop_traces (whole_of tree input))
 
--- the program's serial elision as a run, with an empty input: its columns and its events
-abbrev pub elision_log : SyntaxTree → RunLog
-elision_log tree = record { columns = serial_ended_columns (pipeline_of tree []); events = serial_events (pipeline_of tree []) }
+-- the accesses of its loop: those of `init` and `final` race with nothing
+abbrev pub elision_accesses : SyntaxTree → List ℤ → List NodeAccess
+elision_accesses tree input = loop_accesses (whole_of tree input)
 
--- the dag of the program's serial elision has no race
-abbrev pub ElisionHasNoRace : SyntaxTree → Type 0
-ElisionHasNoRace tree = IsRaceFree (elision_columns tree) (elision_accesses tree)
+-- the elision as a run
+abbrev pub elision_log : SyntaxTree → List ℤ → RunLog
+elision_log tree input = program_log (whole_of tree input)
 
--- what a run of the program comes to: where the dag of its serial elision has a race, the first race of each cell, with status 2;
--- and where it has none, its output with status 0, or its output and its trap with status 3
-pub data RunResult (tree : SyntaxTree) : ℕ → List ℕ → List Report → Type 0 where
-  Races : (reports : List Report) → (ElisionHasNoRace tree → ⊥) → AreFirstRaces (elision_columns tree) (elision_accesses tree) reports → RunResult tree 2 (race_lines tree.cells reports) reports
-  Finishes : ElisionHasNoRace tree → elision_trap tree ≡ None → RunResult tree 0 (elision_output_text tree) []
-  Traps : (t : TrapAt) → ElisionHasNoRace tree → elision_trap tree ≡ Some t → RunResult tree 3 (elision_output_text tree ++ trap_line t) []
+abbrev pub ElisionHasNoRace : SyntaxTree → List ℤ → Type 0
+ElisionHasNoRace tree input = IsRaceFree (elision_columns tree input) (elision_accesses tree input)
+
+-- the status, the text and the reports of a run of the program: if the dag of its serial elision has a race, status 2 and the first race of each cell;
+-- otherwise its output with status 0, or its output and its trap with status 3
+pub data RunResult (tree : SyntaxTree) (input : List ℤ) : ℕ → List ℕ → List Report → Type 0 where
+  Races : (reports : List Report) → (ElisionHasNoRace tree input → ⊥) → AreFirstRaces (elision_columns tree input) (elision_accesses tree input) reports
+      → RunResult tree input 2 (race_lines tree.cells reports) reports
+  Finishes : ElisionHasNoRace tree input → elision_trap tree input ≡ None → RunResult tree input 0 (elision_output_text tree input) []
+  Traps : (t : TrapAt) → ElisionHasNoRace tree input → elision_trap tree input ≡ Some t → RunResult tree input 3 (elision_output_text tree input ++ trap_line t) []
 
 -- the row of a call by its words and its files: its status, its text, its run log where the program is run, and its reports.
 -- The first refusal in this order counts: the words, the source, the input. Only programs of the first form are run
@@ -119,4 +119,4 @@ pub data Row (words : List (List ℕ)) (held : FileContents) : ℕ → List ℕ 
   InputRefused : (source input : List ℕ) {text : List ℕ} (tree : SyntaxTree) → words ≡ run_words source input → IsPlainSourceOf held.source tree
       → InputRefusal input held.input text → Row words held 1 text None []
   Runs : (source input : List ℕ) {status : ℕ} {text : List ℕ} {reports : List Report} (tree : SyntaxTree) → words ≡ run_words source input
-      → IsPlainSourceOf held.source tree → held.input ≡ Some [] → RunResult tree status text reports → Row words held status text (Some (elision_log tree)) reports
+      → IsPlainSourceOf held.source tree → held.input ≡ Some [] → RunResult tree [] status text reports → Row words held status text (Some (elision_log tree [])) reports

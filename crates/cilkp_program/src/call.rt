@@ -123,8 +123,8 @@ fn printed_run(
 // What a run of the program comes to, with its log: the run is the serial one, one iteration after the other.
 fn run_program(alloc: Global, program: &Program) -> Result<Answer, NoMemory>
     requires { (source : List ℕ) × IsFirstForm source (tree_of program.now) }
-    ensures outcome { IfOk result (λ a. RunResult (tree_of program.now) a.status a.text a.reports) }
-    ensures log { IfOk result (λ a. a.run_log ≡ Some (elision_log (tree_of program.now))) }
+    ensures outcome { IfOk result (λ a. RunResult (tree_of program.now) [] a.status a.text a.reports) }
+    ensures log { IfOk result (λ a. a.run_log ≡ Some (elision_log (tree_of program.now) [])) }
 {
     let SerialRun {
         output,

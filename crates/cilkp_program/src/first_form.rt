@@ -3,7 +3,7 @@
 ghost use Rattle.std.specs.Prelude.{◌≡◌, ◌==◌, ◌↔◌, ℕ, List, IsFalse, IsTrue};
 ghost use Rattle.std.specs.List.{count_by, list_all};
 ghost use Rattle.pipe_model.specs.Language.FirstForm as first_form;
-ghost use Rattle.pipe_model.specs.Language.SyntaxTree.{expression_of, statement_of, statements_of, tree_of};
+ghost use Rattle.pipe_model.specs.Language.SyntaxTree.{Empty, expression_of, statement_of, statements_of, tree_of};
 ghost use Rattle.pipe_model.specs.Language.Tokens.{symbol_as, symbols_in};
 
 use pipe_model::token::{Token, TokenKind};
@@ -101,6 +101,14 @@ fn has_part(tokens: &[Token]) -> bool
     tokens.iter().any(begins_part)
 }
 
+// Whether a block has no statement.
+#[tactic(auto, using(crate::proofs::FirstFormTests::no_statement))]
+fn is_empty_block(statements: &[Stmt]) -> bool
+    ensures { IsTrue result ↔ (statements_of statements.now ≡ Empty) }
+{
+    statements.is_empty()
+}
+
 /// Whether a program is of the first form: its cells have no size, its test and the expressions of its loop are numbers and
 /// names with `<` and `+`, the statements of its loop are `let`, assignment to a name, `emit` and stages, and its tokens have
 /// neither `init` nor `final`, nor a `(` besides one of the test and one of each stage.
@@ -110,6 +118,8 @@ pub fn is_first_form(tokens: &[Token], program: &Program) -> bool
     are_plain_cells(program.cells.as_slice())
         && is_plain_expression(&program.test)
         && are_plain_statements(&program.body.statements)
+        && is_empty_block(&program.init.statements)
+        && is_empty_block(&program.last.statements)
         && !has_part(tokens)
         && count_stages(&program.body.statements).checked_add(1) == Some(count_open_round(tokens))
 }

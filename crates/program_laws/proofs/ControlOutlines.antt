@@ -38,18 +38,18 @@ same_columns s t h = sym (columns_of_outlines s.frames) ∙ ap (λ l. map (λ (f
 same_finished : (s t : State) → HaveSameControl s t → IsFinished s → IsFinished t
 same_finished s t h fin =
     let shut = fin.shut in
-    let there = same_frame t.frames s.frames shut.0 shut.1 (sym h.frames) shut.2 in
+    let there = same_frame t.frames s.frames shut.iteration shut.frame (sym h.frames) shut.is in
     record {
       over = λ i f is. (
           let g = same_frame s.frames t.frames i f h.frames is in
           subst (λ w. is_completed w ≡ true) g.status (fin.over i g.frame g.is));
-      shut = (
-        shut.0,
-        there.frame,
-        there.is,
-        subst (λ w. ClosesLoop w there.frame.nodes) (sym there.status)
-            (subst (λ (l : List Node). ClosesLoop shut.1.status l) (sym there.nodes) shut.3),
-      );
+      shut = record {
+        iteration = shut.iteration;
+        frame = there.frame;
+        is = there.is;
+        closes = subst (λ w. ClosesLoop w there.frame.nodes) (sym there.status)
+            (subst (λ (l : List Node). ClosesLoop shut.frame.status l) (sym there.nodes) shut.closes);
+      };
       going = sym h.stopped ∙ fin.going;
     }
 

@@ -45,12 +45,12 @@ finished_allows_none p limit events s e r fin apart h = by_event e h apart
     by_event : (x : Event) → Allowed p limit s x → x ≢ Stop → ⊥
     by_event (Begin i) h apart =
         let shut = fin.shut in
-        let within = frame_at_within s.frames shut.0 shut.1 shut.2 in
+        let within = frame_at_within s.frames shut.iteration shut.frame shut.is in
         let number = h.control.number in
-        elim (cases_lt (shut.0 + 1) (length s.frames)) [
-          | inl less ↦ closed_or_goes_on shut.1.status shut.1.nodes shut.3 ((run_consistent r).sound.goes shut.0 shut.1 shut.2 less)
-          | inr last ↦ closed_or_goes_on shut.1.status shut.1.nodes shut.3
-              (h.control.follows shut.0 shut.1 (omega (arith, within, last, number)) shut.2)
+        elim (cases_lt (shut.iteration + 1) (length s.frames)) [
+          | inl less ↦ closed_or_goes_on shut.frame.status shut.frame.nodes shut.closes ((run_consistent r).sound.goes shut.iteration shut.frame shut.is less)
+          | inr last ↦ closed_or_goes_on shut.frame.status shut.frame.nodes shut.closes
+              (h.control.follows shut.iteration shut.frame (omega (arith, within, last, number)) shut.is)
         ]
     by_event (Access i a) h apart = runs_not i h.control
     by_event (Advance i k n) h apart = runs_not i h.control.running

@@ -17,7 +17,6 @@ pub fn candidates_are_allowed()
 
 /// A run that is neither finished nor stopped has a candidate, if there is at least one worker and the limit is at
 /// least 1.
-#[tactic(auto, using(crate::proofs::Candidates::runs_have_candidates))]
 pub fn runs_have_candidates()
     ensures { RunsHaveCandidates }
 {}
@@ -29,7 +28,6 @@ pub fn played_runs_are_runs()
 {}
 
 /// A run that was not stopped is finished exactly if it has no candidate.
-#[tactic(auto, using(crate::proofs::PlayedSchedules::finished_runs_have_no_candidate))]
 pub fn finished_runs_have_no_candidate()
     ensures { FinishedRunsHaveNoCandidate }
 {}

@@ -94,6 +94,8 @@ pub record IsPlain (ts : List Symbol) (tree : SyntaxTree) : Type 0 where
   pub cells : list_all is_plain_cell tree.cells ≡ true
   pub test : is_plain_expression tree.test ≡ true
   pub body : are_plain_statements tree.body ≡ true
+  pub init : tree.init ≡ Empty
+  pub last : tree.last ≡ Empty
   pub no_part : count_by begins_part ts ≡ 0
   pub no_bracket : count_by is_open_round ts ≡ 1 + stages_in tree.body
 

@@ -23,10 +23,10 @@ serial_events-requires c = told_columns_are_few _ _ _ c.requires.1.accepted (rw 
 
 pub returns-clause-outcome : goal.returns-clause-outcome
 returns-clause-outcome c =
-    outcome_of_run _ _ _ _ _ _ _ c.in_ok-of.ensures (rw c.new.ensures at c.in_ok-output.ensures.columns) (rw c.new.ensures at c.in_ok-output.ensures.accesses)
+    outcome_of_run _ _ _ _ _ _ _ c.requires.1.plain.init c.requires.1.plain.last c.in_ok-of.ensures (rw c.new.ensures at c.in_ok-output.ensures.columns) (rw c.new.ensures at c.in_ok-output.ensures.accesses)
     (rw c.new.ensures at c.in_ok-output.ensures.output) (rw c.new.ensures at c.in_ok-output.ensures.trap) c.in_ok-reports.ensures
     (rw c.as_slice.ensures at c.in_ok-status.ensures)
 
 pub returns-clause-log : goal.returns-clause-log
 returns-clause-log c =
-    ap Some (told_log (tree_of c.args.program.now) _ _ _ (rw c.new.ensures at c.in_ok-output.ensures.columns) (rw c.new.ensures at c.in_ok-output.ensures.accesses) c.in_ok-events.ensures)
+    ap Some (told_log (tree_of c.args.program.now) _ _ _ c.requires.1.plain.init (rw c.new.ensures at c.in_ok-output.ensures.columns) (rw c.new.ensures at c.in_ok-output.ensures.accesses) c.in_ok-events.ensures)
