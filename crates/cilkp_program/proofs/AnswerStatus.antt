@@ -1,5 +1,5 @@
 -- What the status of an answer tells: its causes, and whether a run is logged.
-use Rattle.std.proofs.Common.{◌≡◌, ◌≤◌, ◌⊎◌, ◌↔◌, ℕ, List, Option, Some, None, refl, inl, inr, arith}
+use Rattle.std.proofs.Common.{◌≡◌, ◌≤◌, ◌⊎◌, ◌↔◌, ℕ, List, Option, Some, None, refl, inl, inr, arith, ℤ, []}
 use Rattle.pipe_model.specs.declared.event.RunLog.{RunLog}
 use Rattle.pipe_model.specs.declared.report.Report.{Report}
 use Rattle.pipe_model.specs.Language.SyntaxTree.{SyntaxTree}
