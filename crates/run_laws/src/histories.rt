@@ -26,7 +26,6 @@ pub fn histories_decide_races()
 
 /// In every run, each report of what the histories find names a race, the earlier access first, and each cell with a
 /// race has a report.
-#[tactic(auto, using(crate::proofs::RaceHistories::CellReports::reports_are_right))]
 pub fn reports_are_right()
     ensures { ReportsAreRight }
 {}

@@ -49,7 +49,8 @@ store_of tree = record {
   output_limit = natural tree.limits.emits;
 }
 
--- the pipeline of a program without `init`: each instance has its budget of steps, and the iteration after the last that is allowed closes the loop
+-- the pipeline of a program without `init`: each instance has its budget of steps, and the iteration after the last that is
+-- allowed closes the loop
 abbrev pub pipeline_of : SyntaxTree → List ℤ → Pipeline
 pipeline_of tree input = record {
   store = store_of tree;
