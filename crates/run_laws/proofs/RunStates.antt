@@ -10,6 +10,7 @@ pub mod GrowingColumns
 pub mod IterationCounts
 pub mod LastIteration
 pub mod LaterEdges
+pub mod LoopEnds
 pub mod Progress
 pub mod QuietEvents
 pub mod RunAccesses

@@ -1,4 +1,5 @@
 pub mod BehaviourLaws
+pub mod EachRun
 pub mod HistoryLaws
 pub mod LogLaws
 pub mod OrderLaws

@@ -3,12 +3,9 @@
 use Rattle.std.specs.Prelude.{None, if◌then◌else◌, nat_lt, List, ◌↔◌, ℕ, ◌≡◌, length, suc, ◌+◌, ◌<◌, Some, [], ◌∷◌, ◌++◌, true}
 use Rattle.pipe_model.specs.Runs.Allowed.{ControlAllows}
 use Rattle.pipe_model.specs.Races.Columns.{node_at, AreColumns, IsNodeOf, nodes_at, at}
-use Rattle.pipe_model.specs.Runs.ControlRun.{ControlRun}
 use Rattle.pipe_model.specs.Races.Dag.{Precedes, CrossEdge}
 use Rattle.pipe_model.specs.Orders.LeftParent.{left_parent, last_up_to, joined_at}
 use Rattle.pipe_model.specs.Orders.OrderList.{insert_after, IsLog, has, list_of_log, StandsBefore}
-use Rattle.pipe_model.specs.Pipelines.Pipeline.{Pipeline}
-use Rattle.pipe_model.specs.Runs.Run.{Run}
 use Rattle.pipe_model.specs.Orders.Starts.{AreStarts, starts_of, IsStarted, start_number, started_by}
 use Rattle.pipe_model.specs.Runs.State.{State, own_columns, next_state}
 use Rattle.pipe_model.specs.Orders.TwoOrders.{IsBeforeInBoth, down_element, right_element, down_first_log, log_entries, down_first_taken}
@@ -17,11 +14,7 @@ use Rattle.pipe_model.specs.declared.event.Event.{Event}
 use Rattle.pipe_model.specs.declared.node.Kind.TheVariants.{Wait, Continue}
 use Rattle.pipe_model.specs.declared.node.Node.{Node}
 use Rattle.pipe_model.specs.declared.node.NodeId.{NodeId}
-
--- a law of each run of a pipeline, and of each run of the control part
-pub record OfEachRun (Law : ℕ → List Event → State → Type 0) : Type 0 where
-  pub runs : (p : Pipeline) (limit : ℕ) (events : List Event) (s : State) → Run p limit events s → Law limit events s
-  pub control_runs : (limit : ℕ) (events : List Event) (c : State) → ControlRun limit events c → Law limit events c
+use Rattle.run_laws.specs.EachRun.{OfEachRun}
 
 -- what the starts of a run are: the instances of its own columns, each once, each after all that have an edge to it
 pub record HasStarts (events : List Event) (s : State) : Type 0 where

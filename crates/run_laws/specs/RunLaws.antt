@@ -1,6 +1,6 @@
 -- Laws of runs: what every run keeps, that it goes on, and that it comes to an end.
 use Rattle.std.specs.Prelude.{List, ℕ, suc, length, ◌≡◌, ◌+◌, ◌≤◌, ◌<◌, false, ◌≢◌, ◌⊎◌, zero, ◌*◌, ◌↔◌}
-use Rattle.pipe_model.specs.Runs.Allowed.{Allowed}
+use Rattle.pipe_model.specs.Runs.Allowed.{Allowed, IsClosed, LastEndedFirstInstance, MayBegin}
 use Rattle.pipe_model.specs.Races.Columns.{IsRising, nodes_at}
 use Rattle.pipe_model.specs.Pipelines.Pipeline.{Pipeline, IsWellFormed, AlwaysClosesLoop, HasBoundedWork}
 use Rattle.pipe_model.specs.Races.DeterminacyRaces.{Among}
@@ -10,6 +10,7 @@ use Rattle.pipe_model.specs.Runs.Throttling.{begun_count, ended_count, IsThrottl
 use Rattle.pipe_model.specs.declared.access.NodeAccess.{NodeAccess}
 use Rattle.pipe_model.specs.declared.event.Event.{Event}
 use Rattle.pipe_model.specs.declared.event.Event.TheVariants.{Stop}
+use Rattle.run_laws.specs.EachRun.{OfEachRun}
 
 -- what every run keeps: iterations have begun_count, are alive or have ended; after each event at most `limit` are alive; the
 -- stage numbers of an iteration rise; and each access is made by an instance of the run
@@ -39,6 +40,18 @@ RunsNeverStick =
     (p : Pipeline) (limit : ℕ) (events : List Event) (s : State) → Run p limit events s
     → IsWellFormed p → 0 < limit → s.stopped ≡ false
     → IsFinished s ⊎ ((e : Event) × (e ≢ Stop) × Allowed p limit s e)
+
+-- the next iteration may begin exactly where fewer than the limit are alive, the loop is not closed, and the iteration
+-- that began last has ended its instance 0
+abbrev pub IterationsBeginInTurn : Type 0
+IterationsBeginInTurn = OfEachRun (λ limit events s.
+    MayBegin limit s (length s.frames)
+    ↔ ((alive s < limit) × (IsClosed s.frames → ⊥) × LastEndedFirstInstance s.frames))
+
+-- a state is ended_count exactly where it was not stopped, the loop is closed, and no iteration is alive
+abbrev pub FinishedStatesAreClosed : Type 0
+FinishedStatesAreClosed =
+    (s : State) → IsFinished s ↔ ((s.stopped ≡ false) × IsClosed s.frames × (alive s ≡ 0))
 
 -- the sum of a function below a number
 abbrev pub sum_below : (ℕ → ℕ) → ℕ → ℕ

@@ -1,4 +1,5 @@
-//! Laws of the two orders in which the detector keeps the instances of a run.
+//! Laws of the two orders in which the detector keeps the instances of a run. What holds in every run also holds in
+//! every run of the control part alone, whose events are not accesses.
 
 ghost use Rattle.run_laws.specs.OrderLaws.{LeftParentsAreFound, EntriesInsertElements, StartedNodesAreOwnNodes};
 ghost use Rattle.run_laws.specs.OrderLaws.{BothOrdersOfStarts, BothOrdersArePrecedes, PlaceholdersAreTakenOnce};

@@ -1,6 +1,7 @@
 //! Laws of runs: lists of events, each allowed after those before it.
 
 ghost use Rattle.run_laws.specs.RunLaws.{RunsKeepRules, RunsFromTheFront, RunsNeverStick, RunsAreBounded};
+ghost use Rattle.run_laws.specs.RunLaws.{IterationsBeginInTurn, FinishedStatesAreClosed};
 
 /// In every run the iterations that have begun are those that have ended and those that are alive, at most `limit`
 /// are alive, the stage numbers of an iteration rise, and each access is made by an instance that was started.
@@ -21,6 +22,18 @@ pub fn runs_from_the_front()
 #[tactic(auto, using(crate::proofs::RunStates::Progress::runs_never_stick))]
 pub fn runs_never_stick()
     ensures { RunsNeverStick }
+{}
+
+/// In every run, also of the control part alone, the next iteration may begin exactly where fewer than `limit` are
+/// alive, no iteration has closed the loop, and the iteration that began last has ended its instance 0.
+#[tactic(auto, using(crate::proofs::RunStates::LoopEnds::iterations_begin_in_turn))]
+pub fn iterations_begin_in_turn()
+    ensures { IterationsBeginInTurn }
+{}
+
+/// A state of a run is finished exactly where it was not stopped, an iteration has closed the loop, and none is alive.
+pub fn finished_states_are_closed()
+    ensures { FinishedStatesAreClosed }
 {}
 
 /// A run that was not stopped comes to an end. Where iteration i makes at most `more i` further instances with at

@@ -12,7 +12,7 @@ use Rattle.pipe_model.specs.Pipelines.Behaviour.{Behaviour, Reading, Writing, St
 use Rattle.pipe_model.specs.Pipelines.Pipeline.{Pipeline}
 use Rattle.pipe_model.specs.Pipelines.Store.{InitialStore, value_after}
 
--- the trace of an iteration to its end, each read answered from the accesses before it
+-- the trace of an iteration to its end; each read returns what the accesses before it leave in the cell
 abbrev pub serial_trace : InitialStore → Behaviour → List Access → List Action
 serial_trace store (Reading c go) before =
     Accessed (read_access c (value_after store before c)) ∷ serial_trace store (go (value_after store before c)) (before ++ read_access c (value_after store before c) ∷ [])

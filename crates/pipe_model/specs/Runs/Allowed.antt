@@ -1,5 +1,5 @@
--- Which events are allowed in a state (Lee et al. 2013): the control part, told by instances and status, and the program
--- part, told by traces and cells. An iteration waits until its left neighbour has named a greater number.
+-- Which events are allowed in a state (Lee et al. 2013). The control part goes by instances and status, the program part
+-- by traces and cells. An iteration waits until its left neighbour has named a greater stage number.
 use Rattle.std.specs.Prelude.{◌≡◌, ℕ, ℤ, zero, suc, List, ◌++◌, true, false, ◌≢◌, ◌<◌, ◌<ℤ◌, length, ◌-◌, Some}
 use Rattle.pipe_model.specs.declared.column.ColumnEnd.{ColumnEnd}
 use Rattle.pipe_model.specs.declared.event.Event.{Event}

@@ -8,7 +8,7 @@ use Rattle.pipe_model.specs.declared.event.Event.{Event}
 use Rattle.run_laws.proofs.ListOrders.StartsOfRuns.{IsStartSound, empty_sound, run_starts_sound, sound_step, starts_from-push}
 use Rattle.run_laws.proofs.LogMerge.ControlStates.{control_state_is}
 use Rattle.run_laws.proofs.RunStates.FrontAndBack.{run_state_is}
-use Rattle.run_laws.specs.OrderLaws.{OfEachRun}
+use Rattle.run_laws.specs.EachRun.{OfEachRun}
 
 -- the events make the state, and its frames and their starts are sound
 pub record HasSoundStarts (events : List Event) (s : State) : Type 0 where
