@@ -33,8 +33,8 @@ unequal x y = Binary 4 x y
 abbrev pub at_most : Expression → Expression → Expression
 at_most x y = Binary 6 x y
 
-abbrev pub greater : Expression → Expression → Expression
-greater x y = Binary 7 x y
+abbrev pub greater_than : Expression → Expression → Expression
+greater_than x y = Binary 7 x y
 
 abbrev pub at_least : Expression → Expression → Expression
 at_least x y = Binary 8 x y

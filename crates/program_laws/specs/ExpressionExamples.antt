@@ -4,7 +4,7 @@ use Rattle.pipe_model.specs.declared.trap.Trap.{Trap}
 use Rattle.pipe_model.specs.declared.trap.Trap.TheVariants as traps
 use Rattle.pipe_model.specs.Language.SyntaxTree.{Expression, Name, Element, And, Or, More, Take, Iter, Let, Assign, AssignElement, Emit, Empty, Then, SyntaxTree}
 use Rattle.language_laws.specs.LanguageExamples.{n, t, plus, less, plain_cell, trap_at}
-use Rattle.program_laws.specs.ExampleParts.{HasOutputAndTrap, a, at_least, at_most, computing, count_up, difference, emit_all, equal, failing, greater, limits_of, negation, negative, number, product, quotient, remainder, trap_in_final, unequal}
+use Rattle.program_laws.specs.ExampleParts.{HasOutputAndTrap, a, at_least, at_most, computing, count_up, difference, emit_all, equal, failing, greater_than, limits_of, negation, negative, number, product, quotient, remainder, trap_in_final, unequal}
 
 -- `final` emits the values
 abbrev pub Emits : List Expression → List ℤ → Type 0
@@ -15,16 +15,16 @@ abbrev pub EmitsAndTraps : List Expression → List ℤ → Trap → Type 0
 EmitsAndTraps values output trap = HasOutputAndTrap (computing (emit_all values Empty)) [] output (Some (trap_in_final trap))
 
 -- the greatest i64, and the least
-abbrev pub greatest : Expression
-greatest = number 9223372036854775807
+abbrev pub greatest_number : Expression
+greatest_number = number 9223372036854775807
 
-abbrev pub least : Expression
-least = difference (negative greatest) (number 1)
+abbrev pub least_number : Expression
+least_number = difference (negative greatest_number) (number 1)
 
 -- let t = 4; emit 0; emit the greatest number; emit t; emit n; n = 6; emit n;
 abbrev pub NamesAreRead : Type 0
 NamesAreRead =
-    HasOutputAndTrap (computing (Then (Let t (number 4)) (emit_all (number 0 ∷ greatest ∷ Name t ∷ Name n ∷ []) (Then (Assign n (number 6)) (Then (Emit (Name n)) Empty))))) []
+    HasOutputAndTrap (computing (Then (Let t (number 4)) (emit_all (number 0 ∷ greatest_number ∷ Name t ∷ Name n ∷ []) (Then (Assign n (number 6)) (Then (Emit (Name n)) Empty))))) []
     (pos 0 ∷ pos 9223372036854775807 ∷ pos 4 ∷ pos 0 ∷ pos 6 ∷ []) None
 
 -- a[1] = 7; n = 2; then elements by a number, by a cell and by a negative index
@@ -40,7 +40,7 @@ abbrev pub ComparisonsCompute : Type 0
 ComparisonsCompute =
     Emits (equal (number 2) (number 2) ∷ equal (number 2) (number 3) ∷ unequal (number 2) (number 3) ∷ unequal (number 2) (number 2) ∷ []) (pos 1 ∷ pos 0 ∷ pos 1 ∷ pos 0 ∷ [])
     × Emits (less (negative (number 1)) (number 0) ∷ less (number 3) (number 3) ∷ at_most (number 3) (number 3) ∷ at_most (number 3) (number 2) ∷ []) (pos 1 ∷ pos 0 ∷ pos 1 ∷ pos 0 ∷ [])
-    × Emits (greater (number 3) (number 2) ∷ greater (number 3) (number 3) ∷ at_least (number 3) (number 3) ∷ at_least (negative (number 3)) (number 3) ∷ [])
+    × Emits (greater_than (number 3) (number 2) ∷ greater_than (number 3) (number 3) ∷ at_least (number 3) (number 3) ∷ at_least (negative (number 3)) (number 3) ∷ [])
     (pos 1 ∷ pos 0 ∷ pos 1 ∷ pos 0 ∷ [])
 
 -- sum, difference and product; quotients are rounded towards 0, and a remainder has the sign of the dividend; negative and `!`
@@ -54,12 +54,12 @@ ArithmeticComputes =
 -- a result that is no i64, the quotient and the remainder of the least number and -1 among them
 abbrev pub ResultsOverflow : Type 0
 ResultsOverflow =
-    EmitsAndTraps (plus greatest (number 1) ∷ []) [] traps.Overflow
-    × EmitsAndTraps (least ∷ difference least (number 1) ∷ []) (negsuc 9223372036854775807 ∷ []) traps.Overflow
-    × EmitsAndTraps (product greatest (number 2) ∷ []) [] traps.Overflow
-    × EmitsAndTraps (quotient least (negative (number 1)) ∷ []) [] traps.Overflow
-    × EmitsAndTraps (remainder least (negative (number 1)) ∷ []) [] traps.Overflow
-    × EmitsAndTraps (negative least ∷ []) [] traps.Overflow
+    EmitsAndTraps (plus greatest_number (number 1) ∷ []) [] traps.Overflow
+    × EmitsAndTraps (least_number ∷ difference least_number (number 1) ∷ []) (negsuc 9223372036854775807 ∷ []) traps.Overflow
+    × EmitsAndTraps (product greatest_number (number 2) ∷ []) [] traps.Overflow
+    × EmitsAndTraps (quotient least_number (negative (number 1)) ∷ []) [] traps.Overflow
+    × EmitsAndTraps (remainder least_number (negative (number 1)) ∷ []) [] traps.Overflow
+    × EmitsAndTraps (negative least_number ∷ []) [] traps.Overflow
 
 abbrev pub DivisorsAreNotZero : Type 0
 DivisorsAreNotZero = EmitsAndTraps (failing ∷ []) [] traps.DivZero × EmitsAndTraps (remainder (number 1) (number 0) ∷ []) [] traps.DivZero
@@ -71,6 +71,10 @@ RightSidesAreLeftOut =
     × Emits (Or (number 2) failing ∷ Or (number 0) (number 5) ∷ Or (number 0) (number 0) ∷ []) (pos 1 ∷ pos 1 ∷ pos 0 ∷ [])
     × EmitsAndTraps (And (number 1) failing ∷ []) [] traps.DivZero
     × EmitsAndTraps (Or (number 0) failing ∷ []) [] traps.DivZero
+
+-- the left operand is evaluated first: take() - take()
+abbrev pub OperandsAreInOrder : Type 0
+OperandsAreInOrder = HasOutputAndTrap (computing (Then (Emit (difference Take Take)) Empty)) (pos 5 ∷ pos 2 ∷ []) (pos 3 ∷ []) None
 
 -- limits iterations 4, stages 1, steps 50, emits 4; cell n = 0; pipe_while (test) { n = n + 1; emit value; }
 abbrev pub repeating : Expression → Expression → SyntaxTree

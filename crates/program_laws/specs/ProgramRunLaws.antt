@@ -51,7 +51,8 @@ pub record HasElisionLog (w : WholeProgram) (limit : ℕ) : Type 0 where
 abbrev pub ProgramElisionIsARun : Type 0
 ProgramElisionIsARun = (w : WholeProgram) (limit : ℕ) → IsWellFormed w.loop → 0 < limit → HasElisionLog w limit
 
--- the run has a race exactly if the serial elision has one; if it has none, it has the columns, the output and the trap of the elision
+-- the run has a race exactly if the serial elision has one; if it has none, it has the columns, the output and the trap of the elision;
+-- at most `limit` iterations are alive after each event
 pub record MeetsElision (w : WholeProgram) (limit : ℕ) (log : RunLog) : Type 0 where
   pub races : IsRaceFree (columns_after log.events) (accesses_after log.events) ↔ IsRaceFree (map column_of (loop_traces w)) (loop_accesses w)
   pub columns : IsRaceFree (columns_after log.events) (accesses_after log.events) → log.columns ≡ program_columns w

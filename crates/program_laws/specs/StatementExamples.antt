@@ -5,7 +5,7 @@ use Rattle.pipe_model.specs.declared.node.Kind.TheVariants as kinds
 use Rattle.pipe_model.specs.declared.trap.Trap.TheVariants as traps
 use Rattle.pipe_model.specs.Pipelines.Behaviour.{node_of}
 use Rattle.pipe_model.specs.Language.ProgramsOfTrees.{whole_of}
-use Rattle.pipe_model.specs.Language.SyntaxTree.{Expression, Name, Element, Iter, Let, Assign, AssignElement, Emit, If, While, Stage, NextStage, Statements, Empty, Then, SyntaxTree}
+use Rattle.pipe_model.specs.Language.SyntaxTree.{Expression, Name, Element, Take, Iter, Let, Assign, AssignElement, Emit, If, While, Stage, NextStage, Statements, Empty, Then, SyntaxTree}
 use Rattle.pipe_model.specs.Pipelines.WholePrograms.{program_columns}
 use Rattle.language_laws.specs.LanguageExamples.{n, s, t, plus, less, plain_cell, trap_at}
 use Rattle.program_laws.specs.ExampleParts.{HasOutputAndTrap, a, c, computing, count_up, emit_all, equal, k, limits_of, negative, number, remainder, trap_in_final}
@@ -16,12 +16,13 @@ NamesAreAssigned =
     HasOutputAndTrap (computing (Then (Let k (number 1)) (count_up k (Then (Assign n (plus (Name k) (number 1))) (emit_all (Name k ∷ Name n ∷ []) Empty))))) []
     (pos 2 ∷ pos 3 ∷ []) None
 
--- a[n + 2] = 8; emit a[0]; emit a[2]; a[3] = 1;
+-- a[n + 2] = 8; emit a[0]; emit a[2]; a[3] = 1; and a[take()] = take(); emit a[1];
 abbrev pub ElementsAreAssigned : Type 0
 ElementsAreAssigned =
     HasOutputAndTrap (computing (Then (AssignElement a (plus (Name n) (number 2)) (number 8))
     (emit_all (Element a (number 0) ∷ Element a (number 2) ∷ []) (Then (AssignElement a (number 3) (number 1)) Empty)))) []
     (pos 5 ∷ pos 8 ∷ []) (Some (trap_in_final traps.Index))
+    × HasOutputAndTrap (computing (Then (AssignElement a Take Take) (Then (Emit (Element a (number 1))) Empty))) (pos 1 ∷ pos 7 ∷ []) (pos 7 ∷ []) None
 
 -- if (value) { emit 1; } else { emit 2; }
 abbrev pub branching : Expression → SyntaxTree
@@ -35,12 +36,16 @@ BranchesAreTaken =
     × HasOutputAndTrap (branching (number 0)) [] (pos 2 ∷ []) None
 
 -- let k = 1; if (1) { let t = 2; k = 5; emit t; } let t = 3; emit t; emit k;
+-- and let k = 0; while (k < 3) { let t = k; n = n + t; k = k + 1; } emit n;
 abbrev pub BlocksEndLocals : Type 0
 BlocksEndLocals =
     HasOutputAndTrap (computing (Then (Let k (number 1))
     (Then (If (number 1) (Then (Let t (number 2)) (Then (Assign k (number 5)) (Then (Emit (Name t)) Empty))) Empty)
     (Then (Let t (number 3)) (emit_all (Name t ∷ Name k ∷ []) Empty))))) []
     (pos 2 ∷ pos 3 ∷ pos 5 ∷ []) None
+    × HasOutputAndTrap (computing (Then (Let k (number 0))
+    (Then (While (less (Name k) (number 3)) (Then (Let t (Name k)) (Then (Assign n (plus (Name n) (Name t))) (count_up k Empty))))
+    (Then (Emit (Name n)) Empty)))) [] (pos 3 ∷ []) None
 
 -- let k = 0; while (k < turns) { n = n + 1; k = k + 1; } emit n;
 abbrev pub turning : ℕ → SyntaxTree

@@ -2,7 +2,7 @@
 
 ghost use Rattle.program_laws.specs.ExpressionExamples.{ArithmeticComputes, ArraysAreRead, ComparisonsCompute, DivisorsAreNotZero};
 ghost use Rattle.program_laws.specs.ExpressionExamples.{InputsAreTaken, IterationsAreNumbered, NamesAreRead, ResultsOverflow};
-ghost use Rattle.program_laws.specs.ExpressionExamples.{RightSidesAreLeftOut};
+ghost use Rattle.program_laws.specs.ExpressionExamples.{OperandsAreInOrder, RightSidesAreLeftOut};
 ghost use Rattle.program_laws.specs.StatementExamples.{BlocksEndLocals, BranchesAreTaken, ElementsAreAssigned, EveryOtherWaits};
 ghost use Rattle.program_laws.specs.StatementExamples.{LoopsTurn, NamesAreAssigned, StagesAreNamed, StagesTrap};
 ghost use Rattle.program_laws.specs.StatementExamples.{WaitsEmit};
@@ -45,6 +45,11 @@ pub fn right_sides_are_left_out()
     ensures { RightSidesAreLeftOut }
 {}
 
+/// The left operand is evaluated first.
+pub fn operands_are_in_order()
+    ensures { OperandsAreInOrder }
+{}
+
 /// `more()` and `take()`, and the end of the input.
 pub fn inputs_are_taken()
     ensures { InputsAreTaken }
@@ -60,7 +65,7 @@ pub fn names_are_assigned()
     ensures { NamesAreAssigned }
 {}
 
-/// Assignments to elements of an array, inside and outside it.
+/// Assignments to elements of an array, inside and outside it; the index is evaluated first.
 pub fn elements_are_assigned()
     ensures { ElementsAreAssigned }
 {}
@@ -70,7 +75,7 @@ pub fn branches_are_taken()
     ensures { BranchesAreTaken }
 {}
 
-/// A local of a block, and a local around it.
+/// A local of a block, also of the body of a loop, and a local around it.
 pub fn blocks_end_locals()
     ensures { BlocksEndLocals }
 {}

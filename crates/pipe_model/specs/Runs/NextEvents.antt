@@ -14,7 +14,7 @@ use Rattle.pipe_model.specs.declared.status.Status.{Status}
 use Rattle.pipe_model.specs.declared.status.Status.TheVariants.{Running, Pending, Completed}
 use Rattle.pipe_model.specs.Pipelines.Store.{value_after}
 
--- the iteration has named a stage with a number greater than n, or has ended
+-- the iteration runs or has named a stage with a number greater than n, or has ended
 abbrev pub has_passed : Status → List Node → ℤ → Bool
 has_passed Running nodes n = int_lt n (node_at nodes (length nodes - 1)).number
 has_passed (Pending k m) nodes n = int_lt n m
