@@ -1,13 +1,13 @@
 -- The pieces of the canonical text derive the program.
 use Rattle.std.proofs.Common.{◌≡◌, ℕ, zero, suc, ◌+◌, ◌≤◌, ℤ, pos, negsuc, List, [], ◌∷◌, ◌++◌, refl, arith, subst, Bool, true, false, nat_le, if◌then◌else◌, inl, inr, ◌⊎◌, Option, Some, None, ◌==◌}
 use Rattle.std.proofs.lemmas.Bool.Decides.{nat_tests}
-use Rattle.pipe_model.specs.declared.node.Kind.{Kind}
-use Rattle.pipe_model.specs.declared.node.Kind.TheVariants as kinds
+use Rattle.pipe_model.specs.declared.tree.StageKind.{StageKind}
+use Rattle.pipe_model.specs.declared.tree.StageKind.TheVariants as kinds
 use Rattle.pipe_model.specs.declared.symbol.Symbol.{Symbol}
 use Rattle.pipe_model.specs.declared.symbol.Symbol.TheVariants as symbols
 use Rattle.pipe_model.specs.declared.tree.Declaration.{Declaration}
 use Rattle.grammar_laws.proofs.CanonicalSymbols.{one_place_symbol, symbols_at_level, two_place_symbols, expression_symbols, part_pieces, statement_pieces, statements_pieces, size_pieces, value_pieces, cells_pieces, program_pieces, IsWritable, IsWritableStatement, AreWritable, IsWritableProgram}
-use Rattle.pipe_model.proofs.Levels.{below_operands, looser}
+use Rattle.pipe_model.proofs.LevelLaws.{below_operands, looser}
 use Rattle.pipe_model.specs.Language.CanonicalText.{level_in}
 use Rattle.pipe_model.specs.Language.SyntaxTree.{Expression, Number, Name, Element, And, Or, Binary, Unary, More, Take, Iter, binary_expression, Statement, Let, Assign, AssignElement, Emit, If, While, Stage, NextStage, Statements, Empty, Then, SyntaxTree}
 use Rattle.pipe_model.specs.Language.Grammar.{any_expression, operand_level, level_of, Derives, Numeral, Named, Indexed, CallsMore, CallsTake, CallsIter, Negative, Not, Bracketed, Joined, Piece, DerivesStatement, LetIs, AssignIs, AssignElementIs, EmitIs, IfIs, WhileIs, WaitIs, WaitNextIs, ContinueIs, ContinueNextIs, DerivesStatements, NoStatement, OneMore, BlockIs, DerivesPart, NoPart, PartIs, DerivesSize, NoSize, SizeIs, DerivesValue, ValueIs, NegativeValueIs, DerivesCells, NoCell, CellIs, DerivesProgram, ProgramIs}
@@ -102,19 +102,17 @@ full e h = let l = level_from e h in looser any_expression l (expression_derived
 
 -- ---- statements
 
-part_derived : (word : ℕ) (ss : Statements) (ps : List Piece) → DerivesStatements ps ss → DerivesPart word (part_pieces word ss ps) ss
+part_derived : (word : ℕ) (ss : Statements) (ps : List Piece) → DerivesStatements ps ss → DerivesPart (symbols.Word word) (part_pieces word ss ps) ss
 part_derived word Empty ps d = NoPart
 part_derived word (Then s ss) ps d = PartIs (BlockIs d)
 
-stage_derived : (kind : Kind) (e : Expression) → IsWritableStatement (Stage kind e) → DerivesStatement (statement_pieces (Stage kind e)) (Stage kind e)
-stage_derived kinds.Zero e h = absurd h.0
-stage_derived kinds.Wait e h = WaitIs (full e h.1)
-stage_derived kinds.Continue e h = ContinueIs (full e h.1)
+stage_derived : (kind : StageKind) (e : Expression) → IsWritable e → DerivesStatement (statement_pieces (Stage kind e)) (Stage kind e)
+stage_derived kinds.Wait e h = WaitIs (full e h)
+stage_derived kinds.Continue e h = ContinueIs (full e h)
 
-next_stage_derived : (kind : Kind) → IsWritableStatement (NextStage kind) → DerivesStatement (statement_pieces (NextStage kind)) (NextStage kind)
-next_stage_derived kinds.Zero h = absurd h
-next_stage_derived kinds.Wait h = WaitNextIs
-next_stage_derived kinds.Continue h = ContinueNextIs
+next_stage_derived : (kind : StageKind) → DerivesStatement (statement_pieces (NextStage kind)) (NextStage kind)
+next_stage_derived kinds.Wait = WaitNextIs
+next_stage_derived kinds.Continue = ContinueNextIs
 
 mutual
   -- the canonical pieces of a statement derive it
@@ -127,7 +125,7 @@ mutual
       IfIs (full e h.0) (BlockIs (statements_derived a h.1)) (part_derived 14 b (statements_pieces b) (statements_derived b h.2))
   statement_derived (While e a) h = WhileIs (full e h.0) (BlockIs (statements_derived a h.1))
   statement_derived (Stage kind e) h = stage_derived kind e h
-  statement_derived (NextStage kind) h = next_stage_derived kind h
+  statement_derived (NextStage kind) h = next_stage_derived kind
 
   -- the same of statements
   pub statements_derived : (ss : Statements) → AreWritable ss → DerivesStatements (statements_pieces ss) ss

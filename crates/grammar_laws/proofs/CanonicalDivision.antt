@@ -3,8 +3,8 @@ use Rattle.std.proofs.Common.{◌≡◌, ◌∙◌, ap, sym, refl, subst, ℕ, z
 use Rattle.std.specs.Fmt.{decimal, signed_decimal}
 use Rattle.std.specs.List.{flat_map}
 use Rattle.std.proofs.lemmas.Int.{ints}
-use Rattle.pipe_model.specs.declared.node.Kind.{Kind}
-use Rattle.pipe_model.specs.declared.node.Kind.TheVariants as kinds
+use Rattle.pipe_model.specs.declared.tree.StageKind.{StageKind}
+use Rattle.pipe_model.specs.declared.tree.StageKind.TheVariants as kinds
 use Rattle.pipe_model.specs.declared.symbol.Symbol.{Symbol}
 use Rattle.pipe_model.specs.declared.symbol.Symbol.TheVariants as symbols
 use Rattle.pipe_model.specs.declared.tree.Declaration.{Declaration}
@@ -266,18 +266,16 @@ block_symbols : (es : List Symbol) (a : List Piece) → (es ++ close_round ∷ o
 block_symbols es a =
     append_assoc es (close_round ∷ open_brace ∷ []) (flat a ++ close_brace ∷ []) ∙ ap (λ x. es ++ close_round ∷ open_brace ∷ x) (sym (flat_append a (Single close_brace ∷ [])))
 
-stage_writing : (n : ℕ) (kind : Kind) (e : Expression) → IsWritableStatement (Stage kind e) → Writing Any (statement_text n (Stage kind e)) (flat (statement_pieces (Stage kind e)))
-stage_writing n kinds.Zero e h = absurd h.0
+stage_writing : (n : ℕ) (kind : StageKind) (e : Expression) → IsWritable e → Writing Any (statement_text n (Stage kind e)) (flat (statement_pieces (Stage kind e)))
 stage_writing n kinds.Wait e h =
-    line_writing n (any_edge (both (word (codes "pipe_wait") 9 refl refl) (next round (closed e h.1 (next round_end end) (λ rest f. refl))) (λ rest f. refl)))
+    line_writing n (any_edge (both (word (codes "pipe_wait") 9 refl refl) (next round (closed e h (next round_end end) (λ rest f. refl))) (λ rest f. refl)))
 stage_writing n kinds.Continue e h =
-    line_writing n (any_edge (both (word (codes "pipe_continue") 10 refl refl) (next round (closed e h.1 (next round_end end) (λ rest f. refl))) (λ rest f. refl)))
+    line_writing n (any_edge (both (word (codes "pipe_continue") 10 refl refl) (next round (closed e h (next round_end end) (λ rest f. refl))) (λ rest f. refl)))
 
-next_stage_writing : (n : ℕ) (kind : Kind) → IsWritableStatement (NextStage kind) → Writing Any (statement_text n (NextStage kind)) (flat (statement_pieces (NextStage kind)))
-next_stage_writing n kinds.Zero h = absurd h
-next_stage_writing n kinds.Wait h =
+next_stage_writing : (n : ℕ) (kind : StageKind) → Writing Any (statement_text n (NextStage kind)) (flat (statement_pieces (NextStage kind)))
+next_stage_writing n kinds.Wait =
     line_writing n (any_edge (both (word (codes "pipe_wait") 9 refl refl) (next round (next round_end end)) (λ rest f. refl)))
-next_stage_writing n kinds.Continue h =
+next_stage_writing n kinds.Continue =
     line_writing n (any_edge (both (word (codes "pipe_continue") 10 refl refl) (next round (next round_end end)) (λ rest f. refl)))
 
 mutual
@@ -297,7 +295,7 @@ mutual
       same (ap (λ x. word_while ∷ open_round ∷ x) (block_symbols (expression_symbols e) (statements_pieces a)))
       (next (test_line n (codes "while") 15 e refl refl h.0) (next (statements_writing (n + 2) a h.1) (closing_line n)))
   statement_writing n (Stage kind e) h = stage_writing n kind e h
-  statement_writing n (NextStage kind) h = next_stage_writing n kind h
+  statement_writing n (NextStage kind) h = next_stage_writing n kind
 
   -- the same of statements
   pub statements_writing : (n : ℕ) (ss : Statements) → AreWritable ss → Writing Any (statements_text n ss) (flat (statements_pieces ss))

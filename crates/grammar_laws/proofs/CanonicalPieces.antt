@@ -86,9 +86,9 @@ mutual
   pub leaner_block : {ps : List Piece} {ss : Statements} → DerivesBlock ps ss → Leaner (block_pieces (statements_pieces ss)) ps
   leaner_block (BlockIs d) = braces (leaner_statements d)
 
-  pub leaner_part : {word : ℕ} {ps : List Piece} {ss : Statements} → DerivesPart word ps ss → Leaner (part_pieces word ss (statements_pieces ss)) ps
+  pub leaner_part : {word : ℕ} {ps : List Piece} {ss : Statements} → DerivesPart (symbols.Word word) ps ss → Leaner (part_pieces word ss (statements_pieces ss)) ps
   leaner_part NoPart = no_piece
-  leaner_part (PartIs {word} {ps} {ss} d) = in_part word ss (leaner_block d)
+  leaner_part {word} (PartIs {ss = ss} d) = in_part word ss (leaner_block d)
 
 -- ---- programs
 

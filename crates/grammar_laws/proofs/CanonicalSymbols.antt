@@ -1,7 +1,7 @@
 -- The symbols of the canonical text: those of an expression, with round brackets exactly where the tree needs them, and the pieces of a program.
 use Rattle.std.specs.Prelude.{◌≡◌, ℕ, suc, ◌+◌, ◌≤◌, ◌<◌, ◌^◌, ℤ, pos, negsuc, List, [], ◌∷◌, ◌++◌, length, nat_le, ◌==◌, if◌then◌else◌, Option, Some, None, ◌⊎◌}
-use Rattle.pipe_model.specs.declared.node.Kind.{Kind}
-use Rattle.pipe_model.specs.declared.node.Kind.TheVariants as kinds
+use Rattle.pipe_model.specs.declared.tree.StageKind.{StageKind}
+use Rattle.pipe_model.specs.declared.tree.StageKind.TheVariants as kinds
 use Rattle.pipe_model.specs.declared.symbol.Symbol.{Symbol}
 use Rattle.pipe_model.specs.declared.symbol.Symbol.TheVariants as symbols
 use Rattle.pipe_model.specs.declared.tree.Declaration.{Declaration}
@@ -51,8 +51,7 @@ part_pieces word Empty ps = []
 part_pieces word (Then s ss) ps = Single (symbols.Word word) ∷ block_pieces ps
 
 -- a statement that names a next stage, from the pieces of its number
-abbrev pub stage_pieces : Kind → List Piece → List Piece
-stage_pieces kinds.Zero ps = []
+abbrev pub stage_pieces : StageKind → List Piece → List Piece
 stage_pieces kinds.Wait ps = Single word_pipe_wait ∷ Single open_round ∷ (ps ++ Single close_round ∷ Single semicolon ∷ [])
 stage_pieces kinds.Continue ps = Single word_pipe_continue ∷ Single open_round ∷ (ps ++ Single close_round ∷ Single semicolon ∷ [])
 
@@ -134,12 +133,6 @@ IsWritable More = Unit {0}
 IsWritable Take = Unit {0}
 IsWritable Iter = Unit {0}
 
--- a statement that names a next stage is one of the two
-abbrev pub NamesStage : Kind → Type 0
-NamesStage kinds.Zero = ⊥
-NamesStage kinds.Wait = Unit {0}
-NamesStage kinds.Continue = Unit {0}
-
 abbrev mutual
   -- the same of a statement
   pub IsWritableStatement : Statement → Type 0
@@ -149,8 +142,8 @@ abbrev mutual
   IsWritableStatement (Emit e) = IsWritable e
   IsWritableStatement (If e a b) = IsWritable e × AreWritable a × AreWritable b
   IsWritableStatement (While e a) = IsWritable e × AreWritable a
-  IsWritableStatement (Stage kind e) = NamesStage kind × IsWritable e
-  IsWritableStatement (NextStage kind) = NamesStage kind
+  IsWritableStatement (Stage kind e) = IsWritable e
+  IsWritableStatement (NextStage kind) = Unit {0}
 
   -- the same of statements
   pub AreWritable : Statements → Type 0

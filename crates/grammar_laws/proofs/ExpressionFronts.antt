@@ -7,7 +7,7 @@ use Rattle.pipe_model.specs.Language.SyntaxTree.{Expression}
 use Rattle.pipe_model.specs.Language.Grammar.{any_expression, operand_level, Derives, Numeral, Named, Indexed, CallsMore, CallsTake, CallsIter, Negative, Not, Bracketed, level_of}
 use Rattle.grammar_laws.specs.ExpressionMachine.{Want, Sign, Operand, Index, Tail, Move, Takes, Skips, Refuses, move, step, stepped, run, and_run, is_operator, is_call, may_end}
 use Rattle.grammar_laws.proofs.ExpressionGrowth.{grown}
-use Rattle.pipe_model.proofs.Levels.{looser}
+use Rattle.pipe_model.proofs.LevelLaws.{looser}
 
 -- ---- what spells a list of wants
 pub data Completes : List Want → List Symbol → Type 0 where

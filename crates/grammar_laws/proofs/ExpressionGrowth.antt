@@ -5,7 +5,7 @@ use Rattle.pipe_model.specs.declared.symbol.Symbol.{Symbol}
 use Rattle.pipe_model.specs.declared.symbol.Symbol.TheVariants as symbols
 use Rattle.pipe_model.specs.Language.SyntaxTree.{Expression, binary_expression}
 use Rattle.pipe_model.specs.Language.Grammar.{operand_level, Derives, Numeral, Named, Indexed, CallsMore, CallsTake, CallsIter, Negative, Not, Bracketed, Tighter, Joined, level_of}
-use Rattle.pipe_model.proofs.Levels.{below_operands, looser}
+use Rattle.pipe_model.proofs.LevelLaws.{below_operands, looser}
 
 -- symbols with more behind them derive some expression
 pub record Grown (ts more : List Symbol) (level : ℕ) : Type 0 where

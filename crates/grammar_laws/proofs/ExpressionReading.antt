@@ -5,7 +5,7 @@ use Rattle.pipe_model.specs.declared.symbol.Symbol.TheVariants as symbols
 use Rattle.pipe_model.specs.Language.SyntaxTree.{Expression, Element, Unary, binary_expression}
 use Rattle.pipe_model.specs.Language.Grammar.{any_expression, operand_level, Derives, Numeral, Named, Indexed, CallsMore, CallsTake, CallsIter, Negative, Not, Bracketed, Tighter, Joined, level_of}
 use Rattle.grammar_laws.specs.Reading.{Reads, ReadsNumeral, ReadsName, ReadsElement, ReadsMore, ReadsTake, ReadsIter, ReadsNegative, ReadsNot, ReadsBracketed, ReadsChain, Extends, Ends, Joins, NoSign, next_level}
-use Rattle.pipe_model.proofs.Levels.{below_operands}
+use Rattle.pipe_model.proofs.LevelLaws.{below_operands}
 use Rattle.pipe_model.specs.Language.Words.{word_more, word_take, word_iter, minus, exclamation, open_round, close_round, open_square, close_square}
 
 -- ---- what was read is derived

@@ -10,7 +10,7 @@ use Rattle.pipe_model.specs.Language.Words.{word_cell, word_pipe_wait, word_pipe
 use Rattle.grammar_laws.specs.ProgramMachine as machine
 use Rattle.grammar_laws.specs.ProgramMachine.{Want, Sign, Word, AnyName, AnyNumber, Natural, StageNumber, Target, Part, Cells, Size, Value, Move, Takes, Enters, Skips, Refuses, move, statement_move, natural_move, MachineState, Outside, Inside, whole, entered, stepped, step, may_end}
 use Rattle.grammar_laws.specs.ExpressionMachine as expression
-use Rattle.pipe_model.proofs.Levels.{looser}
+use Rattle.pipe_model.proofs.LevelLaws.{looser}
 
 -- ---- what spells a list of wants
 pub data Completes : List Want → List Piece → Type 0 where
@@ -33,7 +33,7 @@ pub data Completes : List Want → List Piece → Type 0 where
       (Single open_square ∷ FullExpression us ∷ Single close_square ∷ Single equals ∷ FullExpression ts ∷ Single semicolon ∷ ps)
   OfStatements : {wants : List Want} {ps qs : List Piece} {ss : Statements} → DerivesStatements ps ss → Completes wants qs
       → Completes (machine.Statements ∷ wants) (ps ++ qs)
-  OfPart : {wants : List Want} {ps qs : List Piece} {ss : Statements} (word : ℕ) → DerivesPart word ps ss → Completes wants qs
+  OfPart : {wants : List Want} {ps qs : List Piece} {ss : Statements} (word : ℕ) → DerivesPart (symbols.Word word) ps ss → Completes wants qs
       → Completes (Part word ∷ wants) (ps ++ qs)
   OfCells : {wants : List Want} {ps qs : List Piece} {ds : List Declaration} → DerivesCells ps ds → Completes wants qs
       → Completes (Cells ∷ wants) (ps ++ qs)
@@ -159,7 +159,7 @@ record PartFirst (word : ℕ) (wants : List Want) (ps : List Piece) : Type 0 whe
   taken : List Piece
   rest : List Piece
   ss : Statements
-  derived : DerivesPart word taken ss
+  derived : DerivesPart (symbols.Word word) taken ss
   split : ps ≡ taken ++ rest
   completes : Completes wants rest
 

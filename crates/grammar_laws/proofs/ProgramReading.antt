@@ -134,7 +134,7 @@ found_cells (CellIs {ps} {qs} {rs} name s v ds) rest h =
     (found_cells ds rest h)
 
 -- what begins with `init` or with the loop begins no declaration
-begins_no_cell : {ps : List Piece} {ss : Statements} → DerivesPart 7 ps ss → (rest : List Symbol) → NoWord 6 (flat ps ++ word_pipe_while ∷ rest)
+begins_no_cell : {ps : List Piece} {ss : Statements} → DerivesPart (symbols.Word 7) ps ss → (rest : List Symbol) → NoWord 6 (flat ps ++ word_pipe_while ∷ rest)
 begins_no_cell NoPart rest = λ x. absurd (omega (arith, x))
 begins_no_cell (PartIs b) rest = λ x. absurd (omega (arith, x))
 

@@ -120,11 +120,11 @@ mutual
       comes refl (moved (append_assoc ps (Single close_brace ∷ []) qs)
       (walks_statements d (Sign 125 ∷ wants) qs (LeavesOut refl (comes refl w))))
 
-  walks_part : {word : ℕ} {ps : List Piece} {ss : Statements} → DerivesPart word ps ss → (wants : List Want) (qs : List Piece) → BeginsWithout word qs
+  walks_part : {word : ℕ} {ps : List Piece} {ss : Statements} → DerivesPart (symbols.Word word) ps ss → (wants : List Want) (qs : List Piece) → BeginsWithout word qs
       → Walks wants qs
       → Walks (Part word ∷ wants) (ps ++ qs)
-  walks_part (NoPart {word}) wants qs h w = without_part word qs h w
-  walks_part (PartIs {word} b) wants qs h w = Begins (takes_part word) (walks_block b wants qs w)
+  walks_part {word} NoPart wants qs h w = without_part word qs h w
+  walks_part {word} (PartIs b) wants qs h w = Begins (takes_part word) (walks_block b wants qs w)
 
 walks_size : {ps : List Piece} {size : Option ℤ} → DerivesSize ps size → (wants : List Want) (qs : List Piece) → Walks wants (Single equals ∷ qs)
     → Walks (Size ∷ wants) (ps ++ Single equals ∷ qs)
@@ -152,13 +152,13 @@ walks_cells (CellIs {ps} {qs = ps'} {rs} name s v ds) wants qs w =
     (walks_value v (Sign 59 ∷ Cells ∷ wants) (Single semicolon ∷ (rs ++ qs)) (comes refl (walks_cells ds wants qs w)))))))
 
 -- declarations are left out before `init` and before the loop
-without_cells : {ps : List Piece} {ss : Statements} → DerivesPart 7 ps ss → (wants : List Want) (qs : List Piece)
+without_cells : {ps : List Piece} {ss : Statements} → DerivesPart (symbols.Word 7) ps ss → (wants : List Want) (qs : List Piece)
     → Walks wants (ps ++ Single word_pipe_while ∷ qs)
     → Walks (Cells ∷ wants) (ps ++ Single word_pipe_while ∷ qs)
 without_cells NoPart wants qs w = LeavesOut refl w
 without_cells (PartIs b) wants qs w = LeavesOut refl w
 
-walks_last : {ps : List Piece} {ss : Statements} → DerivesPart 11 ps ss → Walks (Part 11 ∷ []) ps
+walks_last : {ps : List Piece} {ss : Statements} → DerivesPart (symbols.Word 11) ps ss → Walks (Part 11 ∷ []) ps
 walks_last {ps} d = moved (sym (append-nil ps)) (walks_part d [] [] tt (Stays []))
 
 -- over a program

@@ -1,6 +1,6 @@
 -- A reader of statements finds what the whole grammar derives, and only that, and in one way.
 use Rattle.std.proofs.Common.{◌≡◌, ◌≢◌, ℕ, ◌≤◌, ◌+◌, List, [], ◌∷◌, ◌++◌, length, refl, sym, ap, ◌∙◌, append_assoc, length-append, arith, subst}
-use Rattle.pipe_model.specs.declared.node.Kind.TheVariants as kinds
+use Rattle.pipe_model.specs.declared.tree.StageKind.TheVariants as kinds
 use Rattle.pipe_model.specs.declared.symbol.Symbol.{Symbol}
 use Rattle.pipe_model.specs.declared.symbol.Symbol.TheVariants as symbols
 use Rattle.pipe_model.specs.Language.SyntaxTree.{Expression, Statement, Let, Assign, AssignElement, Emit, If, While, Stage, Statements, Then}
@@ -78,7 +78,7 @@ took_element name us ts rest t u = record {
 }
 
 took_if : {longest : ℕ} {e : Expression} {a b : Statements} (ts us vs rest : List Symbol) → TookFull longest ts e (close_round ∷ us)
-    → TookPieces (λ ps. DerivesBlock ps a) longest us vs → TookPieces (λ ps. DerivesPart 14 ps b) longest vs rest
+    → TookPieces (λ ps. DerivesBlock ps a) longest us vs → TookPieces (λ ps. DerivesPart (symbols.Word 14) ps b) longest vs rest
     → TookPieces (λ ps. DerivesStatement ps (If e a b)) longest (word_if ∷ open_round ∷ ts) rest
 took_if {longest} ts us vs rest t u v = record {
   taken = Single word_if ∷ Single open_round ∷ FullExpression t.taken ∷ Single close_round ∷ (u.taken ++ v.taken);
@@ -167,7 +167,7 @@ mutual
   sound_block (ReadsBraces {ts} {rest} r) = took_block ts rest (sound_statements r)
 
   pub sound_part : {longest word : ℕ} {ts rest : List Symbol} {ss : Statements} → ReadsPart longest word ts ss rest
-      → TookPieces (λ ps. DerivesPart word ps ss) longest ts rest
+      → TookPieces (λ ps. DerivesPart (symbols.Word word) ps ss) longest ts rest
   sound_part (ReadsNoPart ts h) = record { taken = []; split = refl; derived = NoPart; short = tt }
   sound_part (ReadsPartIs {word = word} r) =
       let t = sound_block r in
@@ -253,7 +253,7 @@ mutual
   found_block {longest} (BlockIs {ps} d) a rest =
       ReadsBraces (moved_statements (flat_two ps (Single close_brace ∷ []) rest) (found_statements d (short_front longest ps (Single close_brace ∷ []) a) rest))
 
-  pub found_part : {longest word : ℕ} {ps : List Piece} {ss : Statements} → DerivesPart word ps ss → AreShort longest ps → (rest : List Symbol)
+  pub found_part : {longest word : ℕ} {ps : List Piece} {ss : Statements} → DerivesPart (symbols.Word word) ps ss → AreShort longest ps → (rest : List Symbol)
       → NoWord word rest
       → ReadsPart longest word (flat ps ++ rest) ss rest
   found_part NoPart a rest h = ReadsNoPart rest h

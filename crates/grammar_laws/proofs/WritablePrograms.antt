@@ -172,9 +172,9 @@ mutual
       (full d (front ts _ (others (others g))), writable_block a (pieces_front ps qs behind), writable_part b (pieces_back ps qs behind))
   writable_statement (grammar.WhileIs {ts} {ps} d a) g =
       (full d (front ts _ (others (others g))), writable_block a (others (back ts _ (others (others g)))))
-  writable_statement (grammar.WaitIs {ts} d) g = (tt, full d (front ts _ (others (others g))))
+  writable_statement (grammar.WaitIs {ts} d) g = full d (front ts _ (others (others g)))
   writable_statement grammar.WaitNextIs g = tt
-  writable_statement (grammar.ContinueIs {ts} d) g = (tt, full d (front ts _ (others (others g))))
+  writable_statement (grammar.ContinueIs {ts} d) g = full d (front ts _ (others (others g)))
   writable_statement grammar.ContinueNextIs g = tt
 
   writable_statements : {ps : List Piece} {ss : Statements} → DerivesStatements ps ss → AreGood (flat ps) → AreWritable ss
@@ -184,7 +184,7 @@ mutual
   writable_block : {ps : List Piece} {ss : Statements} → DerivesBlock ps ss → AreGood (flat ps) → AreWritable ss
   writable_block (grammar.BlockIs {ps} d) g = writable_statements d (pieces_front ps _ (others g))
 
-  writable_part : {word : ℕ} {ps : List Piece} {ss : Statements} → DerivesPart word ps ss → AreGood (flat ps) → AreWritable ss
+  writable_part : {word : ℕ} {ps : List Piece} {ss : Statements} → DerivesPart (symbols.Word word) ps ss → AreGood (flat ps) → AreWritable ss
   writable_part grammar.NoPart g = tt
   writable_part (grammar.PartIs d) g = writable_block d (others g)
 

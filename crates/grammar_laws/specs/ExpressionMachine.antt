@@ -1,6 +1,9 @@
 -- Expressions one symbol at a time: what still has to come, and what a symbol does to it. The grammar says what an expression is;
 -- this machine says at which symbol a reader has to stop, and laws in proofs/ tie the two.
 use Rattle.std.specs.Prelude.{◌≡◌, ℕ, List, [], ◌∷◌, ◌++◌, Bool, true, false, ◌==◌, Option, Some, None, ◌||◌, if◌then◌else◌, nat_lt, length}
+use Rattle.pipe_model.specs.declared.operator_codes.TheConstants as operator_codes
+use Rattle.pipe_model.specs.declared.sign_bytes.TheConstants as signs
+use Rattle.pipe_model.specs.declared.word_codes.TheConstants as words
 use Rattle.pipe_model.specs.declared.symbol.Symbol.{Symbol}
 use Rattle.pipe_model.specs.declared.symbol.Symbol.TheVariants as symbols
 use Rattle.pipe_model.specs.Language.Grammar.{level_of}
@@ -24,7 +27,7 @@ is_operator code = nat_lt 0 (level_of code)
 
 -- the word of `more`, `take` or `iter`
 abbrev pub is_call : ℕ → Bool
-is_call word = (word == 17) || ((word == 18) || (word == 19))
+is_call word = (word == words.MORE) || ((word == words.TAKE) || (word == words.ITER))
 
 -- the table of the machine
 abbrev pub move : Want → Symbol → Move
@@ -35,11 +38,11 @@ move (Sign sign) (symbols.Number n) = Refuses
 move (Sign sign) (symbols.Operator code) = Refuses
 move Operand (symbols.Number n) = Takes []
 move Operand (symbols.Name name) = Takes (Index ∷ [])
-move Operand (symbols.Word word) = if is_call word then Takes (Sign 40 ∷ Sign 41 ∷ []) else Refuses
-move Operand (symbols.Operator code) = if code == 10 then Takes (Operand ∷ []) else Refuses
+move Operand (symbols.Word word) = if is_call word then Takes (Sign signs.OPEN_ROUND ∷ Sign signs.CLOSE_ROUND ∷ []) else Refuses
+move Operand (symbols.Operator code) = if code == operator_codes.MINUS then Takes (Operand ∷ []) else Refuses
 move Operand (symbols.Sign b) =
-    if b == 40 then Takes (Operand ∷ Tail ∷ Sign 41 ∷ []) else (if b == 33 then Takes (Operand ∷ []) else Refuses)
-move Index (symbols.Sign b) = if b == 91 then Takes (Operand ∷ Tail ∷ Sign 93 ∷ []) else Skips
+    if b == signs.OPEN_ROUND then Takes (Operand ∷ Tail ∷ Sign signs.CLOSE_ROUND ∷ []) else (if b == signs.EXCLAMATION then Takes (Operand ∷ []) else Refuses)
+move Index (symbols.Sign b) = if b == signs.OPEN_SQUARE then Takes (Operand ∷ Tail ∷ Sign signs.CLOSE_SQUARE ∷ []) else Skips
 move Index (symbols.Name name) = Skips
 move Index (symbols.Word word) = Skips
 move Index (symbols.Number n) = Skips

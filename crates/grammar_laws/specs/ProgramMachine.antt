@@ -1,6 +1,9 @@
 -- Programs one symbol at a time: what still has to come, with full expressions left to the machine of expressions, which count their symbols.
 -- The grammar says what a program is; this machine says at which symbol a reader has to stop, and why, and laws in proofs/ tie the two.
 use Rattle.std.specs.Prelude.{◌≡◌, ℕ, suc, List, [], ◌∷◌, ◌++◌, Bool, true, false, ◌==◌, Option, Some, None, ◌&&◌, ◌||◌, if◌then◌else◌, nat_le, ℤ, pos, negsuc, length}
+use Rattle.pipe_model.specs.declared.operator_codes.TheConstants as operator_codes
+use Rattle.pipe_model.specs.declared.sign_bytes.TheConstants as signs
+use Rattle.pipe_model.specs.declared.word_codes.TheConstants as words
 use Rattle.pipe_model.specs.declared.symbol.Symbol.{Symbol}
 use Rattle.pipe_model.specs.declared.symbol.Symbol.TheVariants as symbols
 use Rattle.grammar_laws.specs.ExpressionMachine as expression
@@ -31,16 +34,16 @@ pub data Move : Type 0 where
 
 -- statements in braces
 abbrev pub block : List Want
-block = Sign 123 ∷ Statements ∷ Sign 125 ∷ []
+block = Sign signs.OPEN_BRACE ∷ Statements ∷ Sign signs.CLOSE_BRACE ∷ []
 
 -- what a statement begins with its word
 abbrev pub statement_move : ℕ → Move
 statement_move word =
-    if word == 12 then Takes (AnyName ∷ Sign 61 ∷ FullExpression ∷ Sign 59 ∷ Statements ∷ [])
-    else (if word == 13 then Takes (Sign 40 ∷ FullExpression ∷ Sign 41 ∷ Sign 123 ∷ Statements ∷ Sign 125 ∷ Part 14 ∷ Statements ∷ [])
-    else (if word == 15 then Takes (Sign 40 ∷ FullExpression ∷ Sign 41 ∷ Sign 123 ∷ Statements ∷ Sign 125 ∷ Statements ∷ [])
-    else (if word == 16 then Takes (FullExpression ∷ Sign 59 ∷ Statements ∷ [])
-    else (if (word == 9) || (word == 10) then Takes (Sign 40 ∷ StageNumber ∷ Sign 41 ∷ Sign 59 ∷ Statements ∷ []) else Skips))))
+    if word == words.LET then Takes (AnyName ∷ Sign signs.EQUALS ∷ FullExpression ∷ Sign signs.SEMICOLON ∷ Statements ∷ [])
+    else (if word == words.IF then Takes (Sign signs.OPEN_ROUND ∷ FullExpression ∷ Sign signs.CLOSE_ROUND ∷ Sign signs.OPEN_BRACE ∷ Statements ∷ Sign signs.CLOSE_BRACE ∷ Part words.ELSE ∷ Statements ∷ [])
+    else (if word == words.WHILE then Takes (Sign signs.OPEN_ROUND ∷ FullExpression ∷ Sign signs.CLOSE_ROUND ∷ Sign signs.OPEN_BRACE ∷ Statements ∷ Sign signs.CLOSE_BRACE ∷ Statements ∷ [])
+    else (if word == words.EMIT then Takes (FullExpression ∷ Sign signs.SEMICOLON ∷ Statements ∷ [])
+    else (if (word == words.PIPE_WAIT) || (word == words.PIPE_CONTINUE) then Takes (Sign signs.OPEN_ROUND ∷ StageNumber ∷ Sign signs.CLOSE_ROUND ∷ Sign signs.SEMICOLON ∷ Statements ∷ []) else Skips))))
 
 -- a number that is not negative may come where it has to
 abbrev pub natural_move : ℤ → Move
@@ -75,14 +78,14 @@ move Natural (symbols.Word k) = Refuses
 move Natural (symbols.Operator code) = Refuses
 move Natural (symbols.Sign b) = Refuses
 move FullExpression t = Enters
-move StageNumber (symbols.Sign b) = if b == 41 then Skips else Enters
+move StageNumber (symbols.Sign b) = if b == signs.CLOSE_ROUND then Skips else Enters
 move StageNumber (symbols.Name name) = Enters
 move StageNumber (symbols.Word k) = Enters
 move StageNumber (symbols.Number n) = Enters
 move StageNumber (symbols.Operator code) = Enters
 move Target (symbols.Sign b) =
-    if b == 61 then Takes (FullExpression ∷ Sign 59 ∷ [])
-    else (if b == 91 then Takes (FullExpression ∷ Sign 93 ∷ Sign 61 ∷ FullExpression ∷ Sign 59 ∷ []) else Refuses)
+    if b == signs.EQUALS then Takes (FullExpression ∷ Sign signs.SEMICOLON ∷ [])
+    else (if b == signs.OPEN_SQUARE then Takes (FullExpression ∷ Sign signs.CLOSE_SQUARE ∷ Sign signs.EQUALS ∷ FullExpression ∷ Sign signs.SEMICOLON ∷ []) else Refuses)
 move Target (symbols.Name name) = Refuses
 move Target (symbols.Word k) = Refuses
 move Target (symbols.Number n) = Refuses
@@ -97,18 +100,18 @@ move (Part word) (symbols.Name name) = Skips
 move (Part word) (symbols.Number n) = Skips
 move (Part word) (symbols.Operator code) = Skips
 move (Part word) (symbols.Sign b) = Skips
-move Cells (symbols.Word k) = if k == 6 then Takes (AnyName ∷ Size ∷ Sign 61 ∷ Value ∷ Sign 59 ∷ Cells ∷ []) else Skips
+move Cells (symbols.Word k) = if k == words.CELL then Takes (AnyName ∷ Size ∷ Sign signs.EQUALS ∷ Value ∷ Sign signs.SEMICOLON ∷ Cells ∷ []) else Skips
 move Cells (symbols.Name name) = Skips
 move Cells (symbols.Number n) = Skips
 move Cells (symbols.Operator code) = Skips
 move Cells (symbols.Sign b) = Skips
-move Size (symbols.Sign b) = if b == 91 then Takes (AnyNumber ∷ Sign 93 ∷ []) else Skips
+move Size (symbols.Sign b) = if b == signs.OPEN_SQUARE then Takes (AnyNumber ∷ Sign signs.CLOSE_SQUARE ∷ []) else Skips
 move Size (symbols.Name name) = Skips
 move Size (symbols.Word k) = Skips
 move Size (symbols.Number n) = Skips
 move Size (symbols.Operator code) = Skips
 move Value (symbols.Number n) = Takes []
-move Value (symbols.Operator code) = if code == 10 then Takes (Natural ∷ []) else Refuses
+move Value (symbols.Operator code) = if code == operator_codes.MINUS then Takes (Natural ∷ []) else Refuses
 move Value (symbols.Name name) = Refuses
 move Value (symbols.Word k) = Refuses
 move Value (symbols.Sign b) = Refuses
@@ -205,8 +208,8 @@ judge longest (t ∷ ts) s = judged longest (next s t) (length (t ∷ ts)) (judg
 -- what a program has to be
 abbrev pub program : List Want
 program =
-    Word 1 ∷ Word 2 ∷ AnyNumber ∷ Sign 44 ∷ Word 3 ∷ AnyNumber ∷ Sign 44 ∷ Word 4 ∷ AnyNumber ∷ Sign 44 ∷ Word 5 ∷ AnyNumber ∷ Sign 59
-    ∷ Cells ∷ Part 7 ∷ Word 8 ∷ Sign 40 ∷ FullExpression ∷ Sign 41 ∷ Sign 123 ∷ Statements ∷ Sign 125 ∷ Part 11 ∷ []
+    Word words.LIMITS ∷ Word words.ITERATIONS ∷ AnyNumber ∷ Sign signs.COMMA ∷ Word words.STAGES ∷ AnyNumber ∷ Sign signs.COMMA ∷ Word words.STEPS ∷ AnyNumber ∷ Sign signs.COMMA ∷ Word words.EMITS ∷ AnyNumber ∷ Sign signs.SEMICOLON
+    ∷ Cells ∷ Part words.INIT ∷ Word words.PIPE_WHILE ∷ Sign signs.OPEN_ROUND ∷ FullExpression ∷ Sign signs.CLOSE_ROUND ∷ Sign signs.OPEN_BRACE ∷ Statements ∷ Sign signs.CLOSE_BRACE ∷ Part words.FINAL ∷ []
 
 -- whatever has to come below, symbols that begin with these wants are refused so
 pub record IsRejected (longest : ℕ) (wants : List Want) (ts : List Symbol) (verdict : Verdict) : Type 0 where

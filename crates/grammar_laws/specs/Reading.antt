@@ -1,8 +1,11 @@
 -- Reading by the whole grammar: what a reader takes from the front of the symbols and what it leaves. The grammar says which pieces
 -- derive a tree; this says where each part ends, by the symbol that stands behind it. Both agree, as laws in proofs/ say.
 use Rattle.std.specs.Prelude.{◌≡◌, ◌≢◌, ◌≤◌, ◌+◌, ℕ, suc, ℤ, pos, List, [], ◌∷◌, ◌++◌, length, Option, Some, None}
+use Rattle.pipe_model.specs.declared.operator_codes.TheConstants as operator_codes
+use Rattle.pipe_model.specs.declared.sign_bytes.TheConstants as signs
+use Rattle.pipe_model.specs.declared.word_codes.TheConstants as words
 use Rattle.std.proofs.Math.IntN.{neg_ℤ}
-use Rattle.pipe_model.specs.declared.node.Kind.TheVariants as kinds
+use Rattle.pipe_model.specs.declared.tree.StageKind.TheVariants as kinds
 use Rattle.pipe_model.specs.declared.symbol.Symbol.{Symbol}
 use Rattle.pipe_model.specs.declared.symbol.Symbol.TheVariants as symbols
 use Rattle.pipe_model.specs.declared.tree.Declaration.{Declaration}
@@ -41,14 +44,14 @@ mutual
   -- an expression of the level stands at the front of the symbols, and the last list is left
   pub data Reads : ℕ → List Symbol → Expression → List Symbol → Type 0 where
     ReadsNumeral : (n : ℤ) (rest : List Symbol) → Reads operand_level (symbols.Number n ∷ rest) (Number n) rest
-    ReadsName : (name : List ℕ) (rest : List Symbol) → NoSign 91 rest → Reads operand_level (symbols.Name name ∷ rest) (Name name) rest
+    ReadsName : (name : List ℕ) (rest : List Symbol) → NoSign signs.OPEN_SQUARE rest → Reads operand_level (symbols.Name name ∷ rest) (Name name) rest
     ReadsElement : {ts rest : List Symbol} {e : Expression} (name : List ℕ) → Reads any_expression ts e (close_square ∷ rest)
         → Reads operand_level (symbols.Name name ∷ open_square ∷ ts) (Element name e) rest
     ReadsMore : (rest : List Symbol) → Reads operand_level (word_more ∷ open_round ∷ close_round ∷ rest) More rest
     ReadsTake : (rest : List Symbol) → Reads operand_level (word_take ∷ open_round ∷ close_round ∷ rest) Take rest
     ReadsIter : (rest : List Symbol) → Reads operand_level (word_iter ∷ open_round ∷ close_round ∷ rest) Iter rest
-    ReadsNegative : {ts rest : List Symbol} {e : Expression} → Reads operand_level ts e rest → Reads operand_level (minus ∷ ts) (Unary 1 e) rest
-    ReadsNot : {ts rest : List Symbol} {e : Expression} → Reads operand_level ts e rest → Reads operand_level (exclamation ∷ ts) (Unary 2 e) rest
+    ReadsNegative : {ts rest : List Symbol} {e : Expression} → Reads operand_level ts e rest → Reads operand_level (minus ∷ ts) (Unary operator_codes.NEGATIVE e) rest
+    ReadsNot : {ts rest : List Symbol} {e : Expression} → Reads operand_level ts e rest → Reads operand_level (exclamation ∷ ts) (Unary operator_codes.NOT e) rest
     ReadsBracketed : {ts rest : List Symbol} {e : Expression} → Reads any_expression ts e (close_round ∷ rest) → Reads operand_level (open_round ∷ ts) e rest
     ReadsChain : {level : ℕ} {ts mid rest : List Symbol} {a e : Expression} → Reads (suc level) ts a mid → Extends level a mid e rest → Reads level ts e rest
 
@@ -76,7 +79,7 @@ mutual
     ReadsEmit : {ts rest : List Symbol} {e : Expression} → ReadsFull longest ts e (semicolon ∷ rest)
         → ReadsStatement longest (word_emit ∷ ts) (Emit e) rest
     ReadsIf : {ts us vs rest : List Symbol} {e : Expression} {a b : Statements} → ReadsFull longest ts e (close_round ∷ us)
-        → ReadsBlock longest us a vs → ReadsPart longest 14 vs b rest
+        → ReadsBlock longest us a vs → ReadsPart longest words.ELSE vs b rest
         → ReadsStatement longest (word_if ∷ open_round ∷ ts) (If e a b) rest
     ReadsWhile : {ts us rest : List Symbol} {e : Expression} {a : Statements} → ReadsFull longest ts e (close_round ∷ us)
         → ReadsBlock longest us a rest
@@ -108,7 +111,7 @@ mutual
 
 -- the size of an array, which may be missing
 pub data ReadsSize : List Symbol → Option ℤ → List Symbol → Type 0 where
-  ReadsNoSize : (ts : List Symbol) → NoSign 91 ts → ReadsSize ts None ts
+  ReadsNoSize : (ts : List Symbol) → NoSign signs.OPEN_SQUARE ts → ReadsSize ts None ts
   ReadsSizeIs : (n : ℤ) (rest : List Symbol) → ReadsSize (open_square ∷ symbols.Number n ∷ close_square ∷ rest) (Some n) rest
 
 -- a declared value
@@ -123,15 +126,15 @@ pub data ReadsCell : List Symbol → Declaration → List Symbol → Type 0 wher
 
 -- declarations up to the first symbol that is not their word
 pub data ReadsCells : List Symbol → List Declaration → List Symbol → Type 0 where
-  ReadsNoCell : (ts : List Symbol) → NoWord 6 ts → ReadsCells ts [] ts
+  ReadsNoCell : (ts : List Symbol) → NoWord words.CELL ts → ReadsCells ts [] ts
   ReadsCellThen : {ts mid rest : List Symbol} {d : Declaration} {ds : List Declaration} → ReadsCell ts d mid → ReadsCells mid ds rest
       → ReadsCells (word_cell ∷ ts) (d ∷ ds) rest
 
 -- a program, with nothing behind it
 pub data ReadsProgram (longest : ℕ) : List Symbol → SyntaxTree → Type 0 where
   ReadsAll : {cs is ts us vs : List Symbol} {cells : List Declaration} {init body last : Statements} {test : Expression} (iterations stages steps emits : ℤ)
-      → ReadsCells cs cells is → ReadsPart longest 7 is init (word_pipe_while ∷ open_round ∷ ts) → ReadsFull longest ts test (close_round ∷ us)
-      → ReadsBlock longest us body vs → ReadsPart longest 11 vs last []
+      → ReadsCells cs cells is → ReadsPart longest words.INIT is init (word_pipe_while ∷ open_round ∷ ts) → ReadsFull longest ts test (close_round ∷ us)
+      → ReadsBlock longest us body vs → ReadsPart longest words.FINAL vs last []
       → ReadsProgram longest (flat (limits_before iterations stages steps emits []) ++ cs)
       (record {
         limits = record { iterations = iterations; stages = stages; steps = steps; emits = emits };

@@ -5,14 +5,15 @@ use Rattle.std.specs.Ordering.{int_eq}
 use Rattle.std.proofs.lemmas.Int.{ints}
 use Rattle.pipe_model.specs.declared.node.Kind.{Kind}
 use Rattle.pipe_model.specs.declared.node.Kind.TheVariants.{Zero}
+use Rattle.pipe_model.specs.declared.tree.StageKind.{StageKind}
+use Rattle.pipe_model.specs.declared.tree.StageKind.TheVariants as kinds
 use Rattle.pipe_model.specs.declared.column.ColumnEnd.{ColumnEnd}
 use Rattle.pipe_model.specs.declared.column.ColumnEnd.TheVariants as ends
 use Rattle.pipe_model.specs.Language.Evaluation.{CellRange, Setting, StagePosition, Environment, evaluate, execute, execute_all, assign, emit, go_to_stage, go_to_next_stage, if_zero, leave_block, loop_turns, local_value}
 use Rattle.pipe_model.specs.Language.Interaction.{Interaction, Return, Raise, Step, Get, Set, Stage, bind, with_budget}
 use Rattle.pipe_model.specs.Pipelines.Pipeline.{HasLegalStages}
 use Rattle.pipe_model.specs.Language.SyntaxTree as syntax
-use Rattle.pipe_model.specs.Language.SyntaxTree.{Expression, Statement, Let, Assign, AssignElement, Emit, If, While, NextStage, Statements, Empty, Then}
-use Rattle.language_laws.proofs.NamedKinds.{NamesKinds, AllNameKinds}
+use Rattle.pipe_model.specs.Language.SyntaxTree.{Expression, Statement, Let, Assign, AssignElement, Emit, If, While, NextStage, Statements, Empty, Then, kind_of_stage}
 use Rattle.language_laws.proofs.Straight.{IsStraight, Returns, Raises, Steps, Gets, Sets, Anything, straight-evaluate, straight-element_of, straight-fitting}
 use Rattle.language_laws.proofs.Straight.{either as straight_either}
 use Rattle.pipe_model.specs.declared.trap.Trap.{Trap}
@@ -64,13 +65,18 @@ KnowsStage first n env = env.stage.number ≡ n
 abbrev pub IsPosition : Bool → ℤ → StagePosition → Type 0
 IsPosition first n here = here.number ≡ n
 
-rises-go_to_stage : (stages : ℕ) (kind : Kind) (here : StagePosition) (first : Bool) (n m : ℤ) → kind ≢ Zero → here.number ≡ n → Rises IsPosition first n (go_to_stage stages kind here m)
-rises-go_to_stage stages kind here first n m named at =
-    either (int_lt here.number m) (λ above. either (nat_lt here.count stages)
-    (λ room. RisesStage named (rw (← at) (let t = above in grind (arith, ints))) (RisesReturn refl)) (RisesRaise _)) (RisesRaise _)
+-- no statement begins an instance of stage 0
+enters_no_zero : (kind : StageKind) → kind_of_stage kind ≢ Zero
+enters_no_zero kinds.Wait = λ e. cc (e)
+enters_no_zero kinds.Continue = λ e. cc (e)
 
-rises-go_to_next_stage : (stages : ℕ) (kind : Kind) (here : StagePosition) (first : Bool) (n : ℤ) → kind ≢ Zero → here.number ≡ n → Rises IsPosition first n (go_to_next_stage stages kind here)
-rises-go_to_next_stage stages kind here first n named at = straight-then (straight-fitting (here.number +ℤ pos 1)) (λ m h. rises-go_to_stage stages kind here first n m named at)
+rises-go_to_stage : (stages : ℕ) (kind : StageKind) (here : StagePosition) (first : Bool) (n m : ℤ) → here.number ≡ n → Rises IsPosition first n (go_to_stage stages kind here m)
+rises-go_to_stage stages kind here first n m at =
+    either (int_lt here.number m) (λ above. either (nat_lt here.count stages)
+    (λ room. RisesStage (enters_no_zero kind) (rw (← at) (let t = above in grind (arith, ints))) (RisesReturn refl)) (RisesRaise _)) (RisesRaise _)
+
+rises-go_to_next_stage : (stages : ℕ) (kind : StageKind) (here : StagePosition) (first : Bool) (n : ℤ) → here.number ≡ n → Rises IsPosition first n (go_to_next_stage stages kind here)
+rises-go_to_next_stage stages kind here first n at = straight-then (straight-fitting (here.number +ℤ pos 1)) (λ m h. rises-go_to_stage stages kind here first n m at)
 
 rises-assign : (env : Environment) (o : Option ℤ) (range : Option CellRange) (x : List ℕ) (v : ℤ) (first : Bool) (n : ℤ) → env.stage.number ≡ n → Rises KnowsStage first n (assign env o range x v)
 rises-assign env (Some old) range x v first n at = RisesReturn at
@@ -90,30 +96,30 @@ rises-turns (suc turns) test body env first n straight rises at =
     (λ f m after known. rises-turns turns test body (leave_block env after) f m straight rises known))))
 
 mutual
-  -- statements that name kinds of stages go on at rising numbers
-  pub rises-execute : (w : Setting) (s : Statement) (env : Environment) (first : Bool) (n : ℤ) → NamesKinds s → env.stage.number ≡ n → Rises KnowsStage first n (execute w s env)
-  rises-execute w (Let x e) env first n k at = straight-then (straight-evaluate w env.locals e) (λ v h. RisesStep (RisesReturn at))
-  rises-execute w (Assign x e) env first n k at =
+  -- statements go on at rising numbers
+  pub rises-execute : (w : Setting) (s : Statement) (env : Environment) (first : Bool) (n : ℤ) → env.stage.number ≡ n → Rises KnowsStage first n (execute w s env)
+  rises-execute w (Let x e) env first n at = straight-then (straight-evaluate w env.locals e) (λ v h. RisesStep (RisesReturn at))
+  rises-execute w (Assign x e) env first n at =
       straight-then (straight-evaluate w env.locals e) (λ v h. RisesStep (rises-assign env (local_value env.locals x) (w.cells x) x v first n at))
-  rises-execute w (AssignElement x i e) env first n k at =
+  rises-execute w (AssignElement x i e) env first n at =
       straight-then (straight-evaluate w env.locals i) (λ j h. straight-then (straight-evaluate w env.locals e) (λ v h'. RisesStep
       (straight-then (straight-element_of (w.cells x) j) (λ c h''. RisesSet c v (RisesReturn at)))))
-  rises-execute w (Emit e) env first n k at =
+  rises-execute w (Emit e) env first n at =
       straight-then (straight-evaluate w env.locals e) (λ v h. RisesStep (straight-then (straight-emit w.world.emits v) (λ u h'. RisesReturn at)))
-  rises-execute w (If e a b) env first n k at =
+  rises-execute w (If e a b) env first n at =
       straight-then (straight-evaluate w env.locals e) (λ v h. RisesStep (rises-bind
-      (either_by_zero v (rises-execute_all w b env first n k.1 at) (rises-execute_all w a env first n k.0 at)) (λ f m after known. RisesReturn known)))
-  rises-execute w (While e a) env first n k at =
-      rises-turns w.turns (λ now. evaluate w now.locals e) (execute_all w a) env first n (λ now. straight-evaluate w now.locals e) (λ now f m known. rises-execute_all w a now f m k known) at
-  rises-execute w (syntax.Stage kind e) env first n k at =
-      straight-then (straight-evaluate w env.locals e) (λ v h. RisesStep (rises-bind (rises-go_to_stage w.world.stages kind env.stage first n v k at) (λ f m stage known. RisesReturn known)))
-  rises-execute w (NextStage kind) env first n k at =
-      RisesStep (rises-bind (rises-go_to_next_stage w.world.stages kind env.stage first n k at) (λ f m stage known. RisesReturn known))
+      (either_by_zero v (rises-execute_all w b env first n at) (rises-execute_all w a env first n at)) (λ f m after known. RisesReturn known)))
+  rises-execute w (While e a) env first n at =
+      rises-turns w.turns (λ now. evaluate w now.locals e) (execute_all w a) env first n (λ now. straight-evaluate w now.locals e) (λ now f m known. rises-execute_all w a now f m known) at
+  rises-execute w (syntax.Stage kind e) env first n at =
+      straight-then (straight-evaluate w env.locals e) (λ v h. RisesStep (rises-bind (rises-go_to_stage w.world.stages kind env.stage first n v at) (λ f m stage known. RisesReturn known)))
+  rises-execute w (NextStage kind) env first n at =
+      RisesStep (rises-bind (rises-go_to_next_stage w.world.stages kind env.stage first n at) (λ f m stage known. RisesReturn known))
 
-  pub rises-execute_all : (w : Setting) (ss : Statements) (env : Environment) (first : Bool) (n : ℤ) → AllNameKinds ss → env.stage.number ≡ n → Rises KnowsStage first n (execute_all w ss env)
-  rises-execute_all w Empty env first n k at = RisesReturn at
-  rises-execute_all w (Then s ss) env first n k at =
-      rises-bind (rises-execute w s env first n k.0 at) (λ f m after known. rises-execute_all w ss after f m k.1 known)
+  pub rises-execute_all : (w : Setting) (ss : Statements) (env : Environment) (first : Bool) (n : ℤ) → env.stage.number ≡ n → Rises KnowsStage first n (execute_all w ss env)
+  rises-execute_all w Empty env first n at = RisesReturn at
+  rises-execute_all w (Then s ss) env first n at =
+      rises-bind (rises-execute w s env first n at) (λ f m after known. rises-execute_all w ss after f m known)
 
 -- an end that is allowed: only instance 0 closes the loop
 abbrev pub EndsRightly : Bool → ℤ → ColumnEnd → Type 0

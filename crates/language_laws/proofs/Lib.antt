@@ -1,4 +1,3 @@
-pub mod NamedKinds
 pub mod Straight
 pub mod LegalStages
 pub mod WellFormed

@@ -141,10 +141,10 @@ mutual
   block_texts scope (BlockIs {ps} d) =
       statements_texts scope d ∙ sym (ap texts_in (flat_append ps (Single close_brace ∷ [])) ∙ quiet_end (flat ps) (close_brace ∷ []) refl)
 
-  part_texts : {word : ℕ} {ps : List Piece} {ss : Statements} (scope : Scope) → marked_text (symbols.Word word) ≡ [] → DerivesPart word ps ss
+  part_texts : {word : ℕ} {ps : List Piece} {ss : Statements} (scope : Scope) → marked_text (symbols.Word word) ≡ [] → DerivesPart (symbols.Word word) ps ss
       → texts_of (marks_of_statements scope ss) ≡ texts_in (flat ps)
   part_texts scope h NoPart = refl
-  part_texts scope h (PartIs {word} {ps} d) = block_texts scope d ∙ sym (ap (λ x. x ++ texts_in (flat ps)) h)
+  part_texts scope h (PartIs {ps = ps} d) = block_texts scope d ∙ sym (ap (λ x. x ++ texts_in (flat ps)) h)
 
 -- ---- programs
 

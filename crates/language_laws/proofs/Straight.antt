@@ -50,10 +50,12 @@ straight-operate code a b =
     either Anything (code == 3) _ _ (Returns tt) (either Anything (code == 4) _ _ (Returns tt) (either Anything (code == 5) _ _ (Returns tt)
     (either Anything (code == 6) _ _ (Returns tt) (either Anything (code == 7) _ _ (Returns tt) (either Anything (code == 8) _ _ (Returns tt)
     (either Anything (code == 9) _ _ (straight-fitting (a +ℤ b)) (either Anything (code == 10) _ _ (straight-fitting (a -ℤ b))
-    (either Anything (code == 11) _ _ (straight-fitting (a *ℤ b)) (either Anything (code == 12) _ _ (straight-divided a b (int_div a b)) (straight-divided a b (int_rem a b)))))))))))
+    (either Anything (code == 11) _ _ (straight-fitting (a *ℤ b)) (either Anything (code == 12) _ _ (straight-divided a b (int_div a b))
+    (either Anything (code == 13) _ _ (straight-divided a b (int_rem a b)) (Returns tt)))))))))))
 
 straight-operate_one : (code : ℕ) (a : ℤ) → IsStraight Anything (operate_one code a)
-straight-operate_one code a = either Anything (code == 1) _ _ (straight-fitting (neg_ℤ a)) (Returns {a = if_zero a (pos 1) (pos 0)} tt)
+straight-operate_one code a = either Anything (code == 1) _ _ (straight-fitting (neg_ℤ a))
+    (either Anything (code == 2) _ _ (Returns {a = if_zero a (pos 1) (pos 0)} tt) (Returns tt))
 
 straight-named_value : (o : Option ℤ) (range : Option CellRange) → IsStraight Anything (named_value o range)
 straight-named_value (Some v) range = Returns tt

@@ -7,14 +7,12 @@ use Rattle.pipe_model.specs.declared.trap.Trap.TheVariants as traps
 use Rattle.pipe_model.specs.Pipelines.Behaviour.{closes_at_once}
 use Rattle.pipe_model.specs.Language.Evaluation.{Setting, first_environment, run_iteration}
 use Rattle.pipe_model.specs.Language.CheckingRules.{Fault, fault_of, is_between, limit_fault_or, first_limit_out}
-use Rattle.pipe_model.specs.Language.Grammar.{Piece, DerivesProgram, ProgramIs}
 use Rattle.pipe_model.specs.Language.Interaction.{Interaction, with_budget}
 use Rattle.pipe_model.specs.Pipelines.Pipeline.{AlwaysClosesLoop, IsWellFormed}
 use Rattle.pipe_model.specs.Language.Programs.{natural, pipeline_of, setting_of}
 use Rattle.pipe_model.specs.Language.SourceRefusals.{IsAccepted}
 use Rattle.pipe_model.specs.Language.SyntaxTree.{Expression, Statements, SyntaxTree}
 use Rattle.language_laws.proofs.LegalStages.{Rises, RisesReturn, RisesRaise, RisesStep, EndsRightly, either_by_zero, legal-with_budget, rises-bind, rises-execute_all, straight-then}
-use Rattle.language_laws.proofs.NamedKinds.{AllNameKinds, block_names_kinds}
 use Rattle.language_laws.proofs.Straight.{IsStraight, Returns, Raises, Steps, Gets, Sets, straight-bind, straight-evaluate}
 use Rattle.language_laws.proofs.Straight.{either_by_zero as straight_by_zero}
 
@@ -24,11 +22,11 @@ rises_either first n true x y s t = s
 rises_either first n false x y s t = t
 
 -- stage numbers rise from 0 in an iteration, and only its instance 0 ends with Closed
-rises-run_iteration : (w : Setting) (test : Expression) (body : Statements) → AllNameKinds body → Rises EndsRightly true (pos 0) (run_iteration w test body)
-rises-run_iteration w test body named =
+rises-run_iteration : (w : Setting) (test : Expression) (body : Statements) → Rises EndsRightly true (pos 0) (run_iteration w test body)
+rises-run_iteration w test body =
     straight-then (straight-evaluate w [] test) (λ v h. RisesStep (either_by_zero v (RisesReturn (λ e. refl))
     (rises_either true (pos 0) (int_eq (pos w.world.iteration) w.world.iterations) _ _ (RisesRaise traps.IterLimit)
-    (rises-bind (rises-execute_all w body first_environment true (pos 0) named refl) (λ f m env known. RisesReturn (λ e. cc (e)))))))
+    (rises-bind (rises-execute_all w body first_environment true (pos 0) refl) (λ f m env known. RisesReturn (λ e. cc (e)))))))
 
 -- an end that closes the loop
 abbrev IsClosing : ColumnEnd → Type 0
@@ -69,15 +67,11 @@ no_limit_out (Some which) rest h = cc (h)
 iterations_in_range : (tree : SyntaxTree) → fault_of tree ≡ None → is_between (pos 1) (pos 65536) tree.limits.iterations ≡ true
 iterations_in_range tree h = first_in_range (is_between (pos 1) (pos 65536) tree.limits.iterations) _ (no_limit_out (first_limit_out tree.limits) _ h)
 
--- the body of a derived program
-body_is_derived : {ps : List Piece} {tree : SyntaxTree} → DerivesProgram ps tree → AllNameKinds tree.body
-body_is_derived (ProgramIs n s b e cells init test body last) = block_names_kinds body
-
 -- an accepted program is a well-formed pipeline
 pub accepted_is_well_formed : (source : List ℕ) (tree : SyntaxTree) (input : List ℤ) → IsAccepted source tree → IsWellFormed (pipeline_of tree input)
 accepted_is_well_formed source tree input a = record {
   legal = λ i. legal-with_budget (natural tree.limits.steps) (natural tree.limits.steps)
-      (rises-run_iteration (setting_of tree input i) tree.test tree.body (body_is_derived a.spelled.spelled.derived));
+      (rises-run_iteration (setting_of tree input i) tree.test tree.body);
   closes =
       let last = natural_is tree.limits.iterations (iterations_in_range tree a.obeys) in
       closes-with_budget (natural tree.limits.steps) (natural tree.limits.steps)

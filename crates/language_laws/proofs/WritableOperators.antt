@@ -55,7 +55,7 @@ mutual
       more_known e _ w.0
       (both_known (expressions_of_statements a) (expressions_of_statements b) (statements_known a w.1) (statements_known b w.2))
   statement_known (While e a) w = more_known e (expressions_of_statements a) w.0 (statements_known a w.1)
-  statement_known (Stage kind e) w = more_known e [] w.1 none_known
+  statement_known (Stage kind e) w = more_known e [] w none_known
   statement_known (NextStage kind) w = none_known
 
   statements_known : (ss : Statements) → AreWritable ss → HaveKnown (expressions_of_statements ss)

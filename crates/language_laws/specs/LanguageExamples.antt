@@ -1,6 +1,7 @@
 -- Worked examples: small programs, what their serial elisions come to, and a line of source with its symbols and its statement.
 use Rattle.std.specs.Prelude.{◌≡◌, ℕ, ℤ, pos, List, [], ◌∷◌, Option, Some, None, codes}
 use Rattle.pipe_model.specs.declared.node.Kind.TheVariants as kinds
+use Rattle.pipe_model.specs.declared.tree.StageKind.TheVariants as stage_kinds
 use Rattle.pipe_model.specs.declared.symbol.Symbol.{Symbol}
 use Rattle.pipe_model.specs.declared.symbol.Symbol.TheVariants as symbols
 use Rattle.pipe_model.specs.declared.token.Token.{Token}
@@ -71,7 +72,7 @@ prefix_sums = record {
   cells = plain_cell n (pos 0) ∷ plain_cell s (pos 0) ∷ [];
   init = Empty;
   test = less (Name n) (Number (pos 3));
-  body = Then (Assign n (plus (Name n) (Number (pos 1)))) (Then (Let t (Name n)) (Then (Stage kinds.Wait (Number (pos 1)))
+  body = Then (Assign n (plus (Name n) (Number (pos 1)))) (Then (Let t (Name n)) (Then (Stage stage_kinds.Wait (Number (pos 1)))
       (Then (Assign s (plus (Name s) (Name t))) (Then (Emit (Name s)) Empty))));
   last = Empty;
 }

@@ -1,6 +1,6 @@
 -- Worked examples: programs with their faults, where the numbers of the marks are counted by hand.
 use Rattle.std.specs.Prelude.{◌≡◌, ℕ, zero, suc, pos, List, [], ◌∷◌, ◌++◌, Option, Some, None, map, codes}
-use Rattle.pipe_model.specs.declared.node.Kind.TheVariants as kinds
+use Rattle.pipe_model.specs.declared.tree.StageKind.TheVariants as kinds
 use Rattle.pipe_model.specs.declared.tree.Declaration.{Declaration}
 use Rattle.pipe_model.specs.declared.tree.Limits.{Limits}
 use Rattle.pipe_model.specs.Language.CheckingRules.{Fault, OutOfLimit, Broken, CheckingRule, Unknown, Twice, PipeOutside, TooManyCells, TooManyLocals, NotAnArray, NeedsIndex, ZeroSize, fault_of}

@@ -1,6 +1,6 @@
 -- Worked examples of the canonical text.
 use Rattle.std.specs.Prelude.{◌≡◌, pos, List, [], ◌∷◌, ◌++◌, None, map, ℕ, codes}
-use Rattle.pipe_model.specs.declared.node.Kind.TheVariants as kinds
+use Rattle.pipe_model.specs.declared.tree.StageKind.TheVariants as kinds
 use Rattle.pipe_model.specs.declared.tree.Declaration.{Declaration}
 use Rattle.pipe_model.specs.Language.CanonicalText.{expression_text, statement_text}
 use Rattle.pipe_model.specs.Language.SyntaxTree.{Expression, Number, Name, Element, And, Or, Binary, Unary, More, Take, Iter, Let, Assign, Emit, If, While, Stage, Empty, Then, SyntaxTree}

@@ -8,8 +8,7 @@ use crate::expression::{push_element, push_expression};
 use crate::text::{push_indented, push_line};
 use pipe_model::memory::NoMemory;
 use pipe_model::name::Name;
-use pipe_model::node::Kind;
-use pipe_model::tree::{Block, Expr, Stmt};
+use pipe_model::tree::{Block, Expr, StageKind, Stmt};
 
 /// Adds an expression between bytes, behind so many spaces.
 pub fn push_between(
@@ -64,13 +63,12 @@ fn push_assign_element(
 }
 
 /// The word of a statement that names a next stage.
-fn stage_word(kind: Kind) -> &'static [u8]
+fn stage_word(kind: StageKind) -> &'static [u8]
     ensures { result.now ≡ stage_word kind }
 {
     match kind {
-        Kind::Zero => b"",
-        Kind::Wait => b"pipe_wait",
-        Kind::Continue => b"pipe_continue",
+        StageKind::Wait => b"pipe_wait",
+        StageKind::Continue => b"pipe_continue",
     }
 }
 
@@ -78,7 +76,7 @@ fn stage_word(kind: Kind) -> &'static [u8]
 fn push_stage(
     text: &mut Vec<u8>,
     indent: usize,
-    kind: Kind,
+    kind: StageKind,
     number: &Option<Expr>,
 ) -> Result<(), NoMemory>
     ensures { OnOk result (text.new.items ≡ text.old.items ++ statement_text indent (stage_statement kind number.now)) }
@@ -114,8 +112,8 @@ fn push_statement(text: &mut Vec<u8>, indent: usize, s: &Stmt) -> Result<(), NoM
             push_block(text, indent, body)?;
             push_line(text, indent, b"}")
         }
-        Stmt::Wait(number) => push_stage(text, indent, Kind::Wait, number),
-        Stmt::Continue(number) => push_stage(text, indent, Kind::Continue, number),
+        Stmt::Wait(number) => push_stage(text, indent, StageKind::Wait, number),
+        Stmt::Continue(number) => push_stage(text, indent, StageKind::Continue, number),
     }
 }
 

@@ -1,5 +1,5 @@
 pub mod CellAccesses
-pub mod Levels
+pub mod LevelLaws
 pub mod Members
 pub mod NestedBlocks
 pub mod RacesByCell

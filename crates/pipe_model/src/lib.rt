@@ -2,15 +2,19 @@
 #![tactic(auto)]
 
 pub mod access;
+pub mod bounds;
 pub mod column;
 pub mod event;
+pub mod levels;
 pub mod list;
 pub mod marks;
 pub mod memory;
 pub mod name;
 pub mod node;
+pub mod operator_codes;
 pub mod region;
 pub mod report;
+pub mod sign_bytes;
 pub mod stage;
 pub mod status;
 pub mod symbol;
@@ -18,3 +22,4 @@ pub mod ticket;
 pub mod token;
 pub mod trap;
 pub mod tree;
+pub mod word_codes;

@@ -1,7 +1,11 @@
 //! Syntax trees of programs.
 
+ghost use Rattle.std.specs.Prelude.{◌≡◌};
+ghost use Rattle.pipe_model.specs.Language.SyntaxTree.{kind_of_stage};
+
 use crate::list::ListOf;
 use crate::name::Name;
+use crate::node::Kind;
 
 /// An expression. Round brackets leave no trace in it.
 #[derive(Drop)]
@@ -21,6 +25,27 @@ pub enum Expr {
     Take,
     /// The iteration's number.
     Iter,
+}
+
+/// How a statement enters the next stage. Stage 0 begins without a statement, so there is no third kind.
+#[derive(Clone, Copy, PartialEq, Eq, Debug)]
+pub enum StageKind {
+    /// By `pipe_wait`.
+    Wait,
+    /// By `pipe_continue`.
+    Continue,
+}
+
+impl StageKind {
+    /// Returns the kind of the stage instance that the statement begins.
+    pub fn kind(self) -> Kind
+        ensures { result ≡ kind_of_stage self }
+    {
+        match self {
+            StageKind::Wait => Kind::Wait,
+            StageKind::Continue => Kind::Continue,
+        }
+    }
 }
 
 /// A statement.

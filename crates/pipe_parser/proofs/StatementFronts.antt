@@ -1,6 +1,6 @@
 -- Readings of statements and the faults of their readers, by what stands at the front.
 use Rattle.std.proofs.Common.{◌≡◌, ap, sym, ◌∙◌, subst, ℕ, List, [], ◌∷◌, ◌++◌, append_assoc, refl, Option, Some, None}
-use Rattle.pipe_model.specs.declared.node.Kind.TheVariants as kinds
+use Rattle.pipe_model.specs.declared.tree.StageKind.TheVariants as kinds
 use Rattle.pipe_model.specs.declared.symbol.Symbol.{Symbol}
 use Rattle.pipe_model.specs.declared.symbol.Symbol.TheVariants as symbols
 use Rattle.pipe_model.specs.declared.tree.Expr.{Expr}

@@ -1,7 +1,7 @@
 -- Statements after the value of their expression, and one after the other.
 use Rattle.std.proofs.Common.{◌≡◌, ◌∙◌, ap, sym, subst, ℕ, ◌+◌, ◌<◌, ℤ, List, [], ◌∷◌, ◌++◌, Result, Err, length, get_or, drop}
 use Rattle.std.proofs.lemmas.List.{at_drop_more}
-use Rattle.pipe_model.specs.declared.node.Kind.{Kind}
+use Rattle.pipe_model.specs.declared.tree.StageKind.{StageKind}
 use Rattle.pipe_model.specs.declared.node.Node.{Node}
 use Rattle.pipe_model.specs.declared.tree.Stmt.{Stmt}
 use Rattle.pipe_model.specs.Language.Evaluation.{Environment, Local, Setting, assign, emit, evaluate, execute, execute_all, go_to_stage, local_value}
@@ -39,7 +39,7 @@ pub emit_left : (w : Setting) (ls : List Local) (whole : Statement) (e : Express
 emit_left w ls whole e k k1 err b is h = rw is (leaves_left (evaluate w ls e) _ k k1 err b h)
 
 -- a next stage, where the value of its expression breaks
-pub stage_left : (w : Setting) (ls : List Local) (whole : Statement) (kind : Kind) (e : Expression) (k k1 : ElisionState) (err : Halt) (b : Environment)
+pub stage_left : (w : Setting) (ls : List Local) (whole : Statement) (kind : StageKind) (e : Expression) (k k1 : ElisionState) (err : Halt) (b : Environment)
     → whole ≡ Stage kind e
     → Meets (Err err) (perform (evaluate w ls e) k) k1 → Leaves (Err err) (perform (execute w whole (environment_of ls k)) k) b k1
 stage_left w ls whole kind e k k1 err b is h = rw is (leaves_left (evaluate w ls e) _ k k1 err b h)
@@ -69,7 +69,7 @@ emit_next w ls whole e k k1 k2 v r b is same h m =
     rw is (after_value w ls e (λ n y. Step (bind (emit w.world.emits y) (λ done. Return (environment_at ls n)))) k k1 k2 v r b same h m)
 
 -- a next stage after the value of its expression
-pub stage_next : (w : Setting) (ls : List Local) (whole : Statement) (kind : Kind) (e : Expression) (k k1 k2 : ElisionState) (v : ℤ) (r : Result (Unit {0}) Halt)
+pub stage_next : (w : Setting) (ls : List Local) (whole : Statement) (kind : StageKind) (e : Expression) (k k1 k2 : ElisionState) (v : ℤ) (r : Result (Unit {0}) Halt)
     (b : Environment) → whole ≡ Stage kind e
     → k1.nodes ≡ k.nodes → k1.basis.stages ≡ w.world.stages
     → perform (evaluate w ls e) k ≡ Returned v k1

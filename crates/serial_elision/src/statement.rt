@@ -15,9 +15,8 @@ use crate::place::Place;
 use crate::store::Store;
 use crate::value::{cell_of, value};
 use pipe_model::name::Name;
-use pipe_model::node::Kind;
 use pipe_model::trap::Trap;
-use pipe_model::tree::{Expr, Stmt};
+use pipe_model::tree::{Expr, StageKind, Stmt};
 use std::alloc::Global;
 
 // the step of a declaration, and its effect
@@ -81,7 +80,7 @@ fn emit_in_step(place: &Place, value: i64, locals: &Locals, store: &mut Store) -
 }
 
 // the step of a next stage with a number, and its effect
-fn go_in_step(kind: Kind, number: i64, locals: &Locals, store: &mut Store) -> Result<(), Halt>
+fn go_in_step(kind: StageKind, number: i64, locals: &Locals, store: &mut Store) -> Result<(), Halt>
     ensures meets { Leaves result
         (perform (Step (bind (evaluation.go_to_stage store.old.basis.stages kind (position_of store.old.nodes) number)
         (λ stage. Return (record { locals = locals.now; stage = stage })))) store.old)
@@ -93,7 +92,7 @@ fn go_in_step(kind: Kind, number: i64, locals: &Locals, store: &mut Store) -> Re
 }
 
 // the step of a next stage without a number, and its effect
-fn go_next_in_step(kind: Kind, locals: &Locals, store: &mut Store) -> Result<(), Halt>
+fn go_next_in_step(kind: StageKind, locals: &Locals, store: &mut Store) -> Result<(), Halt>
     ensures meets { Leaves result
         (perform (Step (bind (evaluation.go_to_next_stage store.old.basis.stages kind (position_of store.old.nodes))
         (λ stage. Return (record { locals = locals.now; stage = stage })))) store.old)
@@ -106,7 +105,7 @@ fn go_next_in_step(kind: Kind, locals: &Locals, store: &mut Store) -> Result<(),
 
 // a statement that names a next stage
 fn execute_stage(
-    kind: Kind,
+    kind: StageKind,
     number: &Option<Expr>,
     place: &Place,
     locals: &Locals,
@@ -157,8 +156,8 @@ pub fn execute(
             let v = value(e, place, locals, store)?;
             emit_in_step(place, v, locals, store)
         }
-        Stmt::Wait(number) => execute_stage(Kind::Wait, number, place, locals, store),
-        Stmt::Continue(number) => execute_stage(Kind::Continue, number, place, locals, store),
+        Stmt::Wait(number) => execute_stage(StageKind::Wait, number, place, locals, store),
+        Stmt::Continue(number) => execute_stage(StageKind::Continue, number, place, locals, store),
         _ => unreachable!(),
     }
 }

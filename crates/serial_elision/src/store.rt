@@ -18,6 +18,7 @@ use pipe_model::list::{ListOf, Numbers};
 use pipe_model::memory::NoMemory;
 use pipe_model::node::{Kind, Node, NodeId, Nodes};
 use pipe_model::trap::{Trap, TrapAt, TrapPlace};
+use pipe_model::tree::StageKind;
 use std::alloc::Global;
 use std::marker::Model;
 
@@ -189,7 +190,7 @@ impl Store {
     }
 
     /// Ends the current instance and begins the next, in the stage of this number, with steps of its own.
-    pub fn go_to_stage(&mut self, kind: Kind, number: i64) -> Result<(), Halt>
+    pub fn go_to_stage(&mut self, kind: StageKind, number: i64) -> Result<(), Halt>
         ensures meets { Leaves result
             (perform (evaluation.go_to_stage self.old.basis.stages kind (position_of self.old.nodes) number) self.old)
             (position_of self.new.nodes) self.new }
@@ -201,13 +202,16 @@ impl Store {
         if self.nodes.len() >= self.stages as usize {
             return Err(Halt::Trap(Trap::StageLimit));
         }
-        self.nodes.push(Node { number, kind })?;
+        self.nodes.push(Node {
+            number,
+            kind: kind.kind(),
+        })?;
         self.left = self.budget;
         Ok(())
     }
 
     /// The same for the stage after the current one.
-    pub fn go_to_next_stage(&mut self, kind: Kind) -> Result<(), Halt>
+    pub fn go_to_next_stage(&mut self, kind: StageKind) -> Result<(), Halt>
         ensures meets { Leaves result
             (perform (evaluation.go_to_next_stage self.old.basis.stages kind (position_of self.old.nodes)) self.old)
             (position_of self.new.nodes) self.new }

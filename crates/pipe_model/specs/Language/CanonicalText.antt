@@ -1,12 +1,13 @@
 -- The canonical text: the one text in which a program is printed, as a function of its tree.
 -- Round brackets stand exactly where the tree needs them, and each line is indented by the blocks round it.
 use Rattle.std.specs.Prelude.{ℕ, ◌+◌, ℤ, List, [], ◌∷◌, ◌++◌, Option, Some, None, nat_le, ◌==◌, if◌then◌else◌, codes, slice_index_or, replicate}
+use Rattle.pipe_model.specs.declared.operator_codes.TheConstants as operator_codes
 use Rattle.std.specs.Fmt.{signed_decimal}
 use Rattle.std.specs.List.{flat_map}
-use Rattle.pipe_model.specs.declared.node.Kind.{Kind}
-use Rattle.pipe_model.specs.declared.node.Kind.TheVariants as kinds
 use Rattle.pipe_model.specs.declared.tree.Declaration.{Declaration}
 use Rattle.pipe_model.specs.declared.tree.Limits.{Limits}
+use Rattle.pipe_model.specs.declared.tree.StageKind.{StageKind}
+use Rattle.pipe_model.specs.declared.tree.StageKind.TheVariants as kinds
 use Rattle.pipe_model.specs.Language.Lexis.{operators}
 use Rattle.pipe_model.specs.Language.SyntaxTree.{Expression, Number, Name, Element, And, Or, Binary, Unary, More, Take, Iter, Statement, Let, Assign, AssignElement, Emit, If, While, Stage, NextStage, Statements, Empty, Then, SyntaxTree}
 use Rattle.pipe_model.specs.Language.Grammar.{level_of, operand_level}
@@ -19,12 +20,12 @@ operator_text code = slice_index_or ([] ∷ operators) code []
 
 -- the text of a one-place operator by its code
 abbrev pub one_place_text : ℕ → List ℕ
-one_place_text code = if code == 1 then codes "-" else codes "!"
+one_place_text code = if code == operator_codes.NEGATIVE then codes "-" else codes "!"
 
 -- how tightly an expression holds together: as its two-place operator binds, if it is one
 abbrev pub level_in : Expression → ℕ
-level_in (Or a b) = level_of 1
-level_in (And a b) = level_of 2
+level_in (Or a b) = level_of operator_codes.OR
+level_in (And a b) = level_of operator_codes.AND
 level_in (Binary code a b) = level_of code
 level_in (Number n) = operand_level
 level_in (Name x) = operand_level
@@ -48,8 +49,8 @@ abbrev pub expression_text : Expression → List ℕ
 expression_text (Number n) = signed_decimal n
 expression_text (Name x) = x
 expression_text (Element x i) = x ++ (codes "[" ++ (expression_text i ++ codes "]"))
-expression_text (Or a b) = two_place 1 (level_in a) (level_in b) (expression_text a) (expression_text b)
-expression_text (And a b) = two_place 2 (level_in a) (level_in b) (expression_text a) (expression_text b)
+expression_text (Or a b) = two_place operator_codes.OR (level_in a) (level_in b) (expression_text a) (expression_text b)
+expression_text (And a b) = two_place operator_codes.AND (level_in a) (level_in b) (expression_text a) (expression_text b)
 expression_text (Binary code a b) = two_place code (level_in a) (level_in b) (expression_text a) (expression_text b)
 expression_text (Unary code a) = one_place_text code ++ at_level operand_level (level_in a) (expression_text a)
 expression_text More = codes "more()"
@@ -62,9 +63,8 @@ expression_text Iter = codes "iter()"
 abbrev pub line : ℕ → List ℕ → List ℕ
 line indent text = replicate indent 32 ++ (text ++ codes "\n")
 
--- the word of a statement that names a next stage; stage 0 begins without one
-abbrev pub stage_word : Kind → List ℕ
-stage_word kinds.Zero = []
+-- the word of a statement that names a next stage
+abbrev pub stage_word : StageKind → List ℕ
 stage_word kinds.Wait = codes "pipe_wait"
 stage_word kinds.Continue = codes "pipe_continue"
 

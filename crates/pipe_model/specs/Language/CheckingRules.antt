@@ -1,6 +1,7 @@
 -- The rules that a program obeys beside its grammar, and the first of them that it breaks.
 -- Limits come first, in their order, and then the marks in the order of the text; at one mark the earlier rule of the list counts.
 use Rattle.std.specs.Prelude.{ℕ, ℤ, pos, Bool, true, false, not, ◌&&◌, ◌||◌, List, [], ◌∷◌, length, Option, Some, None, ◌+◌, ◌==◌, if◌then◌else◌, is_some, nat_lt, nat_le, int_lt}
+use Rattle.pipe_model.specs.declared.bounds.TheConstants.{MOST_CELLS, MOST_LOCALS, MOST_ITERATIONS, MOST_STAGES, MOST_INSTANCES, MOST_STEPS, MOST_EMITS}
 use Rattle.std.proofs.Math.IntN.{◌*ℤ◌}
 use Rattle.std.specs.List.{list_any}
 use Rattle.std.specs.Str.{bytes_eq}
@@ -107,8 +108,8 @@ breaks Twice scope (DeclaredCell x size) = is_cell scope.cells x
 breaks Twice scope (DeclaredLocal x) = is_cell scope.cells x || is_among scope.lets x
 breaks PipeOutside scope IterWord = not (has_iteration scope.region)
 breaks PipeOutside scope StageWord = not (has_stages scope.region)
-breaks TooManyCells scope (DeclaredCell x size) = nat_lt 65536 (cell_total scope.cells + declared_size size)
-breaks TooManyLocals scope (DeclaredLocal x) = nat_le 64 (length scope.lets)
+breaks TooManyCells scope (DeclaredCell x size) = nat_lt MOST_CELLS (cell_total scope.cells + declared_size size)
+breaks TooManyLocals scope (DeclaredLocal x) = nat_le MOST_LOCALS (length scope.lets)
 breaks NotAnArray scope (Indexed x) = is_single (meaning_at scope x)
 breaks NeedsIndex scope (Plain x) = is_array (meaning_at scope x)
 breaks ZeroSize scope (DeclaredCell x size) = declared_size size == 0
@@ -145,11 +146,11 @@ is_between low high z = not (int_lt z low) && not (int_lt high z)
 -- the first limit that is out of its range: 1 the iterations, 2 the stages, 3 the stage instances, 4 the steps, 5 the emitted numbers
 abbrev pub first_limit_out : Limits → Option ℕ
 first_limit_out limits =
-    if not (is_between (pos 1) (pos 65536) limits.iterations) then Some 1
-    else (if not (is_between (pos 1) (pos 4096) limits.stages) then Some 2
-    else (if int_lt (pos 262144) (limits.iterations *ℤ limits.stages) then Some 3
-    else (if not (is_between (pos 1) (pos 1000000) limits.steps) then Some 4
-    else (if int_lt (pos 1048576) limits.emits then Some 5
+    if not (is_between (pos 1) MOST_ITERATIONS limits.iterations) then Some 1
+    else (if not (is_between (pos 1) MOST_STAGES limits.stages) then Some 2
+    else (if int_lt MOST_INSTANCES (limits.iterations *ℤ limits.stages) then Some 3
+    else (if not (is_between (pos 1) MOST_STEPS limits.steps) then Some 4
+    else (if int_lt MOST_EMITS limits.emits then Some 5
     else None))))
 
 -- the fault of a limit, or else what follows

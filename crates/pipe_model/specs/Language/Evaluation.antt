@@ -1,16 +1,17 @@
 -- Evaluation: what expressions, statements and iterations do, as interaction trees, from which costs and effects can be read case by case
 -- (interaction trees: Xia et al., "Interaction Trees", POPL 2020).
 use Rattle.std.specs.Prelude.{ℕ, zero, suc, ℤ, pos, negsuc, ◌+ℤ◌, int_lt, int_div, int_rem, List, [], ◌∷◌, ◌++◌, Option, Some, None, Bool, not, if◌then◌else◌, ◌==◌, ◌+◌, ◌^◌, nat_lt, length, take, slice_index_or}
+use Rattle.pipe_model.specs.declared.operator_codes.TheConstants as operator_codes
 use Rattle.std.proofs.Math.IntN.{◌-ℤ◌, ◌*ℤ◌, neg_ℤ}
 use Rattle.std.specs.Ordering.{int_eq}
 use Rattle.std.specs.Str.{bytes_eq}
 use Rattle.pipe_model.specs.declared.column.ColumnEnd.{ColumnEnd}
 use Rattle.pipe_model.specs.declared.column.ColumnEnd.TheVariants as ends
-use Rattle.pipe_model.specs.declared.node.Kind.{Kind}
 use Rattle.pipe_model.specs.declared.trap.Trap.TheVariants as traps
+use Rattle.pipe_model.specs.declared.tree.StageKind.{StageKind}
 use Rattle.pipe_model.specs.Language.Interaction.{Interaction, Return, Raise, Step, Get, Set, bind}
 use Rattle.pipe_model.specs.Language.Interaction as tree
-use Rattle.pipe_model.specs.Language.SyntaxTree.{Expression, Number, Name, Element, And, Or, Binary, Unary, More, Take, Iter, Statement, Let, Assign, AssignElement, Emit, If, While, Stage, NextStage, Statements, Empty, Then}
+use Rattle.pipe_model.specs.Language.SyntaxTree.{Expression, Number, Name, Element, And, Or, Binary, Unary, More, Take, Iter, Statement, Let, Assign, AssignElement, Emit, If, While, Stage, NextStage, Statements, Empty, Then, kind_of_stage}
 
 -- a local and its value
 pub record Local : Type 0 where
@@ -71,22 +72,33 @@ truth_of v = if_zero v (pos 0) (pos 1)
 abbrev pub fitting : ℤ → Interaction ℤ
 fitting v = if is_i64 v then Return v else Raise traps.Overflow
 
--- the value of the divisor's use, where it is not 0 and the quotient is an `i64`
+-- the quotient or the remainder, given as the last argument, where the divisor is not 0 and the quotient is an `i64`
 abbrev pub divided : ℤ → ℤ → ℤ → Interaction ℤ
 divided a b v = if_zero b (Raise traps.DivZero) (bind (fitting (int_div a b)) (λ quotient. Return v))
 
--- a two-place operator other than `&&` and `||`, by its code: == != < <= > >= + - * / %
+-- a two-place operator other than `&&` and `||`, by its code. A program that a source spells has no other codes
+-- (`has_known_operators`), and for those the value is 0.
 abbrev pub operate : ℕ → ℤ → ℤ → Interaction ℤ
 operate code a b =
-    if code == 3 then Return (truth (int_eq a b)) else (if code == 4 then Return (truth (not (int_eq a b)))
-    else (if code == 5 then Return (truth (int_lt a b)) else (if code == 6 then Return (truth (not (int_lt b a)))
-    else (if code == 7 then Return (truth (int_lt b a)) else (if code == 8 then Return (truth (not (int_lt a b)))
-    else (if code == 9 then fitting (a +ℤ b) else (if code == 10 then fitting (a -ℤ b) else (if code == 11 then fitting (a *ℤ b)
-    else (if code == 12 then divided a b (int_div a b) else divided a b (int_rem a b))))))))))
+    if code == operator_codes.EQUAL then Return (truth (int_eq a b))
+    else (if code == operator_codes.UNEQUAL then Return (truth (not (int_eq a b)))
+    else (if code == operator_codes.LESS then Return (truth (int_lt a b))
+    else (if code == operator_codes.AT_MOST then Return (truth (not (int_lt b a)))
+    else (if code == operator_codes.GREATER then Return (truth (int_lt b a))
+    else (if code == operator_codes.AT_LEAST then Return (truth (not (int_lt a b)))
+    else (if code == operator_codes.PLUS then fitting (a +ℤ b)
+    else (if code == operator_codes.MINUS then fitting (a -ℤ b)
+    else (if code == operator_codes.TIMES then fitting (a *ℤ b)
+    else (if code == operator_codes.QUOTIENT then divided a b (int_div a b)
+    else (if code == operator_codes.REMAINDER then divided a b (int_rem a b)
+    else Return (pos 0)))))))))))
 
--- a one-place operator by its code: 1 is the negative, 2 is `!`
+-- the operation of a one-place operator, by its code; other codes occur in no program that a source spells either
 abbrev pub operate_one : ℕ → ℤ → Interaction ℤ
-operate_one code a = if code == 1 then fitting (neg_ℤ a) else Return (if_zero a (pos 1) (pos 0))
+operate_one code a =
+    if code == operator_codes.NEGATIVE then fitting (neg_ℤ a)
+    else (if code == operator_codes.NOT then Return (if_zero a (pos 1) (pos 0))
+    else Return (pos 0))
 
 -- ---- cells and locals
 
@@ -151,14 +163,14 @@ abbrev pub emit : ℕ → ℤ → Interaction (Unit {0})
 emit limit v = Get 1 (λ count. if int_eq count (pos limit) then Raise traps.OutputLimit else Set 1 v (Return tt))
 
 -- the instance ends and the next stage is named: its number is above the current one, and there is room for an instance
-abbrev pub go_to_stage : ℕ → Kind → StagePosition → ℤ → Interaction StagePosition
+abbrev pub go_to_stage : ℕ → StageKind → StagePosition → ℤ → Interaction StagePosition
 go_to_stage stages kind here n =
     if int_lt here.number n
-    then (if nat_lt here.count stages then tree.Stage kind n (Return (record { number = n; count = here.count + 1 })) else Raise traps.StageLimit)
+    then (if nat_lt here.count stages then tree.Stage (kind_of_stage kind) n (Return (record { number = n; count = here.count + 1 })) else Raise traps.StageLimit)
     else Raise traps.StageOrder
 
 -- a missing stage number is the current one plus 1
-abbrev pub go_to_next_stage : ℕ → Kind → StagePosition → Interaction StagePosition
+abbrev pub go_to_next_stage : ℕ → StageKind → StagePosition → Interaction StagePosition
 go_to_next_stage stages kind here = bind (fitting (here.number +ℤ pos 1)) (go_to_stage stages kind here)
 
 -- the locals of a block go out of scope at its end

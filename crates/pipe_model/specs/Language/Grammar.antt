@@ -2,13 +2,15 @@
 -- one constructor a line of the grammar. A piece is one symbol, or the symbols of a full expression: one that is no part of another.
 -- The bounds on brackets and on full expressions stand beside the grammar (Spelling), not in it.
 use Rattle.std.specs.Prelude.{◌≡◌, ℕ, suc, ℤ, pos, List, [], ◌∷◌, ◌++◌, slice_index, Option, Some, None}
+use Rattle.pipe_model.specs.declared.operator_codes.TheConstants as operator_codes
+use Rattle.pipe_model.specs.declared.levels.TheConstants.{ANY_EXPRESSION, OPERAND}
 use Rattle.std.proofs.Math.IntN.{neg_ℤ}
-use Rattle.pipe_model.specs.declared.node.Kind.TheVariants as kinds
+use Rattle.pipe_model.specs.declared.tree.StageKind.TheVariants as kinds
 use Rattle.pipe_model.specs.declared.symbol.Symbol.{Symbol}
 use Rattle.pipe_model.specs.declared.symbol.Symbol.TheVariants as symbols
 use Rattle.pipe_model.specs.declared.tree.Declaration.{Declaration}
 use Rattle.pipe_model.specs.Language.SyntaxTree.{Expression, Number, Name, Element, Unary, More, Take, Iter, binary_expression, Statement, Let, Assign, AssignElement, Emit, If, While, Stage, NextStage, Statements, Empty, Then, SyntaxTree}
-use Rattle.pipe_model.specs.Language.Words.{word_limits, word_iterations, word_stages, word_steps, word_emits, word_cell, word_pipe_while, word_pipe_wait, word_pipe_continue, word_let, word_if, word_while, word_emit, word_more, word_take, word_iter, minus, exclamation, open_round, close_round, comma, semicolon, equals, open_square, close_square, open_brace, close_brace}
+use Rattle.pipe_model.specs.Language.Words.{word_limits, word_iterations, word_stages, word_steps, word_emits, word_cell, word_init, word_pipe_while, word_pipe_wait, word_pipe_continue, word_final, word_let, word_if, word_else, word_while, word_emit, word_more, word_take, word_iter, minus, exclamation, open_round, close_round, comma, semicolon, equals, open_square, close_square, open_brace, close_brace}
 
 -- the level of each two-place operator by its code from 1 to 13; 0 where no operator has the code
 abbrev pub level_of : ℕ → ℕ
@@ -16,11 +18,11 @@ level_of code = slice_index (0 ∷ 1 ∷ 2 ∷ 3 ∷ 3 ∷ 4 ∷ 4 ∷ 4 ∷ 4 �
 
 -- the level of an operand, which binds more tightly than each two-place operator
 abbrev pub operand_level : ℕ
-operand_level = 7
+operand_level = OPERAND
 
 -- the level of any expression: that of the operator that binds most loosely
 abbrev pub any_expression : ℕ
-any_expression = 1
+any_expression = ANY_EXPRESSION
 
 -- the symbols derive the expression at a level: an operand at the level of operands, and at a lower level expressions of the
 -- next level with operators of this level between them, which group from the left
@@ -32,8 +34,8 @@ pub data Derives : ℕ → List Symbol → Expression → Type 0 where
   CallsMore : Derives operand_level (word_more ∷ open_round ∷ close_round ∷ []) More
   CallsTake : Derives operand_level (word_take ∷ open_round ∷ close_round ∷ []) Take
   CallsIter : Derives operand_level (word_iter ∷ open_round ∷ close_round ∷ []) Iter
-  Negative : {ts : List Symbol} {e : Expression} → Derives operand_level ts e → Derives operand_level (minus ∷ ts) (Unary 1 e)
-  Not : {ts : List Symbol} {e : Expression} → Derives operand_level ts e → Derives operand_level (exclamation ∷ ts) (Unary 2 e)
+  Negative : {ts : List Symbol} {e : Expression} → Derives operand_level ts e → Derives operand_level (minus ∷ ts) (Unary operator_codes.NEGATIVE e)
+  Not : {ts : List Symbol} {e : Expression} → Derives operand_level ts e → Derives operand_level (exclamation ∷ ts) (Unary operator_codes.NOT e)
   Bracketed : {inside : List Symbol} {e : Expression} → Derives any_expression inside e → Derives operand_level (open_round ∷ (inside ++ close_round ∷ [])) e
   Tighter : {level : ℕ} {ts : List Symbol} {e : Expression} → Derives (suc level) ts e → Derives level ts e
   Joined : {level : ℕ} {left right : List Symbol} {a b : Expression} (code : ℕ) → level_of code ≡ level
@@ -63,7 +65,7 @@ mutual
         (AssignElement name index e)
     EmitIs : {ts : List Symbol} {e : Expression} → Derives any_expression ts e
         → DerivesStatement (Single word_emit ∷ FullExpression ts ∷ Single semicolon ∷ []) (Emit e)
-    IfIs : {ts : List Symbol} {ps qs : List Piece} {e : Expression} {a b : Statements} → Derives any_expression ts e → DerivesBlock ps a → DerivesPart 14 qs b
+    IfIs : {ts : List Symbol} {ps qs : List Piece} {e : Expression} {a b : Statements} → Derives any_expression ts e → DerivesBlock ps a → DerivesPart word_else qs b
         → DerivesStatement (Single word_if ∷ Single open_round ∷ FullExpression ts ∷ Single close_round ∷ (ps ++ qs)) (If e a b)
     WhileIs : {ts : List Symbol} {ps : List Piece} {e : Expression} {a : Statements} → Derives any_expression ts e → DerivesBlock ps a
         → DerivesStatement (Single word_while ∷ Single open_round ∷ FullExpression ts ∷ Single close_round ∷ ps) (While e a)
@@ -87,9 +89,9 @@ mutual
     BlockIs : {ps : List Piece} {ss : Statements} → DerivesStatements ps ss → DerivesBlock (Single open_brace ∷ (ps ++ Single close_brace ∷ [])) ss
 
   -- a part that may be missing: its word, which is `else`, `init` or `final`, and a block
-  pub data DerivesPart : ℕ → List Piece → Statements → Type 0 where
-    NoPart : {word : ℕ} → DerivesPart word [] Empty
-    PartIs : {word : ℕ} {ps : List Piece} {ss : Statements} → DerivesBlock ps ss → DerivesPart word (Single (symbols.Word word) ∷ ps) ss
+  pub data DerivesPart : Symbol → List Piece → Statements → Type 0 where
+    NoPart : {word : Symbol} → DerivesPart word [] Empty
+    PartIs : {word : Symbol} {ps : List Piece} {ss : Statements} → DerivesBlock ps ss → DerivesPart word (Single word ∷ ps) ss
 
 -- the size of an array, which may be missing
 pub data DerivesSize : List Piece → Option ℤ → Type 0 where
@@ -122,7 +124,7 @@ limits_before iterations stages steps emits ps =
 -- a program: limits, cells, what runs before the loop, the loop with its test and body, and what runs after it
 pub data DerivesProgram : List Piece → SyntaxTree → Type 0 where
   ProgramIs : {cs is bs ls : List Piece} {ts : List Symbol} {cells : List Declaration} {init body last : Statements} {test : Expression}
-      (iterations stages steps emits : ℤ) → DerivesCells cs cells → DerivesPart 7 is init → Derives any_expression ts test → DerivesBlock bs body → DerivesPart 11 ls last
+      (iterations stages steps emits : ℤ) → DerivesCells cs cells → DerivesPart word_init is init → Derives any_expression ts test → DerivesBlock bs body → DerivesPart word_final ls last
       → DerivesProgram
       (limits_before iterations stages steps emits
       (cs ++ (is ++ Single word_pipe_while ∷ Single open_round ∷ FullExpression ts ∷ Single close_round ∷ (bs ++ ls))))

@@ -1,6 +1,8 @@
 -- What holds of every program that a source spells, whether it obeys the rules or not: its operators are those of the language,
 -- no number of its declarations is negative where the grammar has no sign, and its size is bounded as a source's length is.
 use Rattle.std.specs.Prelude.{◌≡◌, ◌≤◌, ◌≤ℤ◌, ℕ, ℤ, pos, Bool, true, ◌&&◌, List, [], ◌∷◌, ◌++◌, length, sum_by, All, Option, Some, None, ◌+◌, nat_le}
+use Rattle.pipe_model.specs.declared.bounds.TheConstants.{LONGEST_EXPRESSION, LARGEST_PROGRAM}
+use Rattle.pipe_model.specs.declared.operator_codes.TheConstants as operator_codes
 use Rattle.pipe_model.specs.declared.tree.Declaration.{Declaration}
 use Rattle.pipe_model.specs.Language.Marks.{marks_of}
 use Rattle.pipe_model.specs.Language.SyntaxTree.{Expression, Number, Name, Element, And, Or, Binary, Unary, More, Take, Iter, Statement, Let, Assign, AssignElement, Emit, If, While, Stage, NextStage, Statements, Empty, Then, SyntaxTree}
@@ -25,8 +27,8 @@ has_known_operators (Name x) = true
 has_known_operators (Element x i) = has_known_operators i
 has_known_operators (And a b) = has_known_operators a && has_known_operators b
 has_known_operators (Or a b) = has_known_operators a && has_known_operators b
-has_known_operators (Binary code a b) = (nat_le 1 code && nat_le code 13) && (has_known_operators a && has_known_operators b)
-has_known_operators (Unary code a) = (nat_le 1 code && nat_le code 2) && has_known_operators a
+has_known_operators (Binary code a b) = (nat_le operator_codes.OR code && nat_le code operator_codes.REMAINDER) && (has_known_operators a && has_known_operators b)
+has_known_operators (Unary code a) = (nat_le operator_codes.NEGATIVE code && nat_le code operator_codes.NOT) && has_known_operators a
 has_known_operators More = true
 has_known_operators Take = true
 has_known_operators Iter = true
@@ -83,7 +85,7 @@ HasNoNegativeSize (Some n) = pos 0 ≤ℤ n
 -- a source may spell the program
 pub record IsSpellable (tree : SyntaxTree) : Type 0 where
   pub operators : All (λ e. has_known_operators e ≡ true) (expressions_of tree)
-  pub short : All (λ e. node_count e ≤ 256) (expressions_of tree)
+  pub short : All (λ e. node_count e ≤ LONGEST_EXPRESSION) (expressions_of tree)
   pub sizes : All (λ (d : Declaration). HasNoNegativeSize d.size) tree.cells
   pub emits : pos 0 ≤ℤ tree.limits.emits
-  pub bounded : size_of tree ≤ 4194304
+  pub bounded : size_of tree ≤ LARGEST_PROGRAM

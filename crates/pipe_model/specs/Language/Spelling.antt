@@ -1,5 +1,7 @@
 -- Which symbols spell which program, within the bounds on brackets and full expressions, and the first fault of symbols that spell none.
-use Rattle.std.specs.Prelude.{◌≡◌, ◌<◌, ◌≤◌, ◌-◌, ℕ, Bool, List, [], ◌∷◌, ◌++◌, length, ◌==◌, ◌||◌, false}
+use Rattle.std.specs.Prelude.{◌≡◌, ◌<◌, ◌≤◌, ◌-◌, ◌+◌, ℕ, Bool, List, [], ◌∷◌, ◌++◌, length, ◌==◌, ◌||◌, false}
+use Rattle.pipe_model.specs.declared.bounds.TheConstants.{MOST_OPEN_BRACKETS, LONGEST_EXPRESSION}
+use Rattle.pipe_model.specs.declared.sign_bytes.TheConstants as signs
 use Rattle.std.specs.List.{count_by}
 use Rattle.pipe_model.specs.declared.symbol.Symbol.{Symbol}
 use Rattle.pipe_model.specs.declared.symbol.Symbol.TheVariants as symbols
@@ -8,7 +10,7 @@ use Rattle.pipe_model.specs.Language.SyntaxTree.{SyntaxTree}
 
 -- `(`, `[` or `{`
 abbrev pub is_opening_bracket : Symbol → Bool
-is_opening_bracket (symbols.Sign b) = (b == 40) || ((b == 91) || (b == 123))
+is_opening_bracket (symbols.Sign b) = (b == signs.OPEN_ROUND) || ((b == signs.OPEN_SQUARE) || (b == signs.OPEN_BRACE))
 is_opening_bracket (symbols.Name name) = false
 is_opening_bracket (symbols.Word k) = false
 is_opening_bracket (symbols.Number n) = false
@@ -16,7 +18,7 @@ is_opening_bracket (symbols.Operator code) = false
 
 -- `)`, `]` or `}`
 abbrev pub is_closing_bracket : Symbol → Bool
-is_closing_bracket (symbols.Sign b) = (b == 41) || ((b == 93) || (b == 125))
+is_closing_bracket (symbols.Sign b) = (b == signs.CLOSE_ROUND) || ((b == signs.CLOSE_SQUARE) || (b == signs.CLOSE_BRACE))
 is_closing_bracket (symbols.Name name) = false
 is_closing_bracket (symbols.Word k) = false
 is_closing_bracket (symbols.Number n) = false
@@ -26,9 +28,9 @@ is_closing_bracket (symbols.Operator code) = false
 abbrev pub open_brackets : List Symbol → ℕ
 open_brackets ts = count_by is_opening_bracket ts - count_by is_closing_bracket ts
 
--- at each point at most 64 brackets are open
+-- at no point too many brackets are open
 pub record IsShallow (ts : List Symbol) : Type 0 where
-  pub shallow : (before after : List Symbol) → ts ≡ before ++ after → open_brackets before ≤ 64
+  pub shallow : (before after : List Symbol) → ts ≡ before ++ after → open_brackets before ≤ MOST_OPEN_BRACKETS
 
 -- each full expression has at most so many symbols
 abbrev pub AreShort : ℕ → List Piece → Type 0
@@ -41,7 +43,7 @@ pub record Spells (ts : List Symbol) (tree : SyntaxTree) : Type 0 where
   pub pieces : List Piece
   pub split : ts ≡ flat pieces
   pub derived : DerivesProgram pieces tree
-  pub short : AreShort 256 pieces
+  pub short : AreShort LONGEST_EXPRESSION pieces
   pub shallow : IsShallow ts
 
 -- the symbols are a front of the symbols of some program, by the grammar alone
@@ -52,7 +54,7 @@ pub record IsProgramPrefix (before : List Symbol) : Type 0 where
   pub derived : DerivesProgram pieces tree
   pub split : before ++ after ≡ flat pieces
 
--- the last of the symbols is number 257 of a full expression
+-- the last of the symbols is the first that a full expression has too many
 pub record EndsTooLong (ts : List Symbol) : Type 0 where
   pub before : List Piece
   pub inside : List Symbol
@@ -60,7 +62,7 @@ pub record EndsTooLong (ts : List Symbol) : Type 0 where
   pub after : List Piece
   pub tree : SyntaxTree
   pub derived : DerivesProgram (before ++ FullExpression (inside ++ more) ∷ after) tree
-  pub many : length inside ≡ 257
+  pub many : length inside ≡ LONGEST_EXPRESSION + 1
   pub split : ts ≡ flat before ++ inside
 
 -- none of the symbols breaks a rule
@@ -82,6 +84,6 @@ pub data FirstFault : List Symbol → GrammarRule → ℕ → Type 0 where
   UnexpectedEnd : (ts : List Symbol) → BreaksNoRule ts
       → ((pieces : List Piece) (tree : SyntaxTree) → DerivesProgram pieces tree → ts ≡ flat pieces → ⊥) → FirstFault ts Expected (length ts)
   TooDeep : (before : List Symbol) (t : Symbol) (after : List Symbol) → BreaksNoRule before → IsProgramPrefix (before ++ t ∷ [])
-      → 64 < open_brackets (before ++ t ∷ []) → FirstFault (before ++ t ∷ after) Shallow (length before)
-  TooLong : (before : List Symbol) (t : Symbol) (after : List Symbol) → BreaksNoRule before → open_brackets (before ++ t ∷ []) ≤ 64
+      → MOST_OPEN_BRACKETS < open_brackets (before ++ t ∷ []) → FirstFault (before ++ t ∷ after) Shallow (length before)
+  TooLong : (before : List Symbol) (t : Symbol) (after : List Symbol) → BreaksNoRule before → open_brackets (before ++ t ∷ []) ≤ MOST_OPEN_BRACKETS
       → EndsTooLong (before ++ t ∷ []) → FirstFault (before ++ t ∷ after) Short (length before)

@@ -1,12 +1,15 @@
 -- Syntax trees as plain data, without the addresses and spare room of the Rust values, and the view from one to the other.
 use Rattle.std.specs.Prelude.{ℕ, ℤ, List, [], ◌∷◌, Option, Some, None, if◌then◌else◌, ◌==◌}
+use Rattle.pipe_model.specs.declared.operator_codes.TheConstants as operator_codes
 use Rattle.pipe_model.specs.declared.node.Kind.{Kind}
-use Rattle.pipe_model.specs.declared.node.Kind.TheVariants as kinds
+use Rattle.pipe_model.specs.declared.node.Kind.TheVariants as node_kinds
 use Rattle.pipe_model.specs.declared.tree.Declaration.{Declaration}
 use Rattle.pipe_model.specs.declared.tree.Expr.{Expr}
 use Rattle.pipe_model.specs.declared.tree.Expr.TheVariants as exprs
 use Rattle.pipe_model.specs.declared.tree.Limits.{Limits}
 use Rattle.pipe_model.specs.declared.tree.Program.{Program}
+use Rattle.pipe_model.specs.declared.tree.StageKind.{StageKind}
+use Rattle.pipe_model.specs.declared.tree.StageKind.TheVariants as kinds
 use Rattle.pipe_model.specs.declared.tree.Stmt.{Stmt, Row_of-Stmt, end_of-Stmt, more_of-Stmt}
 use Rattle.pipe_model.specs.declared.tree.Stmt.TheVariants as stmts
 
@@ -32,8 +35,8 @@ mutual
     Emit : Expression → Statement
     If : Expression → Statements → Statements → Statement
     While : Expression → Statements → Statement
-    Stage : Kind → Expression → Statement
-    NextStage : Kind → Statement
+    Stage : StageKind → Expression → Statement
+    NextStage : StageKind → Statement
 
   pub data Statements : Type 0 where
     Empty : Statements
@@ -48,9 +51,14 @@ pub record SyntaxTree : Type 0 where
   pub body : Statements
   pub last : Statements
 
+-- the kind of the stage instance that a statement begins
+abbrev pub kind_of_stage : StageKind → Kind
+kind_of_stage kinds.Wait = node_kinds.Wait
+kind_of_stage kinds.Continue = node_kinds.Continue
+
 -- two expressions with a two-place operator between them, by its code
 abbrev pub binary_expression : ℕ → Expression → Expression → Expression
-binary_expression code a b = if code == 1 then Or a b else (if code == 2 then And a b else Binary code a b)
+binary_expression code a b = if code == operator_codes.OR then Or a b else (if code == operator_codes.AND then And a b else Binary code a b)
 
 -- the plain data of an expression
 abbrev pub expression_of : Expr → Expression
@@ -64,7 +72,7 @@ expression_of exprs.Take = Take
 expression_of exprs.Iter = Iter
 
 -- a statement that names a next stage, with or without a number
-abbrev pub stage_statement : Kind → Option Expr → Statement
+abbrev pub stage_statement : StageKind → Option Expr → Statement
 stage_statement kind None = NextStage kind
 stage_statement kind (Some e) = Stage kind (expression_of e)
 

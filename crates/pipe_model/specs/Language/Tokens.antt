@@ -1,6 +1,7 @@
 -- Tokens: which tokens a source has, each with its kind, place and length, among blanks and comments; and which fault a
 -- source has that has no tokens within the bounds.
 use Rattle.std.specs.Prelude.{◌≡◌, ℕ, ◌+◌, ◌-◌, ◌<◌, ◌≤◌, ◌^◌, pos, ◌≤ℤ◌, Bool, true, false, not, List, [], ◌∷◌, ◌++◌, length, take, drop, map, ◌==◌, ◌&&◌, Some, All}
+use Rattle.pipe_model.specs.declared.bounds.TheConstants.{LONGEST_SOURCE, LONGEST_NAME}
 use Rattle.std.specs.List.{list_all}
 use Rattle.pipe_model.specs.Language.Lexis.{is_blank, symbol_of, IsLongest}
 use Rattle.pipe_model.specs.declared.symbol.Symbol.{Symbol}
@@ -68,9 +69,9 @@ HasTokens source tokens = Scans 0 source tokens []
 
 -- ---- bounds
 
--- a name has at most 64 bytes, and a number is an `i64`
+-- a name is not too long, and a number is an `i64`
 abbrev pub IsKindWithinBounds : TokenKind → ℕ → Type 0
-IsKindWithinBounds kinds.Name bytes = bytes ≤ 64
+IsKindWithinBounds kinds.Name bytes = bytes ≤ LONGEST_NAME
 IsKindWithinBounds (kinds.Word k) bytes = Unit {0}
 IsKindWithinBounds (kinds.Number n) bytes = n ≤ℤ pos (2 ^ 63 - 1)
 IsKindWithinBounds (kinds.Operator code) bytes = Unit {0}
@@ -82,7 +83,7 @@ IsTokenWithinBounds token = IsKindWithinBounds token.kind token.length
 
 -- a source is not too long
 abbrev pub IsShortEnough : List ℕ → Type 0
-IsShortEnough source = length source ≤ 1048576
+IsShortEnough source = length source ≤ LONGEST_SOURCE
 
 -- the tokens of a source that has no fault
 pub record IsLexed (source : List ℕ) (tokens : List Token) : Type 0 where
@@ -149,9 +150,9 @@ pub data LexicalFault : Type 0 where
 
 -- the source has this fault: it is too long, or else the first thing that is wrong in its text is this
 pub data HasFault (source : List ℕ) : LexicalFault → Type 0 where
-  IsTooLong : 1048576 < length source → HasFault source SourceTooLong
+  IsTooLong : LONGEST_SOURCE < length source → HasFault source SourceTooLong
   HasBadByte : (place : ℕ) → IsReached source place → BeginsNothing (drop place source) → HasFault source (BadByte place)
   HasWideNumber : (place : ℕ) (n : ℕ) → IsReached source place → BeginsWith (drop place source) (symbols.Number (pos n)) → 2 ^ 63 ≤ n
       → HasFault source (TooWide place)
-  HasLongName : (place : ℕ) (name : List ℕ) → IsReached source place → BeginsWith (drop place source) (symbols.Name name) → 64 < length name
+  HasLongName : (place : ℕ) (name : List ℕ) → IsReached source place → BeginsWith (drop place source) (symbols.Name name) → LONGEST_NAME < length name
       → HasFault source (NameTooLong place)
