@@ -41,11 +41,11 @@ text_refused source lexer.NoMemory line h e = absurd e
 pub tokens_refused : (source : List ℕ) (tokens : List Token) (fault : ParseFault) (line : List ℕ) → IsLexed source tokens → IsFault source tokens fault
     → IsSyntaxLine fault line → AreRefused source line
 tokens_refused source tokens (parser.Unexpected place) line l h e =
-    record { refusal = Syntactic grammar.Expected place; refused = ForAToken tokens grammar.Expected place l h; line_is = e }
+    record { refusal = Syntactic grammar.Unexpected place; refused = ForAToken tokens grammar.Unexpected place l h; line_is = e }
 tokens_refused source tokens (parser.TooDeep place) line l h e =
-    record { refusal = Syntactic grammar.Shallow place; refused = ForAToken tokens grammar.Shallow place l h; line_is = e }
+    record { refusal = Syntactic grammar.TooDeep place; refused = ForAToken tokens grammar.TooDeep place l h; line_is = e }
 tokens_refused source tokens (parser.TooLong place) line l h e =
-    record { refusal = Syntactic grammar.Short place; refused = ForAToken tokens grammar.Short place l h; line_is = e }
+    record { refusal = Syntactic grammar.TooLong place; refused = ForAToken tokens grammar.TooLong place l h; line_is = e }
 tokens_refused source tokens parser.NoMemory line l h e = absurd e
 
 -- the mark of a fault has a place

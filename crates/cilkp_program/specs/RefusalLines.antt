@@ -22,9 +22,9 @@ IsLexicalLine lexer.NoMemory line = ⊥
 
 -- the line of a fault of the tokens
 abbrev pub IsSyntaxLine : ParseFault → List ℕ → Type 0
-IsSyntaxLine (parser.Unexpected place) line = line ≡ syntax_line grammar.Expected place
-IsSyntaxLine (parser.TooDeep place) line = line ≡ syntax_line grammar.Shallow place
-IsSyntaxLine (parser.TooLong place) line = line ≡ syntax_line grammar.Short place
+IsSyntaxLine (parser.Unexpected place) line = line ≡ syntax_line grammar.Unexpected place
+IsSyntaxLine (parser.TooDeep place) line = line ≡ syntax_line grammar.TooDeep place
+IsSyntaxLine (parser.TooLong place) line = line ≡ syntax_line grammar.TooLong place
 IsSyntaxLine parser.NoMemory line = ⊥
 
 -- the mark with this number has a place

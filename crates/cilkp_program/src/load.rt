@@ -13,13 +13,11 @@ use pipe_check::checked::Checked;
 use pipe_check::program::check;
 use pipe_lexer::fault::LexFault;
 use pipe_lexer::scan::tokens;
+use pipe_model::bounds::LONGEST_SOURCE;
 use pipe_model::list::Bytes;
 use pipe_model::memory::NoMemory;
 use pipe_parser::parse::{Parsed, parse};
 use std::alloc::Global;
-
-/// How many bytes a source has at most.
-const LONGEST_SOURCE: usize = 1_048_576;
 
 const MISSING: &str = "refused missing ";
 

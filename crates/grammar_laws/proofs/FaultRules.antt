@@ -4,7 +4,7 @@ use Rattle.std.proofs.lemmas.Bool.{cases_lt}
 use Rattle.pipe_model.specs.declared.symbol.Symbol.{Symbol}
 use Rattle.pipe_model.specs.Language.SyntaxTree.{SyntaxTree}
 use Rattle.pipe_model.specs.Language.Grammar.{Piece, FullExpression, flat, DerivesProgram}
-use Rattle.pipe_model.specs.Language.Spelling.{Spells, IsProgramPrefix, EndsTooLong, IsShallow, BreaksNoRule, FirstFault, UnexpectedSymbol, UnexpectedEnd, TooDeep, open_brackets, GrammarRule, Expected, Shallow, Short}
+use Rattle.pipe_model.specs.Language.Spelling.{Spells, IsProgramPrefix, EndsTooLong, IsShallow, BreaksNoRule, FirstFault, UnexpectedSymbol, UnexpectedEnd, FirstTooDeep, FirstTooLong, open_brackets, GrammarRule}
 use Rattle.pipe_model.specs.Language.Spelling as spelling
 use Rattle.grammar_laws.specs.ProgramMachine.{Outside, Verdict, Accepted, Unexpected, TooLong, judge, program}
 use Rattle.grammar_laws.proofs.FirstFaults.{IsUnexpected, is_unexpected, is_too_long, NoneTooLong, none_too_long, too_long_found}
@@ -64,7 +64,7 @@ fault_moved {ts} {us} {rule} {k} {m} h i f = subst (λ x. FirstFault x rule k) (
 
 unexpected_at : (cut more : List Symbol) (n k : ℕ) → (u : IsUnexpected cut n) → (rest : List Symbol) → u.rest ≡ rest → 0 < n → k + n ≡ length cut
     → IsShallowBefore cut
-    → FirstFault (cut ++ more) Expected k
+    → FirstFault (cut ++ more) spelling.Unexpected k
 unexpected_at cut more n k u [] e l m h = absurd (omega (arith, l, u.many, ap length e))
 unexpected_at cut more n k u (t ∷ after) e l m h =
     let split : cut ≡ u.before ++ t ∷ after = u.split ∙ ap (λ x. u.before ++ x) e in
@@ -77,7 +77,7 @@ unexpected_at cut more n k u (t ∷ after) e l m h =
 -- a symbol that may not come, k symbols from the start and n from the end
 pub first_unexpected : (cut more : List Symbol) (n k : ℕ) → judge 256 cut (Outside program) ≡ Unexpected n → 0 < n → k + n ≡ length cut
     → IsShallowBefore cut
-    → FirstFault (cut ++ more) Expected k
+    → FirstFault (cut ++ more) spelling.Unexpected k
 first_unexpected cut more n k v l m h = let u = is_unexpected cut n v in unexpected_at cut more n k u u.rest refl l m h
 
 no_symbols : (ts : List Symbol) → length ts ≡ 0 → ts ≡ []
@@ -85,7 +85,7 @@ no_symbols [] h = refl
 no_symbols (t ∷ ts) h = absurd (omega (arith, h))
 
 -- symbols that end too early
-pub first_unexpected_end : (ts : List Symbol) → judge 256 ts (Outside program) ≡ Unexpected 0 → IsShallow ts → FirstFault ts Expected (length ts)
+pub first_unexpected_end : (ts : List Symbol) → judge 256 ts (Outside program) ≡ Unexpected 0 → IsShallow ts → FirstFault ts spelling.Unexpected (length ts)
 first_unexpected_end ts v h =
     let u = is_unexpected ts 0 v in
     let none = no_symbols u.rest u.many in
@@ -99,14 +99,14 @@ first_unexpected_end ts v h =
 -- a symbol too many of a full expression
 pub first_too_long : (cut more : List Symbol) (n k : ℕ) → judge 256 cut (Outside program) ≡ TooLong n → (1 < n) ⊎ (open_brackets cut ≤ 64)
     → k + n ≡ length cut → IsShallowBefore cut
-    → FirstFault (cut ++ more) Short k
+    → FirstFault (cut ++ more) spelling.TooLong k
 first_too_long cut more n k v c m h =
     let x = is_too_long cut n v in
     let many : length cut ≡ length x.before + length (x.t ∷ x.after) = ap length x.split ∙ length-append x.before (x.t ∷ x.after) in
     let here : cut ≡ (x.before ++ x.t ∷ []) ++ x.after = x.split ∙ sym (append_assoc x.before (x.t ∷ []) x.after) in
     let place : k ≡ length x.before = omega (arith, many, m, x.many) in
     fault_moved (put_behind cut x.before x.t x.after more x.split) place
-    (spelling.TooLong x.before x.t (x.after ++ more)
+    (FirstTooLong x.before x.t (x.after ++ more)
     (record { front = x.front; shallow = front_shallow cut x.before x.t x.after h x.split; short = x.short })
     (shallow_here cut n c (x.before ++ x.t ∷ []) x.after x.many here h) x.ends)
   where
@@ -143,10 +143,10 @@ last_count (TooLong m) n c h = let e : m ≡ n = cc (h) in omega (arith, e, c)
 -- a symbol that opens a bracket too many
 pub first_too_deep : (before : List Symbol) (t : Symbol) (more : List Symbol) (v : Verdict) → judge 256 (before ++ t ∷ []) (Outside program) ≡ v
     → ComesToLast v → IsShallowBefore (before ++ t ∷ []) → 64 < open_brackets (before ++ t ∷ [])
-    → FirstFault (before ++ t ∷ more) Shallow (length before)
+    → FirstFault (before ++ t ∷ more) spelling.TooDeep (length before)
 first_too_deep before t more v e c h l =
     let front = last_front (before ++ t ∷ []) v e c in
-    TooDeep before t more
+    FirstTooDeep before t more
     (record {
       front = shorter_front before (t ∷ []) front;
       shallow = front_shallow (before ++ t ∷ []) before t [] h refl;
@@ -171,9 +171,9 @@ pub spelled_without_fault : {ts : List Symbol} {p : SyntaxTree} {rule : GrammarR
 spelled_without_fault (UnexpectedSymbol before t after b only) s =
     only (spelled_front s (before ++ t ∷ []) after (sym (append_assoc before (t ∷ []) after)))
 spelled_without_fault {p = p} (UnexpectedEnd ts b ends) s = ends s.pieces p s.derived s.split
-spelled_without_fault (TooDeep before t after b front l) s =
+spelled_without_fault (FirstTooDeep before t after b front l) s =
     absurd (omega (arith, l, s.shallow.shallow (before ++ t ∷ []) after (sym (append_assoc before (t ∷ []) after))))
-spelled_without_fault (spelling.TooLong before t after b l ends) s =
+spelled_without_fault (FirstTooLong before t after b l ends) s =
     let g = too_long_found (before ++ t ∷ []) after ends in
     let v = ap (λ x. judge 256 x (Outside program)) (append_assoc before (t ∷ []) after) in
     let e : Accepted ≡ TooLong g.left = sym (spelled_accepted s) ∙ sym v ∙ g.verdict in
@@ -211,12 +211,12 @@ as_long (y ∷ b) r (x ∷ b') r' h l =
 
 -- how the rest of the symbols breaks a rule behind a front
 abbrev Breaks : GrammarRule → List Symbol → List Symbol → Type 0
-Breaks Expected before [] = (pieces : List Piece) (tree : SyntaxTree) → DerivesProgram pieces tree → before ≡ flat pieces → ⊥
-Breaks Expected before (t ∷ after) = IsProgramPrefix (before ++ t ∷ []) → ⊥
-Breaks Shallow before [] = ⊥
-Breaks Shallow before (t ∷ after) = IsProgramPrefix (before ++ t ∷ []) × (64 < open_brackets (before ++ t ∷ []))
-Breaks Short before [] = ⊥
-Breaks Short before (t ∷ after) = (open_brackets (before ++ t ∷ []) ≤ 64) × EndsTooLong (before ++ t ∷ [])
+Breaks spelling.Unexpected before [] = (pieces : List Piece) (tree : SyntaxTree) → DerivesProgram pieces tree → before ≡ flat pieces → ⊥
+Breaks spelling.Unexpected before (t ∷ after) = IsProgramPrefix (before ++ t ∷ []) → ⊥
+Breaks spelling.TooDeep before [] = ⊥
+Breaks spelling.TooDeep before (t ∷ after) = IsProgramPrefix (before ++ t ∷ []) × (64 < open_brackets (before ++ t ∷ []))
+Breaks spelling.TooLong before [] = ⊥
+Breaks spelling.TooLong before (t ∷ after) = (open_brackets (before ++ t ∷ []) ≤ 64) × EndsTooLong (before ++ t ∷ [])
 
 record Broken (ts : List Symbol) (rule : GrammarRule) (k : ℕ) : Type 0 where
   before : List Symbol
@@ -229,34 +229,34 @@ record Broken (ts : List Symbol) (rule : GrammarRule) (k : ℕ) : Type 0 where
 broken : {ts : List Symbol} {rule : GrammarRule} {k : ℕ} → FirstFault ts rule k → Broken ts rule k
 broken (UnexpectedSymbol before t after b only) = record { before = before; rest = t ∷ after; split = refl; many = refl; obeys = b; breaks = only }
 broken (UnexpectedEnd ts b ends) = record { before = ts; rest = []; split = append-nil ts; many = refl; obeys = b; breaks = ends }
-broken (TooDeep before t after b front l) = record { before = before; rest = t ∷ after; split = refl; many = refl; obeys = b; breaks = (front, l) }
-broken (spelling.TooLong before t after b l ends) = record { before = before; rest = t ∷ after; split = refl; many = refl; obeys = b; breaks = (l, ends) }
+broken (FirstTooDeep before t after b front l) = record { before = before; rest = t ∷ after; split = refl; many = refl; obeys = b; breaks = (front, l) }
+broken (FirstTooLong before t after b l ends) = record { before = before; rest = t ∷ after; split = refl; many = refl; obeys = b; breaks = (l, ends) }
 
 -- a symbol before others that break no rule breaks none
 not_before : (rule : GrammarRule) (before : List Symbol) (x : Symbol) (more after : List Symbol) → BreaksNoRule (before ++ x ∷ more) → Breaks rule before (x ∷ after) → ⊥
-not_before Expected before x more after o b =
+not_before spelling.Unexpected before x more after o b =
     b (shorter_front (before ++ x ∷ []) more (subst IsProgramPrefix (sym (append_assoc before (x ∷ []) more)) o.front))
-not_before Shallow before x more after o b =
+not_before spelling.TooDeep before x more after o b =
     absurd (omega (arith, b.1, o.shallow.shallow (before ++ x ∷ []) more (sym (append_assoc before (x ∷ []) more))))
-not_before Short before x more after o b = o.short (before ++ x ∷ []) more (sym (append_assoc before (x ∷ []) more)) b.1
+not_before spelling.TooLong before x more after o b = o.short (before ++ x ∷ []) more (sym (append_assoc before (x ∷ []) more)) b.1
 
 -- one symbol breaks one rule first
 one_rule : (r r' : GrammarRule) (before rest : List Symbol) → Breaks r before rest → Breaks r' before rest → r ≡ r'
-one_rule Expected Expected before rest b c = refl
-one_rule Expected Shallow before [] b c = absurd c
-one_rule Expected Shallow before (t ∷ after) b c = absurd (b c.0)
-one_rule Expected Short before [] b c = absurd c
-one_rule Expected Short before (t ∷ after) b c = absurd (b (too_long_front c.1))
-one_rule Shallow Expected before [] b c = absurd b
-one_rule Shallow Expected before (t ∷ after) b c = absurd (c b.0)
-one_rule Shallow Shallow before rest b c = refl
-one_rule Shallow Short before [] b c = absurd b
-one_rule Shallow Short before (t ∷ after) b c = absurd (omega (arith, b.1, c.0))
-one_rule Short Expected before [] b c = absurd b
-one_rule Short Expected before (t ∷ after) b c = absurd (c (too_long_front b.1))
-one_rule Short Shallow before [] b c = absurd b
-one_rule Short Shallow before (t ∷ after) b c = absurd (omega (arith, c.1, b.0))
-one_rule Short Short before rest b c = refl
+one_rule spelling.Unexpected spelling.Unexpected before rest b c = refl
+one_rule spelling.Unexpected spelling.TooDeep before [] b c = absurd c
+one_rule spelling.Unexpected spelling.TooDeep before (t ∷ after) b c = absurd (b c.0)
+one_rule spelling.Unexpected spelling.TooLong before [] b c = absurd c
+one_rule spelling.Unexpected spelling.TooLong before (t ∷ after) b c = absurd (b (too_long_front c.1))
+one_rule spelling.TooDeep spelling.Unexpected before [] b c = absurd b
+one_rule spelling.TooDeep spelling.Unexpected before (t ∷ after) b c = absurd (c b.0)
+one_rule spelling.TooDeep spelling.TooDeep before rest b c = refl
+one_rule spelling.TooDeep spelling.TooLong before [] b c = absurd b
+one_rule spelling.TooDeep spelling.TooLong before (t ∷ after) b c = absurd (omega (arith, b.1, c.0))
+one_rule spelling.TooLong spelling.Unexpected before [] b c = absurd b
+one_rule spelling.TooLong spelling.Unexpected before (t ∷ after) b c = absurd (c (too_long_front b.1))
+one_rule spelling.TooLong spelling.TooDeep before [] b c = absurd b
+one_rule spelling.TooLong spelling.TooDeep before (t ∷ after) b c = absurd (omega (arith, c.1, b.0))
+one_rule spelling.TooLong spelling.TooLong before rest b c = refl
 
 not_earlier : {ts : List Symbol} {r r' : GrammarRule} {k k' : ℕ} → Broken ts r k → Broken ts r' k' → k < k' → ⊥
 not_earlier {r = r} a b l =

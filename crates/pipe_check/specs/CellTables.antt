@@ -1,4 +1,5 @@
 -- The table of declared cells, in which a name is found without comparing it with each.
+use Rattle.pipe_model.specs.declared.bounds.TheConstants.{MOST_CELLS}
 use Rattle.std.specs.Prelude.{◌≡◌, ◌≤◌, ℕ, ℤ, List, Option}
 use Rattle.std.specs.Borrow.{Bor}
 use Rattle.std.specs.BTreeMap.{get, BTreeMap}
@@ -11,4 +12,4 @@ use Rattle.pipe_model.specs.Language.CheckingRules.{size_in, cell_total}
 pub record IsCellTable (sizes : BTreeMap (Bor (List ℕ)) (Option ℤ)) (total : ℕ) (cells : List Declaration) : Type 0 where
   pub found : (x : Bor (List ℕ)) → get (λ a b. slice_cmp nat_cmp a.now b.now) sizes x ≡ size_in cells x.now
   pub total_is : total ≡ cell_total cells
-  pub few : total ≤ 65536
+  pub few : total ≤ MOST_CELLS

@@ -1,4 +1,5 @@
 pub mod Passing
+pub mod CellShapes
 pub mod CellTables
 pub mod Accepted
 pub mod RuleLaws

@@ -1,4 +1,5 @@
 -- What the walk over a program answers: how many marks are behind it, or the first fault.
+use Rattle.pipe_model.specs.declared.bounds.TheConstants.{LARGEST_PROGRAM}
 use Rattle.std.specs.Prelude.{◌≡◌, ℕ, List, length, ◌+◌, ◌≤◌, Result, Ok, Err, Option, Some, None}
 use Rattle.pipe_check.specs.declared.fault.CheckFault.{CheckFault}
 use Rattle.pipe_check.specs.declared.fault.CheckFault.TheVariants as faults
@@ -25,4 +26,4 @@ PassesMarks (Err fault) next marks = IsFirstFaultOf fault (first_fault next mark
 
 -- the numbers of these marks fit
 abbrev pub Fits : ℕ → List Mark → Type 0
-Fits next marks = next + length marks ≤ 4194304
+Fits next marks = next + length marks ≤ LARGEST_PROGRAM

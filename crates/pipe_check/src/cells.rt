@@ -1,14 +1,17 @@
 //! The declared cells of a program.
 
 ghost use Rattle.std.specs.Prelude.{◌≡◌, ◌≤◌, ◌<◌, [], None, All, IfOk, IfErr, IfSome, IfNone, OnOk, length};
+ghost use Rattle.pipe_check.specs.CellShapes.{HasShape};
 ghost use Rattle.pipe_check.specs.Passing.{IsFirstFaultOf};
-ghost use Rattle.pipe_model.specs.Language.CheckingRules.{cell_total, first_fault, size_in};
+ghost use Rattle.pipe_model.specs.Language.CheckingRules.{cell_total, first_fault, is_cell, size_in};
 ghost use Rattle.pipe_model.specs.Language.Marks.{marks_of_cells};
 ghost use Rattle.pipe_model.specs.Language.Programs.{declared_size};
+ghost use Rattle.pipe_model.specs.declared.bounds.TheConstants as bounds;
 ghost use Rattle.pipe_model.specs.Language.SpellablePrograms.{HasNoNegativeSize};
 ghost use Rattle.pipe_model.specs.declared.tree.Declaration.{Declaration as Declared};
 
 use crate::fault::CheckFault;
+use pipe_model::bounds::MOST_CELLS;
 use pipe_model::memory::NoMemory;
 use pipe_model::name::Name;
 use pipe_model::tree::Declaration;
@@ -16,8 +19,16 @@ use std::alloc::Global;
 use std::collections::BTreeMap;
 use std::marker::Model;
 
-/// The most cells of a program, array elements counted.
-const MOST_CELLS: u32 = 65_536;
+/// What a name is declared as.
+#[derive(Clone, Copy, PartialEq, Eq, Debug)]
+pub enum CellShape {
+    /// No cell has the name.
+    Undeclared,
+    /// A plain cell.
+    Plain,
+    /// An array of this size.
+    Array(i64),
+}
 
 /// The declared cells of a program, found by their names. Contracts see the declarations.
 #[derive(Drop)]
@@ -58,7 +69,7 @@ impl<'a> Cells<'a> {
     /// The cells that are declared, each once, or the first fault of the declarations.
     pub fn of(alloc: Global, declared: &'a [Declaration]) -> Result<Self, CheckFault>
         requires sizes { All (λ (d : Declared). HasNoNegativeSize d.size) declared.now }
-        requires few { length declared.now ≤ 4194304 }
+        requires few { length declared.now ≤ bounds.LARGEST_PROGRAM }
         ensures cells { IfOk result (λ cells. cells ≡ declared.now) }
         ensures ok { OnOk result (first_fault 0 (marks_of_cells [] declared.now) ≡ None) }
         ensures err { IfErr result (λ fault. IsFirstFaultOf fault (first_fault 0 (marks_of_cells [] declared.now))) }
@@ -99,15 +110,33 @@ impl<'a> Cells<'a> {
     /// How many cells there are, array elements counted: at most 65,536.
     pub fn total(&self) -> u32
         ensures total { result ≡ cell_total self.now }
-        ensures few { result ≤ 65536 }
+        ensures few { result ≤ bounds.MOST_CELLS }
     {
         self.total
     }
 
-    /// The size with which the name is declared, where it is the name of a cell; a plain cell has none.
-    pub fn size_of(&self, name: &Name) -> Option<Option<i64>>
+    // The size with which the name is declared, where it is the name of a cell; a plain cell has none.
+    fn size_of(&self, name: &Name) -> Option<Option<i64>>
         ensures { result ≡ size_in self.now name.now }
     {
         self.sizes.get(name.as_bytes()).copied()
+    }
+
+    /// Returns what the name is declared as.
+    pub fn shape_of(&self, name: &Name) -> CellShape
+        ensures { HasShape (size_in self.now name.now) result }
+    {
+        match self.size_of(name) {
+            None => CellShape::Undeclared,
+            Some(None) => CellShape::Plain,
+            Some(Some(size)) => CellShape::Array(size),
+        }
+    }
+
+    /// Returns whether a cell has the name.
+    pub fn declares(&self, name: &Name) -> bool
+        ensures { result ≡ is_cell self.now name.now }
+    {
+        self.size_of(name).is_some()
     }
 }

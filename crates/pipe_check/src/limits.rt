@@ -3,13 +3,8 @@
 ghost use Rattle.std.specs.Prelude.{◌≡◌};
 ghost use Rattle.pipe_model.specs.Language.CheckingRules.{is_between, first_limit_out};
 
+use pipe_model::bounds::{MOST_EMITS, MOST_INSTANCES, MOST_ITERATIONS, MOST_STAGES, MOST_STEPS};
 use pipe_model::tree::Limits;
-
-/// The most stage instances of a run.
-const MOST_INSTANCES: i64 = 262_144;
-
-/// The most emitted numbers.
-const MOST_EMITS: i64 = 1_048_576;
 
 /// Whether the number is from low to high, both counted in.
 fn is_between(low: i64, high: i64, number: i64) -> bool
@@ -23,16 +18,16 @@ fn is_between(low: i64, high: i64, number: i64) -> bool
 pub fn first_limit_out(limits: &Limits) -> Option<u32>
     ensures { result ≡ first_limit_out limits.now }
 {
-    if !is_between(1, 65_536, limits.iterations) {
+    if !is_between(1, MOST_ITERATIONS, limits.iterations) {
         return Some(1);
     }
-    if !is_between(1, 4096, limits.stages) {
+    if !is_between(1, MOST_STAGES, limits.stages) {
         return Some(2);
     }
     if limits.iterations * limits.stages > MOST_INSTANCES {
         return Some(3);
     }
-    if !is_between(1, 1_000_000, limits.steps) {
+    if !is_between(1, MOST_STEPS, limits.steps) {
         return Some(4);
     }
     if limits.emits > MOST_EMITS {

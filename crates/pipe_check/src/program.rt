@@ -2,6 +2,7 @@
 
 ghost use Rattle.std.specs.Prelude.{◌≡◌, ◌≤◌, None, IfErr, IfOk, OnOk};
 ghost use Rattle.pipe_check.specs.Passing.{Fits, PassesMarks, IsFirstFaultOf};
+ghost use Rattle.pipe_model.specs.declared.bounds.TheConstants as bounds;
 ghost use Rattle.pipe_model.specs.Language.CheckingRules.{cell_total, fault_of, first_fault};
 ghost use Rattle.pipe_model.specs.Language.Marks.{marks_of, marks_of_expression, marks_of_statements, opening};
 ghost use Rattle.pipe_model.specs.Language.SpellablePrograms.{IsSpellable};
@@ -53,7 +54,7 @@ fn check_test(alloc: Global, cells: &Cells, next: u32, test: &Expr) -> Result<u3
 fn check_marks(alloc: Global, program: &Program) -> Result<u32, CheckFault>
     requires { IsSpellable (tree_of program.now) }
     ensures total { IfOk result (λ total. total ≡ cell_total program.now.cells) }
-    ensures few { IfOk result (λ total. total ≤ 65536) }
+    ensures few { IfOk result (λ total. total ≤ bounds.MOST_CELLS) }
     ensures ok { OnOk result (first_fault 0 (marks_of (tree_of program.now)) ≡ None) }
     ensures err { IfErr result (λ fault. IsFirstFaultOf fault (first_fault 0 (marks_of (tree_of program.now)))) }
 {

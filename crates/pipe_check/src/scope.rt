@@ -2,19 +2,18 @@
 
 ghost use Rattle.std.specs.Prelude.{◌≡◌, ◌<◌, ◌∷◌, [], OnOk, length, take};
 ghost use Rattle.pipe_check.specs.Passing.{PassesMarks};
+ghost use Rattle.pipe_model.specs.declared.bounds.TheConstants as bounds;
 ghost use Rattle.pipe_model.specs.Language.Marks.{DeclaredLocal, Indexed, IterWord, Plain, StageWord, mark_at, opening, after_let};
 ghost use Rattle.pipe_model.specs.Language.CheckingRules.{is_among};
 
-use crate::cells::Cells;
+use crate::cells::{CellShape, Cells};
 use crate::fault::CheckFault;
+use pipe_model::bounds::MOST_LOCALS;
 use pipe_model::memory::NoMemory;
 use pipe_model::name::Name;
 use pipe_model::region::Region;
 use std::alloc::Global;
 use std::marker::Model;
-
-/// The most `let` statements of `init`, of the loop's body and of `final`.
-const MOST_LOCALS: usize = 64;
 
 /// What is known mark_at a place of a program's text: its region, the cells, the locals in scope, and the names of all the `let`
 /// statements of the region so far.
@@ -56,37 +55,37 @@ impl<'a, 'b> Scope<'a, 'b> {
 
     /// The mark of a used name without an index.
     pub fn check_plain(&self, next: u32, name: &Name) -> Result<u32, CheckFault>
-        requires { next < 4194304 }
+        requires { next < bounds.LARGEST_PROGRAM }
         ensures { PassesMarks result next (mark_at self.now (Plain name.now) ∷ []) }
     {
         if is_among(&self.visible, name) {
             return Ok(next + 1);
         }
-        match self.cells.size_of(name) {
-            None => Err(CheckFault::Unknown(next)),
-            Some(None) => Ok(next + 1),
-            Some(Some(_)) => Err(CheckFault::NeedsIndex(next)),
+        match self.cells.shape_of(name) {
+            CellShape::Undeclared => Err(CheckFault::Unknown(next)),
+            CellShape::Plain => Ok(next + 1),
+            CellShape::Array(_) => Err(CheckFault::NeedsIndex(next)),
         }
     }
 
     /// The mark of a used name with an index.
     pub fn check_indexed(&self, next: u32, name: &Name) -> Result<u32, CheckFault>
-        requires { next < 4194304 }
+        requires { next < bounds.LARGEST_PROGRAM }
         ensures { PassesMarks result next (mark_at self.now (Indexed name.now) ∷ []) }
     {
         if is_among(&self.visible, name) {
             return Err(CheckFault::NotAnArray(next));
         }
-        match self.cells.size_of(name) {
-            None => Err(CheckFault::Unknown(next)),
-            Some(None) => Err(CheckFault::NotAnArray(next)),
-            Some(Some(_)) => Ok(next + 1),
+        match self.cells.shape_of(name) {
+            CellShape::Undeclared => Err(CheckFault::Unknown(next)),
+            CellShape::Plain => Err(CheckFault::NotAnArray(next)),
+            CellShape::Array(_) => Ok(next + 1),
         }
     }
 
     /// The mark of `iter`.
     pub fn check_iter(&self, next: u32) -> Result<u32, CheckFault>
-        requires { next < 4194304 }
+        requires { next < bounds.LARGEST_PROGRAM }
         ensures { PassesMarks result next (mark_at self.now IterWord ∷ []) }
     {
         match self.region {
@@ -97,7 +96,7 @@ impl<'a, 'b> Scope<'a, 'b> {
 
     /// The mark of the word of a stage statement.
     pub fn check_stage(&self, next: u32) -> Result<u32, CheckFault>
-        requires { next < 4194304 }
+        requires { next < bounds.LARGEST_PROGRAM }
         ensures { PassesMarks result next (mark_at self.now StageWord ∷ []) }
     {
         match self.region {
@@ -110,10 +109,10 @@ impl<'a, 'b> Scope<'a, 'b> {
 
     /// The mark of the name that a `let` declares.
     pub fn check_local(&self, next: u32, name: &Name) -> Result<u32, CheckFault>
-        requires { next < 4194304 }
+        requires { next < bounds.LARGEST_PROGRAM }
         ensures { PassesMarks result next (mark_at self.now (DeclaredLocal name.now) ∷ []) }
     {
-        if self.cells.size_of(name).is_some() || is_among(&self.lets, name) {
+        if self.cells.declares(name) || is_among(&self.lets, name) {
             return Err(CheckFault::Twice(next));
         }
         if self.lets.len() >= MOST_LOCALS {

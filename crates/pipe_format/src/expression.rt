@@ -6,12 +6,11 @@ ghost use Rattle.pipe_model.specs.Language.SyntaxTree.{expression_of};
 ghost use Rattle.pipe_model.specs.Language.Grammar.{level_of, operand_level};
 
 use crate::text::push_number;
+use pipe_model::levels::OPERAND;
 use pipe_model::memory::NoMemory;
 use pipe_model::name::Name;
+use pipe_model::operator_codes::NEGATIVE;
 use pipe_model::tree::Expr;
-
-/// The level of operands, which bind more tightly than each two-place operator.
-const OPERAND_LEVEL: u8 = 7;
 
 macro_rules! level_by_code {
     (($code:expr) $($row:literal $symbol:literal $length:literal $level:literal;)*) => {
@@ -49,7 +48,7 @@ fn symbol_of(code: u8) -> &'static [u8]
 fn one_place_symbol(code: u8) -> &'static [u8]
     ensures { result.now ≡ one_place_text code }
 {
-    if code == 1 { b"-" } else { b"!" }
+    if code == NEGATIVE { b"-" } else { b"!" }
 }
 
 /// How tightly an expression holds together: as its two-place operator binds, if it is one.
@@ -58,7 +57,7 @@ fn level_in(e: &Expr) -> u8
 {
     match e {
         Expr::Binary(code, _, _) => level_of(*code),
-        _ => OPERAND_LEVEL,
+        _ => OPERAND,
     }
 }
 
@@ -108,7 +107,7 @@ pub fn push_expression(text: &mut Vec<u8>, e: &Expr) -> Result<(), NoMemory>
         }
         Expr::Unary(code, operand) => {
             text.extend_from_slice(one_place_symbol(*code))?;
-            push_at_level(text, OPERAND_LEVEL, operand)
+            push_at_level(text, OPERAND, operand)
         }
         Expr::More => Ok(text.extend_from_slice(b"more()")?),
         Expr::Take => Ok(text.extend_from_slice(b"take()")?),

@@ -1,4 +1,5 @@
 -- What stands at the front of bytes, and what may be wrong there.
+use Rattle.pipe_model.specs.declared.bounds.TheConstants.{LONGEST_NAME}
 use Rattle.std.specs.Prelude.{◌≡◌, ℕ, ◌<◌, ◌≤◌, ◌^◌, pos, true, false, List, [], ◌∷◌, length, take, drop, slice_index_or}
 use Rattle.pipe_model.specs.Language.Lexis.{is_blank, is_digit, is_letter, operators}
 use Rattle.pipe_model.specs.Language.Tokens.{begins_comment, kind_of, BeginsNothing, BeginsWith, IsComment, IsKindWithinBounds, IsToken}
@@ -44,4 +45,4 @@ pub data IsPiece (bytes : List ℕ) : Piece → Type 0 where
 pub data IsFlaw (bytes : List ℕ) : Flaw → Type 0 where
   NothingStands : BeginsNothing bytes → IsFlaw bytes flaws.BadByte
   NumberIsWide : (n : ℕ) → BeginsWith bytes (symbols.Number (pos n)) → 2 ^ 63 ≤ n → IsFlaw bytes flaws.TooWide
-  NameIsLong : (name : List ℕ) → BeginsWith bytes (symbols.Name name) → 64 < length name → IsFlaw bytes flaws.NameTooLong
+  NameIsLong : (name : List ℕ) → BeginsWith bytes (symbols.Name name) → LONGEST_NAME < length name → IsFlaw bytes flaws.NameTooLong

@@ -10,9 +10,8 @@ use crate::bytes::{
 use crate::number::number_value;
 use crate::words::reserved_place;
 use op_table::operators::OPS;
+use pipe_model::bounds::LONGEST_NAME;
 use pipe_model::token::TokenKind;
-
-const LONGEST_NAME: usize = 64;
 
 /// What stands at the front of bytes, and how many bytes it has.
 #[derive(Clone, Copy)]

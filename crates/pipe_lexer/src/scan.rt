@@ -1,16 +1,16 @@
 //! The tokens of a whole source.
 
 ghost use Rattle.std.specs.Prelude.{◌≡◌, ◌≤◌, ◌++◌, IfErr, IfOk, OnOk};
+ghost use Rattle.pipe_model.specs.declared.bounds.TheConstants as bounds;
 ghost use Rattle.pipe_model.specs.Language.Tokens.{IsLexed};
 ghost use Rattle.pipe_lexer.specs.Pieces.{length_of, tokens_of};
 ghost use Rattle.pipe_lexer.specs.Faults.{fault_at, IsFaultOf};
 
 use crate::fault::LexFault;
 use crate::piece::{Flaw, Piece, piece_at};
+use pipe_model::bounds::LONGEST_SOURCE;
 use pipe_model::token::{Token, Tokens};
 use std::alloc::{AllocError, Global};
-
-const LONGEST_SOURCE: usize = 1_048_576;
 
 impl Flaw {
     // The fault that is this flaw at a place.
@@ -27,7 +27,7 @@ impl Flaw {
 
 // Puts a piece at a place behind the tokens that were found, if it is a token.
 fn keep(found: &mut Tokens, piece: Piece, place: u32) -> Result<(), AllocError>
-    requires { length_of piece ≤ 1048576 }
+    requires { length_of piece ≤ bounds.LONGEST_SOURCE }
     ensures kept { OnOk result (found.new ≡ found.old ++ tokens_of piece place) }
 {
     if let Piece::Taken(kind, length) = piece {

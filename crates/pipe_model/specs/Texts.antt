@@ -83,9 +83,9 @@ lexical_line (NameTooLong place) = numbered_line (codes "refused source NameTooL
 
 -- the line for a token that breaks a rule of the grammar
 abbrev pub syntax_line : grammar.GrammarRule → ℕ → List ℕ
-syntax_line grammar.Expected place = numbered_line (codes "refused source Unexpected at ") place
-syntax_line grammar.Shallow place = numbered_line (codes "refused source TooDeep at ") place
-syntax_line grammar.Short place = numbered_line (codes "refused source TooLong at ") place
+syntax_line grammar.Unexpected place = numbered_line (codes "refused source Unexpected at ") place
+syntax_line grammar.TooDeep place = numbered_line (codes "refused source TooDeep at ") place
+syntax_line grammar.TooLong place = numbered_line (codes "refused source TooLong at ") place
 
 -- the line for a mark that breaks a rule of programs
 abbrev pub rule_line : checking.CheckingRule → ℕ → List ℕ

@@ -3,7 +3,8 @@ use Rattle.std.proofs.Common.{◌≡◌, ◌≢◌, ℕ, zero, suc, ◌+◌, ◌
 use Rattle.std.proofs.lemmas.Bool.{cases_eq, cases_lt}
 use Rattle.pipe_model.specs.declared.symbol.Symbol.{Symbol}
 use Rattle.grammar_laws.specs.ProgramMachine.{Outside, Verdict, Accepted, Unexpected, TooLong, judge, program}
-use Rattle.pipe_model.specs.Language.Spelling.{IsShallow, Expected, Shallow, Short, open_brackets}
+use Rattle.pipe_model.specs.Language.Spelling as spelling
+use Rattle.pipe_model.specs.Language.Spelling.{IsShallow, open_brackets}
 use Rattle.grammar_laws.proofs.AcceptedPrograms.{accepted_spelled}
 use Rattle.grammar_laws.proofs.OpenBrackets.{shallow_more, no_symbols_shallow}
 use Rattle.pipe_parser.specs.Depths.{OpensTooMany}
@@ -24,19 +25,19 @@ shallow_or_deep before (t ∷ rest) h =
 -- symbols that never open too many, by the machine's verdict on all of them
 by_verdict : (ts : List Symbol) (v : Verdict) → judge 256 ts (Outside program) ≡ v → IsShallow ts → IsProgramOrFault ts
 by_verdict ts Accepted e h = inl (accepted_spelled ts e h)
-by_verdict ts (Unexpected n) e h = inr (Expected, length ts - n, shallow_unexpected ts n e h)
-by_verdict ts (TooLong n) e h = inr (Short, length ts - n, shallow_too_long ts n e h)
+by_verdict ts (Unexpected n) e h = inr (spelling.Unexpected, length ts - n, shallow_unexpected ts n e h)
+by_verdict ts (TooLong n) e h = inr (spelling.TooLong, length ts - n, shallow_too_long ts n e h)
 
 -- symbols that open too many, by the machine's verdict on those up to the bracket too many
 by_cut : (ts : List Symbol) (k : ℕ) (v : Verdict) → OpensTooMany ts k → judge 256 (take k ts) (Outside program) ≡ v → IsProgramOrFault ts
-by_cut ts k Accepted o e = inr (Shallow, k - 1, cut_too_deep ts k Accepted o e tt)
-by_cut ts k (Unexpected zero) o e = inr (Shallow, k - 1, cut_too_deep ts k (Unexpected zero) o e refl)
-by_cut ts k (Unexpected (suc n)) o e = inr (Expected, k - suc n, cut_unexpected ts k (suc n) o e (omega arith))
+by_cut ts k Accepted o e = inr (spelling.TooDeep, k - 1, cut_too_deep ts k Accepted o e tt)
+by_cut ts k (Unexpected zero) o e = inr (spelling.TooDeep, k - 1, cut_too_deep ts k (Unexpected zero) o e refl)
+by_cut ts k (Unexpected (suc n)) o e = inr (spelling.Unexpected, k - suc n, cut_unexpected ts k (suc n) o e (omega arith))
 by_cut ts k (TooLong n) o e = by_left (cases_eq n 1)
   where
     by_left : (n ≡ 1) ⊎ (n ≢ 1) → IsProgramOrFault ts
-    by_left (inl one) = inr (Shallow, k - 1, cut_too_deep ts k (TooLong n) o e one)
-    by_left (inr other) = inr (Short, k - n, cut_too_long ts k n o e other)
+    by_left (inl one) = inr (spelling.TooDeep, k - 1, cut_too_deep ts k (TooLong n) o e one)
+    by_left (inr other) = inr (spelling.TooLong, k - n, cut_too_long ts k n o e other)
 
 -- so each list of symbols is one or the other
 pub program_or_fault : (ts : List Symbol) → IsProgramOrFault ts

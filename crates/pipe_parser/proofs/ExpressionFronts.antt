@@ -7,26 +7,28 @@ use Rattle.pipe_model.specs.Language.Grammar.{any_expression, operand_level, lev
 use Rattle.grammar_laws.specs.Reading.{Reads, ReadsNumeral, ReadsName, ReadsElement, ReadsMore, ReadsTake, ReadsIter, ReadsNegative, ReadsNot, ReadsBracketed, Extends, Joins, NoSign}
 use Rattle.grammar_laws.specs.ExpressionMachine.{Want, Sign, Tail, ending}
 use Rattle.grammar_laws.proofs.ExpressionPassing.{passes, passes_expression, tail_joins, is_op}
-use Rattle.pipe_parser.specs.declared.fault.ExpressionFault.{ExpressionFault}
-use Rattle.pipe_parser.specs.declared.fault.ExpressionFault.TheVariants as faults
+use Rattle.pipe_parser.specs.declared.fault.SyntaxFault.{SyntaxFault}
+use Rattle.pipe_parser.specs.declared.fault.SyntaxFault.TheVariants as faults
 use Rattle.pipe_parser.specs.ExpressionFaults.{ExpressionStops, whole, closed, ReadsUnary}
 
 -- ---- faults
 
 -- a fault behind what was passed is the fault of the whole
 pub fault_behind : (wants others : List Want) (ts us : List Symbol)
-    → ((below : List Want) → ending ts (wants ++ below) ≡ ending us (others ++ below)) → (f : ExpressionFault) → ExpressionStops others us f
+    → ((below : List Want) → ending ts (wants ++ below) ≡ ending us (others ++ below)) → (f : SyntaxFault) → ExpressionStops others us f
     → ExpressionStops wants ts f
 fault_behind wants others ts us h faults.NoMemory x = tt
+fault_behind wants others ts us h (faults.TooDeep left) x = x
+fault_behind wants others ts us h (faults.TooLong left) x = x
 fault_behind wants others ts us h (faults.Unexpected left) x = record { stuck = λ below. h below ∙ x.stuck below }
 
 -- a fault of what goes on behind an expression of a level
-pub fault_chained : (level : ℕ) (a : Expression) (ts mid : List Symbol) → 1 ≤ level → Reads level ts a mid → (f : ExpressionFault) → ExpressionStops (Tail ∷ []) mid f
+pub fault_chained : (level : ℕ) (a : Expression) (ts mid : List Symbol) → 1 ≤ level → Reads level ts a mid → (f : SyntaxFault) → ExpressionStops (Tail ∷ []) mid f
     → ExpressionStops whole ts f
 fault_chained level a ts mid l r = fault_behind whole (Tail ∷ []) ts mid (λ below. passes level r l below)
 
 -- a fault of the sign that closes an expression
-pub fault_closed : (sign : ℕ) (e : Expression) (ts mid : List Symbol) → Reads any_expression ts e mid → (f : ExpressionFault) → ExpressionStops (Sign sign ∷ []) mid f
+pub fault_closed : (sign : ℕ) (e : Expression) (ts mid : List Symbol) → Reads any_expression ts e mid → (f : SyntaxFault) → ExpressionStops (Sign sign ∷ []) mid f
     → ExpressionStops (closed sign) ts f
 fault_closed sign e ts mid r = fault_behind (closed sign) (Sign sign ∷ []) ts mid (λ below. passes_expression r (Sign sign ∷ below))
 

@@ -13,7 +13,11 @@ use Rattle.grammar_laws.proofs.ExpressionRuns.{stopped, stuck_may_not_end}
 use Rattle.grammar_laws.proofs.ExpressionWindows.{reads_more, stuck_more}
 use Rattle.grammar_laws.proofs.FullExpressions.{stuck_full, over_full}
 use Rattle.grammar_laws.proofs.ProgramFaults.{derived_runs}
+use Rattle.pipe_parser.specs.ExpressionFaults as expression_faults
 use Rattle.pipe_parser.specs.ExpressionFaults.{whole}
+use Rattle.pipe_parser.specs.SyntaxFaults.{SyntaxStops}
+use Rattle.pipe_parser.specs.declared.fault.SyntaxFault.{SyntaxFault}
+use Rattle.pipe_parser.specs.declared.fault.SyntaxFault.TheVariants as faults
 use Rattle.pipe_model.specs.Language.Grammar.{any_expression}
 
 -- what is wanted where a full expression is
@@ -87,3 +91,10 @@ read_in_window ts rest e l r p =
           (subst (λ x. Reads any_expression x e (rest ++ drop 257 ts)) (take-append-drop 257 ts) (reads_more r (λ h. absurd (omega (arith, p, ap length h))) (drop 257 ts)));
       short = omega (arith, length-drop (257 - length rest) ts, p);
     }
+
+-- what the reader of expressions reports of symbols that are short enough is the fault of reading a full expression
+pub stuck_fault : (ts : List Symbol) → length ts ≤ 256 → (f : SyntaxFault) → expression_faults.ExpressionStops whole ts f → SyntaxStops full ts f
+stuck_fault ts l (faults.Unexpected left) s = stuck_short ts left l s
+stuck_fault ts l (faults.TooDeep left) s = s
+stuck_fault ts l (faults.TooLong left) s = absurd s
+stuck_fault ts l faults.NoMemory s = tt

@@ -170,6 +170,7 @@ refuses_behind : (wants below : List Want) (ts us : List Symbol) → judge 256 t
 refuses_behind wants below ts us h (faults.Unexpected left) x = h ∙ x.refused below
 refuses_behind wants below ts us h (faults.TooLong left) x = h ∙ x.refused below
 refuses_behind wants below ts us h faults.NoMemory x = tt
+refuses_behind wants below ts us h (faults.TooDeep left) x = x
 
 -- a fault of the limits
 pub refuses_limits : (ts : List Symbol) (f : SyntaxFault) → SyntaxStops limits ts f → Refuses ts f

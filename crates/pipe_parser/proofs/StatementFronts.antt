@@ -51,6 +51,7 @@ pub fault_behind : (wants others : List Want) (ts us : List Symbol)
 fault_behind wants others ts us h (faults.Unexpected left) x = record { refused = λ below. h below ∙ x.refused below }
 fault_behind wants others ts us h (faults.TooLong left) x = record { refused = λ below. h below ∙ x.refused below }
 fault_behind wants others ts us h faults.NoMemory x = tt
+fault_behind wants others ts us h (faults.TooDeep left) x = x
 
 -- what is refused in front is refused before more that has to come
 pub fault_before : (wants more : List Want) (ts : List Symbol) (f : SyntaxFault) → SyntaxStops wants ts f → SyntaxStops (wants ++ more) ts f
@@ -63,6 +64,7 @@ fault_before wants more ts =
     by_cases same (faults.Unexpected left) x = record { refused = λ below. same below ∙ x.refused (more ++ below) }
     by_cases same (faults.TooLong left) x = record { refused = λ below. same below ∙ x.refused (more ++ below) }
     by_cases same faults.NoMemory x = tt
+    by_cases same (faults.TooDeep left) x = x
 
 -- behind a full expression
 pub fault_full : (others : List Want) (e : Expression) (ts mid : List Symbol) → ReadsFull 256 ts e mid → (f : SyntaxFault) → SyntaxStops others mid f

@@ -1,9 +1,10 @@
 -- The first symbol with which too many brackets are open.
 use Rattle.std.specs.Prelude.{◌≡◌, ◌+◌, ◌<◌, ℕ, List, [], ◌∷◌, ◌++◌, length}
+use Rattle.pipe_model.specs.declared.bounds.TheConstants.{MOST_OPEN_BRACKETS}
 use Rattle.pipe_model.specs.declared.symbol.Symbol.{Symbol}
 use Rattle.pipe_model.specs.Language.Spelling.{IsShallow, open_brackets}
 
--- the first symbol with which more than 64 brackets are open is the last of so many
+-- the first symbol with which too many brackets are open is the last of so many
 pub record OpensTooMany (ts : List Symbol) (k : ℕ) : Type 0 where
   pub before : List Symbol
   pub t : Symbol
@@ -11,4 +12,4 @@ pub record OpensTooMany (ts : List Symbol) (k : ℕ) : Type 0 where
   pub split : ts ≡ before ++ t ∷ after
   pub many : length before + 1 ≡ k
   pub shallow : IsShallow before
-  pub deep : 64 < open_brackets (before ++ t ∷ [])
+  pub deep : MOST_OPEN_BRACKETS < open_brackets (before ++ t ∷ [])

@@ -4,13 +4,15 @@ use Rattle.pipe_model.specs.declared.symbol.Symbol.{Symbol}
 use Rattle.grammar_laws.specs.ExpressionMachine.{Want, Sign, Operand, Tail, IsStuck}
 use Rattle.pipe_model.specs.Language.SyntaxTree.{Expression, Unary}
 use Rattle.grammar_laws.specs.Reading.{Reads}
-use Rattle.pipe_parser.specs.declared.fault.ExpressionFault.{ExpressionFault}
-use Rattle.pipe_parser.specs.declared.fault.ExpressionFault.TheVariants as faults
+use Rattle.pipe_parser.specs.declared.fault.SyntaxFault.{SyntaxFault}
+use Rattle.pipe_parser.specs.declared.fault.SyntaxFault.TheVariants as faults
 use Rattle.pipe_model.specs.Language.Grammar.{operand_level}
 
--- the fault of reading what is wanted from the symbols
-abbrev pub ExpressionStops : List Want → List Symbol → ExpressionFault → Type 0
+-- the fault of reading what is wanted from the symbols; the bounds on brackets and full expressions are not this reader's
+abbrev pub ExpressionStops : List Want → List Symbol → SyntaxFault → Type 0
 ExpressionStops wants ts (faults.Unexpected left) = IsStuck wants ts left
+ExpressionStops wants ts (faults.TooDeep left) = ⊥
+ExpressionStops wants ts (faults.TooLong left) = ⊥
 ExpressionStops wants ts faults.NoMemory = Unit {0}
 
 -- what an expression is, and what may go on behind one

@@ -1,31 +1,31 @@
 -- What the parser says of the tokens of a source.
-use Rattle.std.specs.Prelude.{◌≡◌, ℕ, List}
+use Rattle.std.specs.Prelude.{◌≡◌, ◌-◌, ℕ, List, length}
 use Rattle.pipe_model.specs.declared.symbol.Symbol.{Symbol}
 use Rattle.pipe_model.specs.declared.token.Token.{Token}
 use Rattle.pipe_model.specs.Language.SourceRefusals.{BreaksAt, fault_place}
-use Rattle.pipe_model.specs.Language.Spelling.{FirstFault, Expected, Shallow, Short}
+use Rattle.pipe_model.specs.Language.Spelling.{FirstFault, Unexpected, TooDeep, TooLong}
 use Rattle.pipe_parser.specs.declared.parse.ParseFault.{ParseFault}
 use Rattle.pipe_parser.specs.declared.parse.ParseFault.TheVariants as faults
-use Rattle.pipe_parser.specs.declared.parse.Refusal.{Refusal}
-use Rattle.pipe_parser.specs.declared.parse.Refusal.TheVariants as refusals
+use Rattle.pipe_parser.specs.declared.fault.SyntaxFault.{SyntaxFault}
+use Rattle.pipe_parser.specs.declared.fault.SyntaxFault.TheVariants as syntax
 
--- the first symbol that breaks a rule stands behind so many
-abbrev pub IsRefusal : List Symbol → Refusal → Type 0
-IsRefusal ts (refusals.Unexpected k) = FirstFault ts Expected k
-IsRefusal ts (refusals.TooDeep k) = FirstFault ts Shallow k
-IsRefusal ts (refusals.TooLong k) = FirstFault ts Short k
-IsRefusal ts refusals.NoMemory = Unit {0}
+-- the first symbol that breaks a rule is the one that the fault counts from the end
+abbrev pub BreaksFirst : List Symbol → SyntaxFault → Type 0
+BreaksFirst ts (syntax.Unexpected left) = FirstFault ts Unexpected (length ts - left)
+BreaksFirst ts (syntax.TooDeep left) = FirstFault ts TooDeep (length ts - left)
+BreaksFirst ts (syntax.TooLong left) = FirstFault ts TooLong (length ts - left)
+BreaksFirst ts syntax.NoMemory = Unit {0}
 
--- a refusal with its place
-abbrev pub IsFaultAt : List ℕ → List Token → Refusal → ParseFault → Type 0
-IsFaultAt source tokens (refusals.Unexpected k) fault = fault ≡ faults.Unexpected (fault_place source tokens k)
-IsFaultAt source tokens (refusals.TooDeep k) fault = fault ≡ faults.TooDeep (fault_place source tokens k)
-IsFaultAt source tokens (refusals.TooLong k) fault = fault ≡ faults.TooLong (fault_place source tokens k)
-IsFaultAt source tokens refusals.NoMemory fault = fault ≡ faults.NoMemory
+-- a fault of the symbols, of which there are `all`, with its offset in the source
+abbrev pub IsPlaced : List ℕ → List Token → (all : ℕ) → SyntaxFault → ParseFault → Type 0
+IsPlaced source tokens all (syntax.Unexpected left) fault = fault ≡ faults.Unexpected (fault_place source tokens (all - left))
+IsPlaced source tokens all (syntax.TooDeep left) fault = fault ≡ faults.TooDeep (fault_place source tokens (all - left))
+IsPlaced source tokens all (syntax.TooLong left) fault = fault ≡ faults.TooLong (fault_place source tokens (all - left))
+IsPlaced source tokens all syntax.NoMemory fault = fault ≡ faults.NoMemory
 
 -- the fault of the tokens of a source; want of memory says nothing of them
 abbrev pub IsFault : List ℕ → List Token → ParseFault → Type 0
-IsFault source tokens (faults.Unexpected place) = BreaksAt source tokens Expected place
-IsFault source tokens (faults.TooDeep place) = BreaksAt source tokens Shallow place
-IsFault source tokens (faults.TooLong place) = BreaksAt source tokens Short place
+IsFault source tokens (faults.Unexpected place) = BreaksAt source tokens Unexpected place
+IsFault source tokens (faults.TooDeep place) = BreaksAt source tokens TooDeep place
+IsFault source tokens (faults.TooLong place) = BreaksAt source tokens TooLong place
 IsFault source tokens faults.NoMemory = Unit {0}

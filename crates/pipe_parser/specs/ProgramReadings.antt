@@ -1,5 +1,8 @@
 -- Parts of programs as their readers take them.
 use Rattle.std.specs.Prelude.{◌≡◌, ◌++◌, ℕ, List, [], ◌∷◌}
+use Rattle.pipe_model.specs.declared.bounds.TheConstants.{LONGEST_EXPRESSION}
+use Rattle.pipe_model.specs.declared.sign_bytes.TheConstants as signs
+use Rattle.pipe_model.specs.declared.word_codes.TheConstants as words
 use Rattle.pipe_model.specs.declared.symbol.Symbol.{Symbol}
 use Rattle.pipe_model.specs.declared.tree.Limits.{Limits}
 use Rattle.grammar_laws.specs.ProgramMachine.{Want, Sign, Word, AnyName, AnyNumber, FullExpression, Statements, Size, Value}
@@ -16,15 +19,15 @@ limit word sign = Word word ∷ AnyNumber ∷ Sign sign ∷ []
 -- the line of limits
 abbrev pub limits : List Want
 limits =
-    Word 1 ∷ Word 2 ∷ AnyNumber ∷ Sign 44 ∷ Word 3 ∷ AnyNumber ∷ Sign 44 ∷ Word 4 ∷ AnyNumber ∷ Sign 44 ∷ Word 5 ∷ AnyNumber ∷ Sign 59 ∷ []
+    Word words.LIMITS ∷ Word words.ITERATIONS ∷ AnyNumber ∷ Sign signs.COMMA ∷ Word words.STAGES ∷ AnyNumber ∷ Sign signs.COMMA ∷ Word words.STEPS ∷ AnyNumber ∷ Sign signs.COMMA ∷ Word words.EMITS ∷ AnyNumber ∷ Sign signs.SEMICOLON ∷ []
 
 -- the declaration of a cell, behind its word
 abbrev pub cell : List Want
-cell = AnyName ∷ Size ∷ Sign 61 ∷ Value ∷ Sign 59 ∷ []
+cell = AnyName ∷ Size ∷ Sign signs.EQUALS ∷ Value ∷ Sign signs.SEMICOLON ∷ []
 
 -- the loop
 abbrev pub loop : List Want
-loop = Word 8 ∷ Sign 40 ∷ FullExpression ∷ Sign 41 ∷ Sign 123 ∷ Statements ∷ Sign 125 ∷ []
+loop = Word words.PIPE_WHILE ∷ Sign signs.OPEN_ROUND ∷ FullExpression ∷ Sign signs.CLOSE_ROUND ∷ Sign signs.OPEN_BRACE ∷ Statements ∷ Sign signs.CLOSE_BRACE ∷ []
 
 -- the line of limits stands at the front
 abbrev pub HasLimits : List Symbol → Limits → List Symbol → Type 0
@@ -36,4 +39,4 @@ pub record ReadsLoop (ts : List Symbol) (test : tree.Expression) (body : tree.St
   pub begins : ts ≡ word_pipe_while ∷ behind
   pub mid : List Symbol
   pub tested : ReadsTest behind test mid
-  pub block : ReadsBlock 256 mid body rest
+  pub block : ReadsBlock LONGEST_EXPRESSION mid body rest

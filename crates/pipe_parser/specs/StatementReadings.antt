@@ -1,5 +1,8 @@
 -- Parts of statements as their readers take them.
 use Rattle.std.specs.Prelude.{◌≡◌, List, [], ◌∷◌, Option, Some, None}
+use Rattle.pipe_model.specs.declared.bounds.TheConstants.{LONGEST_EXPRESSION}
+use Rattle.pipe_model.specs.declared.sign_bytes.TheConstants as signs
+use Rattle.pipe_model.specs.declared.word_codes.TheConstants as words
 use Rattle.pipe_model.specs.declared.symbol.Symbol.{Symbol}
 use Rattle.pipe_model.specs.declared.tree.Expr.{Expr}
 use Rattle.grammar_laws.specs.ProgramMachine.{Want, Sign, AnyName, FullExpression, StageNumber, Statements, Part}
@@ -9,37 +12,37 @@ use Rattle.pipe_model.specs.Language.Words.{open_round, close_round, semicolon}
 
 -- what a test is
 abbrev pub test : List Want
-test = Sign 40 ∷ FullExpression ∷ Sign 41 ∷ []
+test = Sign signs.OPEN_ROUND ∷ FullExpression ∷ Sign signs.CLOSE_ROUND ∷ []
 
 -- a `let`, behind its word
 abbrev pub binding : List Want
-binding = AnyName ∷ Sign 61 ∷ FullExpression ∷ Sign 59 ∷ []
+binding = AnyName ∷ Sign signs.EQUALS ∷ FullExpression ∷ Sign signs.SEMICOLON ∷ []
 
 -- an assignment to an element, behind its opening bracket
 abbrev pub element : List Want
-element = FullExpression ∷ Sign 93 ∷ Sign 61 ∷ FullExpression ∷ Sign 59 ∷ []
+element = FullExpression ∷ Sign signs.CLOSE_SQUARE ∷ Sign signs.EQUALS ∷ FullExpression ∷ Sign signs.SEMICOLON ∷ []
 
 -- a stage statement, behind its word
 abbrev pub stage : List Want
-stage = Sign 40 ∷ StageNumber ∷ Sign 41 ∷ Sign 59 ∷ []
+stage = Sign signs.OPEN_ROUND ∷ StageNumber ∷ Sign signs.CLOSE_ROUND ∷ Sign signs.SEMICOLON ∷ []
 
 -- a block
 abbrev pub block : List Want
-block = Sign 123 ∷ Statements ∷ Sign 125 ∷ []
+block = Sign signs.OPEN_BRACE ∷ Statements ∷ Sign signs.CLOSE_BRACE ∷ []
 
 -- a `while`, behind its word
 abbrev pub repetition : List Want
-repetition = Sign 40 ∷ FullExpression ∷ Sign 41 ∷ Sign 123 ∷ Statements ∷ Sign 125 ∷ []
+repetition = Sign signs.OPEN_ROUND ∷ FullExpression ∷ Sign signs.CLOSE_ROUND ∷ Sign signs.OPEN_BRACE ∷ Statements ∷ Sign signs.CLOSE_BRACE ∷ []
 
 -- an `if`, behind its word
 abbrev pub choice : List Want
-choice = Sign 40 ∷ FullExpression ∷ Sign 41 ∷ Sign 123 ∷ Statements ∷ Sign 125 ∷ Part 14 ∷ []
+choice = Sign signs.OPEN_ROUND ∷ FullExpression ∷ Sign signs.CLOSE_ROUND ∷ Sign signs.OPEN_BRACE ∷ Statements ∷ Sign signs.CLOSE_BRACE ∷ Part words.ELSE ∷ []
 
 -- a test in brackets
 pub record ReadsTest (ts : List Symbol) (e : Expression) (rest : List Symbol) : Type 0 where
   pub inside : List Symbol
   pub opens : ts ≡ open_round ∷ inside
-  pub reads : ReadsFull 256 inside e (close_round ∷ rest)
+  pub reads : ReadsFull LONGEST_EXPRESSION inside e (close_round ∷ rest)
 
 -- a stage number in brackets, or none, and the semicolon behind it
 abbrev pub ReadsStage : List Symbol → Option Expr → List Symbol → Type 0

@@ -6,10 +6,8 @@ ghost use Rattle.pipe_model.specs.Language.Spelling.{is_opening_bracket, is_clos
 ghost use Rattle.pipe_parser.specs.Depths.{OpensTooMany};
 
 use crate::symbols::Symbols;
+use pipe_model::bounds::MOST_OPEN_BRACKETS;
 use pipe_model::token::TokenKind;
-
-/// The most brackets that may be open at once.
-const DEEPEST: usize = 64;
 
 /// Whether this is `(`, `[` or `{`.
 fn is_opening_bracket(kind: TokenKind) -> bool
@@ -51,7 +49,7 @@ pub fn first_too_deep(symbols: &Symbols) -> Option<usize>
     while let Some(first) = rest.first() {
         opened += one_where(is_opening_bracket(first.kind));
         closed += one_where(is_closing_bracket(first.kind));
-        if DEEPEST < opened.saturating_sub(closed) {
+        if MOST_OPEN_BRACKETS < opened.saturating_sub(closed) {
             return Some(all - first.behind.len());
         }
         rest = first.behind;

@@ -1,28 +1,28 @@
 //! Expressions from symbols, by recursive descent.
 
 ghost use Rattle.std.specs.Prelude.{◌≡◌, ◌∷◌, [], ◌<◌, ◌≤◌, ◌≢◌, IfOk, IfErr, IfSome, IfNone, length};
+ghost use Rattle.pipe_model.specs.declared.sign_bytes.TheConstants as signs;
 ghost use Rattle.pipe_model.specs.declared.symbol.Symbol.TheVariants as terminals;
 ghost use Rattle.grammar_laws.specs.ExpressionMachine.{Sign, Operand, Index, Tail};
 ghost use Rattle.pipe_model.specs.Language.SyntaxTree.{expression_of};
 ghost use Rattle.pipe_model.specs.Language.Grammar.{any_expression, operand_level, level_of};
 ghost use Rattle.grammar_laws.specs.Reading.{Reads, Extends, next_level};
+ghost use Rattle.grammar_laws.specs.ProgramMachine as machine;
+ghost use Rattle.pipe_parser.specs.SyntaxFaults as syntax;
 ghost use Rattle.pipe_parser.specs.ExpressionFaults.{ExpressionStops, whole, closed, ReadsUnary};
 
-use crate::fault::ExpressionFault;
+use crate::fault::SyntaxFault;
 use crate::symbols::Symbols;
+use pipe_model::levels::{ANY_EXPRESSION, OPERAND};
 use pipe_model::name::Name;
+use pipe_model::operator_codes::{MINUS, NEGATIVE, NOT};
 use pipe_model::token::TokenKind;
 use pipe_model::tree::Expr;
+use pipe_model::word_codes::{ITER, MORE, TAKE};
 use std::alloc::{AllocError, Global};
 
 /// What a reader takes from the front of symbols, and what it leaves.
-pub type Read<'a, T> = Result<(T, Symbols<'a>), ExpressionFault>;
-
-/// The level of any expression: that of the operator that binds most loosely.
-pub const ANY_EXPRESSION: u8 = 1;
-
-/// The level of operands, which bind more tightly than each two-place operator.
-const OPERAND: u8 = 7;
+pub type Read<'a, T> = Result<(T, Symbols<'a>), SyntaxFault>;
 
 macro_rules! level_by_code {
     (($code:expr) $($row:literal $symbol:literal $length:literal $level:literal;)*) => {
@@ -66,21 +66,22 @@ fn boxed(alloc: Global, e: Expr) -> Result<Box<Expr>, AllocError>
     Ok(Box::new(alloc, e)?)
 }
 
-/// What stands behind a sign that has to come.
-fn expect_sign<'a>(symbols: &Symbols<'a>, sign: u8) -> Result<Symbols<'a>, ExpressionFault>
+/// Returns the symbols after a sign that has to come.
+pub fn expect_sign<'a>(symbols: &Symbols<'a>, sign: u8) -> Result<Symbols<'a>, SyntaxFault>
     ensures ok { IfOk result (λ behind. symbols.now ≡ terminals.Sign sign ∷ behind) }
-    ensures err { IfErr result (λ fault. ExpressionStops (Sign sign ∷ []) symbols.now fault) }
+    ensures stuck { IfErr result (λ fault. ExpressionStops (Sign sign ∷ []) symbols.now fault) }
+    ensures err { IfErr result (λ fault. syntax.SyntaxStops (machine.Sign sign ∷ []) symbols.now fault) }
 {
     match symbols.after_sign(sign) {
         Some(behind) => Ok(behind),
-        None => Err(ExpressionFault::Unexpected(symbols.len())),
+        None => Err(SyntaxFault::Unexpected(symbols.len())),
     }
 }
 
 /// Reads the brackets of a call behind its word.
 fn read_call<'a>(e: Expr, symbols: &Symbols<'a>) -> Read<'a, Expr>
-    ensures ok { IfOk result (λ r. (symbols.now ≡ terminals.Sign 40 ∷ terminals.Sign 41 ∷ r.1) × (r.0 ≡ e)) }
-    ensures err { IfErr result (λ fault. ExpressionStops (Sign 40 ∷ Sign 41 ∷ []) symbols.now fault) }
+    ensures ok { IfOk result (λ r. (symbols.now ≡ terminals.Sign signs.OPEN_ROUND ∷ terminals.Sign signs.CLOSE_ROUND ∷ r.1) × (r.0 ≡ e)) }
+    ensures err { IfErr result (λ fault. ExpressionStops (Sign signs.OPEN_ROUND ∷ Sign signs.CLOSE_ROUND ∷ []) symbols.now fault) }
 {
     let rest = expect_sign(symbols, b'(')?;
     let rest = expect_sign(&rest, b')')?;
@@ -95,18 +96,18 @@ fn read_operand<'a>(alloc: Global, symbols: &Symbols<'a>) -> Read<'a, Expr>
     ensures shorter { IfOk result (λ r. length r.1 < length symbols.now) }
 {
     let Some(first) = symbols.first() else {
-        return Err(ExpressionFault::Unexpected(0));
+        return Err(SyntaxFault::Unexpected(0));
     };
     match first.kind {
         TokenKind::Number(n) => Ok((Expr::Number(n), first.behind)),
         TokenKind::Name => read_named(alloc, first.text, first.behind),
-        TokenKind::Word(17) => read_call(Expr::More, &first.behind),
-        TokenKind::Word(18) => read_call(Expr::Take, &first.behind),
-        TokenKind::Word(19) => read_call(Expr::Iter, &first.behind),
-        TokenKind::Operator(10) => read_unary(alloc, 1, &first.behind),
-        TokenKind::Sign(b'!') => read_unary(alloc, 2, &first.behind),
+        TokenKind::Word(MORE) => read_call(Expr::More, &first.behind),
+        TokenKind::Word(TAKE) => read_call(Expr::Take, &first.behind),
+        TokenKind::Word(ITER) => read_call(Expr::Iter, &first.behind),
+        TokenKind::Operator(MINUS) => read_unary(alloc, NEGATIVE, &first.behind),
+        TokenKind::Sign(b'!') => read_unary(alloc, NOT, &first.behind),
         TokenKind::Sign(b'(') => read_closed(alloc, b')', &first.behind),
-        _ => Err(ExpressionFault::Unexpected(symbols.len())),
+        _ => Err(SyntaxFault::Unexpected(symbols.len())),
     }
 }
 

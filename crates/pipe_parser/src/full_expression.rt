@@ -4,59 +4,56 @@ ghost use Rattle.std.specs.Prelude.{◌<◌, [], ◌∷◌, IfOk, IfErr, length}
 ghost use Rattle.grammar_laws.specs.ProgramMachine as machine;
 ghost use Rattle.pipe_model.specs.Language.SyntaxTree.{expression_of};
 ghost use Rattle.grammar_laws.specs.Reading.{ReadsFull};
+ghost use Rattle.pipe_model.specs.declared.bounds.TheConstants as bounds;
 ghost use Rattle.pipe_parser.specs.SyntaxFaults.{SyntaxStops};
 
-use crate::expression::{ANY_EXPRESSION, read_expression};
-use crate::fault::{ExpressionFault, SyntaxFault};
+use crate::expression::read_expression;
+use crate::fault::SyntaxFault;
 use crate::symbols::Symbols;
+use pipe_model::bounds::LONGEST_EXPRESSION;
+use pipe_model::levels::ANY_EXPRESSION;
 use pipe_model::tree::Expr;
 use std::alloc::Global;
 
 /// What a reader takes from the front of symbols, and what it leaves.
 pub type Parsed<'a, T> = Result<(T, Symbols<'a>), SyntaxFault>;
 
-/// The most symbols of a full expression.
-const LONGEST: usize = 256;
-
 /// Reads a full expression. It looks at one symbol more than such an expression may have, so it goes no deeper than
 /// that, however long the source is.
 pub fn read_full<'a>(alloc: Global, symbols: &Symbols<'a>) -> Parsed<'a, Expr>
-    ensures ok { IfOk result (λ r. ReadsFull 256 symbols.now (expression_of r.0) r.1) }
+    ensures ok { IfOk result (λ r. ReadsFull bounds.LONGEST_EXPRESSION symbols.now (expression_of r.0) r.1) }
     ensures err { IfErr result (λ fault. SyntaxStops (machine.FullExpression ∷ []) symbols.now fault) }
     ensures shorter { IfOk result (λ r. length r.1 < length symbols.now) }
 {
-    if LONGEST < symbols.len() {
+    if LONGEST_EXPRESSION < symbols.len() {
         return read_in_window(alloc, symbols);
     }
-    match read_expression(alloc, ANY_EXPRESSION, symbols) {
-        Ok((e, rest)) => Ok((e, rest)),
-        Err(ExpressionFault::Unexpected(left)) => Err(SyntaxFault::Unexpected(left)),
-        Err(ExpressionFault::NoMemory) => Err(SyntaxFault::NoMemory),
-    }
+    let (e, rest) = read_expression(alloc, ANY_EXPRESSION, symbols)?;
+    Ok((e, rest))
 }
 
 /// Reads a full expression from symbols that are more than it may have.
 fn read_in_window<'a>(alloc: Global, symbols: &Symbols<'a>) -> Parsed<'a, Expr>
-    requires { 256 < length symbols.now }
-    ensures ok { IfOk result (λ r. ReadsFull 256 symbols.now (expression_of r.0) r.1) }
+    requires { bounds.LONGEST_EXPRESSION < length symbols.now }
+    ensures ok { IfOk result (λ r. ReadsFull bounds.LONGEST_EXPRESSION symbols.now (expression_of r.0) r.1) }
     ensures err { IfErr result (λ fault. SyntaxStops (machine.FullExpression ∷ []) symbols.now fault) }
     ensures shorter { IfOk result (λ r. length r.1 < length symbols.now) }
 {
-    let more = symbols.len() - (LONGEST + 1);
-    let window = symbols.front(LONGEST + 1);
+    let more = symbols.len() - (LONGEST_EXPRESSION + 1);
+    let window = symbols.front(LONGEST_EXPRESSION + 1);
     match read_expression(alloc, ANY_EXPRESSION, &window) {
         Ok((e, rest)) => {
             if rest.len() == 0 {
                 return Err(SyntaxFault::TooLong(more + 1));
             }
-            Ok((e, symbols.behind(LONGEST + 1 - rest.len())))
+            Ok((e, symbols.behind(LONGEST_EXPRESSION + 1 - rest.len())))
         }
-        Err(ExpressionFault::Unexpected(left)) => {
+        Err(SyntaxFault::Unexpected(left)) => {
             if left == 0 {
                 return Err(SyntaxFault::TooLong(more + 1));
             }
             Err(SyntaxFault::Unexpected(left + more))
         }
-        Err(ExpressionFault::NoMemory) => Err(SyntaxFault::NoMemory),
+        Err(fault) => Err(fault),
     }
 }

@@ -7,7 +7,7 @@ ghost use Rattle.pipe_model.specs.Language.SyntaxTree.{tree_of};
 ghost use Rattle.pipe_model.specs.Language.Tokens.{IsLexed, symbols_in};
 ghost use Rattle.pipe_model.specs.Language.Spelling.{IsShallow, Spells};
 ghost use Rattle.pipe_parser.specs.Depths.{OpensTooMany};
-ghost use Rattle.pipe_parser.specs.Parses.{IsRefusal, IsFault, IsFaultAt};
+ghost use Rattle.pipe_parser.specs.Parses.{BreaksFirst, IsFault, IsPlaced};
 ghost use Rattle.pipe_parser.specs.declared.parse.ParseFault.TheVariants as faults;
 
 use crate::depth::first_too_deep;
@@ -17,6 +17,7 @@ use crate::symbols::Symbols;
 use pipe_model::list::Numbers;
 use pipe_model::token::{Token, TokenKind, Tokens};
 use pipe_model::tree::Program;
+use pipe_model::word_codes::{ITER, PIPE_CONTINUE, PIPE_WAIT};
 use std::alloc::{AllocError, Global};
 use thiserror::Error;
 
@@ -53,55 +54,41 @@ impl From<AllocError> for ParseFault {
     }
 }
 
-/// Why symbols are no program, with how many of them stand before the first that breaks a rule.
-#[derive(Clone, Copy, PartialEq, Eq, Debug)]
-enum Refusal {
-    Unexpected(usize),
-    TooDeep(usize),
-    TooLong(usize),
-    NoMemory,
-}
-
-/// The program of symbols that never open too many brackets.
-fn read_shallow(alloc: Global, symbols: &Symbols) -> Result<Program, Refusal>
+/// Reads the program of symbols that never open too many brackets.
+fn read_shallow(alloc: Global, symbols: &Symbols) -> Result<Program, SyntaxFault>
     requires { IsShallow symbols.now }
     ensures ok { IfOk result (λ program. Spells symbols.now (tree_of program)) }
-    ensures err { IfErr result (λ refusal. IsRefusal symbols.now refusal) }
+    ensures err { IfErr result (λ fault. BreaksFirst symbols.now fault) }
 {
-    let all = symbols.len();
-    match read_program(alloc, symbols) {
-        Ok(program) => Ok(program),
-        Err(SyntaxFault::Unexpected(left)) => Err(Refusal::Unexpected(all - left)),
-        Err(SyntaxFault::TooLong(left)) => Err(Refusal::TooLong(all - left)),
-        Err(SyntaxFault::NoMemory) => Err(Refusal::NoMemory),
-    }
+    read_program(alloc, symbols)
 }
 
-/// Why symbols are no program of which the last of so many opens a bracket too many. Nothing behind that one is read.
-fn refusal_up_to(alloc: Global, symbols: &Symbols, count: usize) -> Refusal
+/// Returns the first fault of symbols of which number `count` opens a bracket too many. No later symbol is read.
+fn fault_up_to(alloc: Global, symbols: &Symbols, count: usize) -> SyntaxFault
     requires { OpensTooMany symbols.now count }
-    ensures { IsRefusal symbols.now result }
+    ensures { BreaksFirst symbols.now result }
 {
+    let more = symbols.len() - count;
     let cut = symbols.front(count);
     let Err(fault) = read_program(alloc, &cut) else {
-        return Refusal::TooDeep(count - 1);
+        return SyntaxFault::TooDeep(more + 1);
     };
     match fault {
-        SyntaxFault::Unexpected(0) => Refusal::TooDeep(count - 1),
-        SyntaxFault::Unexpected(left) => Refusal::Unexpected(count - left),
-        SyntaxFault::TooLong(1) => Refusal::TooDeep(count - 1),
-        SyntaxFault::TooLong(left) => Refusal::TooLong(count - left),
-        SyntaxFault::NoMemory => Refusal::NoMemory,
+        SyntaxFault::Unexpected(0) => SyntaxFault::TooDeep(more + 1),
+        SyntaxFault::Unexpected(left) => SyntaxFault::Unexpected(left + more),
+        SyntaxFault::TooLong(1) => SyntaxFault::TooDeep(more + 1),
+        SyntaxFault::TooLong(left) => SyntaxFault::TooLong(left + more),
+        _ => fault,
     }
 }
 
-/// The program of symbols.
-fn read_bounded(alloc: Global, symbols: &Symbols) -> Result<Program, Refusal>
+/// Reads the program of symbols.
+fn read_bounded(alloc: Global, symbols: &Symbols) -> Result<Program, SyntaxFault>
     ensures ok { IfOk result (λ program. Spells symbols.now (tree_of program)) }
-    ensures err { IfErr result (λ refusal. IsRefusal symbols.now refusal) }
+    ensures err { IfErr result (λ fault. BreaksFirst symbols.now fault) }
 {
     match first_too_deep(symbols) {
-        Some(count) => Err(refusal_up_to(alloc, symbols, count)),
+        Some(count) => Err(fault_up_to(alloc, symbols, count)),
         None => read_shallow(alloc, symbols),
     }
 }
@@ -117,16 +104,22 @@ fn place_at(source: &[u8], tokens: &[Token], before: usize) -> u32
     }
 }
 
-/// The refusal with its place in the source.
-fn fault_of(source: &[u8], tokens: &[Token], refusal: Refusal) -> ParseFault
+/// Places a fault of the symbols, of which there are `all`, in the source.
+fn placed(source: &[u8], tokens: &[Token], all: usize, fault: SyntaxFault) -> ParseFault
     requires { length source.now < 4294967296 }
-    ensures { IsFaultAt source.now tokens.now refusal result }
+    ensures { IsPlaced source.now tokens.now all fault result }
 {
-    match refusal {
-        Refusal::Unexpected(before) => ParseFault::Unexpected(place_at(source, tokens, before)),
-        Refusal::TooDeep(before) => ParseFault::TooDeep(place_at(source, tokens, before)),
-        Refusal::TooLong(before) => ParseFault::TooLong(place_at(source, tokens, before)),
-        Refusal::NoMemory => ParseFault::NoMemory,
+    match fault {
+        SyntaxFault::Unexpected(left) => {
+            ParseFault::Unexpected(place_at(source, tokens, all.saturating_sub(left)))
+        }
+        SyntaxFault::TooDeep(left) => {
+            ParseFault::TooDeep(place_at(source, tokens, all.saturating_sub(left)))
+        }
+        SyntaxFault::TooLong(left) => {
+            ParseFault::TooLong(place_at(source, tokens, all.saturating_sub(left)))
+        }
+        SyntaxFault::NoMemory => ParseFault::NoMemory,
     }
 }
 
@@ -134,7 +127,7 @@ fn fault_of(source: &[u8], tokens: &[Token], refusal: Refusal) -> ParseFault
 fn is_mark(kind: TokenKind) -> bool
     ensures { result ≡ is_mark kind }
 {
-    matches!(kind, TokenKind::Name | TokenKind::Word(9 | 10 | 19))
+    matches!(kind, TokenKind::Name | TokenKind::Word(PIPE_WAIT | PIPE_CONTINUE | ITER))
 }
 
 /// The places of the marks.
@@ -168,6 +161,6 @@ pub fn parse(alloc: Global, source: &[u8], tokens: &Tokens) -> Result<Parsed, Pa
             let places = places_of_marks(alloc, tokens.as_slice())?;
             Ok(Parsed { program, places })
         }
-        Err(refusal) => Err(fault_of(source, tokens.as_slice(), refusal)),
+        Err(fault) => Err(placed(source, tokens.as_slice(), symbols.len(), fault)),
     }
 }

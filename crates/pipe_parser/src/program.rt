@@ -5,38 +5,22 @@ ghost use Rattle.grammar_laws.specs.ProgramMachine.{Sign, Word, AnyNumber, Cells
 ghost use Rattle.pipe_model.specs.Language.SyntaxTree.{expression_of, statements_of, tree_of};
 ghost use Rattle.grammar_laws.specs.Reading.{ReadsSize, ReadsValue, ReadsCell, ReadsCells, ReadsProgram};
 ghost use Rattle.pipe_model.specs.declared.symbol.Symbol.TheVariants as terminals;
+ghost use Rattle.pipe_model.specs.declared.bounds.TheConstants as bounds;
 ghost use Rattle.pipe_parser.specs.ProgramReadings.{limit, limits, cell, loop, HasLimits, ReadsLoop};
 ghost use Rattle.pipe_parser.specs.SyntaxFaults.{SyntaxStops, Refuses};
 
+use crate::expression::expect_sign;
 use crate::fault::SyntaxFault;
 use crate::full_expression::Parsed;
-use crate::statement::{expect_sign, read_block, read_part, read_test};
+use crate::statement::{read_block, read_part, read_test};
 use crate::symbols::Symbols;
 use pipe_model::name::Name;
+use pipe_model::operator_codes::MINUS;
 use pipe_model::tree::{Block, Declaration, Declarations, Expr, Limits, Program};
+use pipe_model::word_codes::{
+    CELL, EMITS, FINAL, INIT, ITERATIONS, LIMITS, PIPE_WHILE, STAGES, STEPS,
+};
 use std::alloc::{AllocError, Global};
-
-// The reserved words of a program's parts, by their places in the list of reserved words.
-const LIMITS: u8 = 1;
-
-const ITERATIONS: u8 = 2;
-
-const STAGES: u8 = 3;
-
-const STEPS: u8 = 4;
-
-const EMITS: u8 = 5;
-
-const CELL: u8 = 6;
-
-const INIT: u8 = 7;
-
-const PIPE_WHILE: u8 = 8;
-
-const FINAL: u8 = 11;
-
-/// The code of the operator `-`.
-const MINUS: u8 = 10;
 
 /// What stands behind a word that has to come.
 fn expect_word<'a>(symbols: &Symbols<'a>, word: u8) -> Result<Symbols<'a>, SyntaxFault>
@@ -170,7 +154,7 @@ fn read_loop<'a>(
 
 /// Reads the program that all of the symbols derive.
 pub fn read_program(alloc: Global, symbols: &Symbols) -> Result<Program, SyntaxFault>
-    ensures ok { IfOk result (λ program. ReadsProgram 256 symbols.now (tree_of program)) }
+    ensures ok { IfOk result (λ program. ReadsProgram bounds.LONGEST_EXPRESSION symbols.now (tree_of program)) }
     ensures err { IfErr result (λ fault. Refuses symbols.now fault) }
 {
     let (limits, first) = read_limits(symbols)?;

@@ -1,40 +1,30 @@
 //! Statements and blocks from symbols.
 
 ghost use Rattle.std.specs.Prelude.{◌≡◌, ◌<◌, ◌≤◌, [], ◌∷◌, IfOk, IfErr, length};
+ghost use Rattle.pipe_model.specs.declared.sign_bytes.TheConstants as signs;
 ghost use Rattle.grammar_laws.specs.ProgramMachine as machine;
 ghost use Rattle.grammar_laws.specs.ProgramMachine.{Sign, FullExpression, Target, Part};
 ghost use Rattle.pipe_model.specs.Language.SyntaxTree.{expression_of, statement_of, statements_of};
 ghost use Rattle.grammar_laws.specs.Reading.{ReadsFull, ReadsStatement, ReadsBlock, ReadsPart, NoSign};
 ghost use Rattle.pipe_model.specs.Language.Words.{word_let, word_emit, word_if, word_while};
 ghost use Rattle.pipe_model.specs.declared.symbol.Symbol.TheVariants as terminals;
+ghost use Rattle.pipe_model.specs.declared.bounds.TheConstants as bounds;
 ghost use Rattle.pipe_parser.specs.StatementReadings.{test, binding, element, stage, block, repetition, choice, ReadsTest, ReadsStage};
 ghost use Rattle.pipe_parser.specs.SyntaxFaults.{SyntaxStops};
 
+use crate::expression::expect_sign;
 use crate::fault::SyntaxFault;
 use crate::full_expression::{Parsed, read_full};
 use crate::symbols::Symbols;
 use pipe_model::name::Name;
 use pipe_model::token::TokenKind;
 use pipe_model::tree::{Block, Expr, Stmt};
+use pipe_model::word_codes::{ELSE, EMIT, IF, LET, PIPE_CONTINUE, PIPE_WAIT, WHILE};
 use std::alloc::{AllocError, Global};
-
-/// The reserved word `else`, by its place in their list.
-const ELSE: u8 = 14;
-
-/// What stands behind a sign that has to come.
-pub fn expect_sign<'a>(symbols: &Symbols<'a>, sign: u8) -> Result<Symbols<'a>, SyntaxFault>
-    ensures ok { IfOk result (λ behind. symbols.now ≡ terminals.Sign sign ∷ behind) }
-    ensures err { IfErr result (λ fault. SyntaxStops (Sign sign ∷ []) symbols.now fault) }
-{
-    match symbols.after_sign(sign) {
-        Some(behind) => Ok(behind),
-        None => Err(SyntaxFault::Unexpected(symbols.len())),
-    }
-}
 
 /// Reads a full expression and the sign that closes it.
 fn read_until<'a>(alloc: Global, sign: u8, symbols: &Symbols<'a>) -> Parsed<'a, Expr>
-    ensures ok { IfOk result (λ r. ReadsFull 256 symbols.now (expression_of r.0) (terminals.Sign sign ∷ r.1)) }
+    ensures ok { IfOk result (λ r. ReadsFull bounds.LONGEST_EXPRESSION symbols.now (expression_of r.0) (terminals.Sign sign ∷ r.1)) }
     ensures err { IfErr result (λ fault. SyntaxStops (FullExpression ∷ Sign sign ∷ []) symbols.now fault) }
     ensures shorter { IfOk result (λ r. length r.1 < length symbols.now) }
 {
@@ -56,7 +46,7 @@ pub fn read_test<'a>(alloc: Global, symbols: &Symbols<'a>) -> Parsed<'a, Expr>
 
 /// Reads a `let`, behind its word.
 fn read_let<'a>(alloc: Global, symbols: &Symbols<'a>) -> Parsed<'a, Stmt>
-    ensures ok { IfOk result (λ r. ReadsStatement 256 (word_let ∷ symbols.now) (statement_of r.0) r.1) }
+    ensures ok { IfOk result (λ r. ReadsStatement bounds.LONGEST_EXPRESSION (word_let ∷ symbols.now) (statement_of r.0) r.1) }
     ensures err { IfErr result (λ fault. SyntaxStops binding symbols.now fault) }
     ensures shorter { IfOk result (λ r. length r.1 < length symbols.now) }
 {
@@ -71,7 +61,7 @@ fn read_let<'a>(alloc: Global, symbols: &Symbols<'a>) -> Parsed<'a, Stmt>
 
 /// Reads an assignment to an element, behind its opening bracket.
 fn read_element<'a>(alloc: Global, name: &[u8], symbols: &Symbols<'a>) -> Parsed<'a, Stmt>
-    ensures ok { IfOk result (λ r. ReadsStatement 256 (terminals.Name name.now ∷ terminals.Sign 91 ∷ symbols.now) (statement_of r.0) r.1) }
+    ensures ok { IfOk result (λ r. ReadsStatement bounds.LONGEST_EXPRESSION (terminals.Name name.now ∷ terminals.Sign signs.OPEN_SQUARE ∷ symbols.now) (statement_of r.0) r.1) }
     ensures err { IfErr result (λ fault. SyntaxStops element symbols.now fault) }
     ensures shorter { IfOk result (λ r. length r.1 < length symbols.now) }
 {
@@ -84,7 +74,7 @@ fn read_element<'a>(alloc: Global, name: &[u8], symbols: &Symbols<'a>) -> Parsed
 
 /// Reads an assignment, behind its name.
 fn read_assignment<'a>(alloc: Global, name: &[u8], symbols: &Symbols<'a>) -> Parsed<'a, Stmt>
-    ensures ok { IfOk result (λ r. ReadsStatement 256 (terminals.Name name.now ∷ symbols.now) (statement_of r.0) r.1) }
+    ensures ok { IfOk result (λ r. ReadsStatement bounds.LONGEST_EXPRESSION (terminals.Name name.now ∷ symbols.now) (statement_of r.0) r.1) }
     ensures err { IfErr result (λ fault. SyntaxStops (Target ∷ []) symbols.now fault) }
     ensures shorter { IfOk result (λ r. length r.1 < length symbols.now) }
 {
@@ -101,8 +91,8 @@ fn read_assignment<'a>(alloc: Global, name: &[u8], symbols: &Symbols<'a>) -> Par
 
 /// Reads an `emit`, behind its word.
 fn read_emit<'a>(alloc: Global, symbols: &Symbols<'a>) -> Parsed<'a, Stmt>
-    ensures ok { IfOk result (λ r. ReadsStatement 256 (word_emit ∷ symbols.now) (statement_of r.0) r.1) }
-    ensures err { IfErr result (λ fault. SyntaxStops (FullExpression ∷ Sign 59 ∷ []) symbols.now fault) }
+    ensures ok { IfOk result (λ r. ReadsStatement bounds.LONGEST_EXPRESSION (word_emit ∷ symbols.now) (statement_of r.0) r.1) }
+    ensures err { IfErr result (λ fault. SyntaxStops (FullExpression ∷ Sign signs.SEMICOLON ∷ []) symbols.now fault) }
     ensures shorter { IfOk result (λ r. length r.1 < length symbols.now) }
 {
     let (e, rest) = read_until(alloc, b';', symbols)?;
@@ -128,9 +118,9 @@ fn read_stage<'a>(alloc: Global, symbols: &Symbols<'a>) -> Parsed<'a, Option<Exp
 /// Reads a statement, where no block ends.
 #[cycle(block)]
 fn read_statement<'a>(alloc: Global, symbols: &Symbols<'a>) -> Parsed<'a, Stmt>
-    requires { NoSign 125 symbols.now }
-    ensures ok { IfOk result (λ r. ReadsStatement 256 symbols.now (statement_of r.0) r.1) }
-    ensures err { IfErr result (λ fault. SyntaxStops (machine.Statements ∷ Sign 125 ∷ []) symbols.now fault) }
+    requires { NoSign signs.CLOSE_BRACE symbols.now }
+    ensures ok { IfOk result (λ r. ReadsStatement bounds.LONGEST_EXPRESSION symbols.now (statement_of r.0) r.1) }
+    ensures err { IfErr result (λ fault. SyntaxStops (machine.Statements ∷ Sign signs.CLOSE_BRACE ∷ []) symbols.now fault) }
     ensures shorter { IfOk result (λ r. length r.1 < length symbols.now) }
 {
     let Some(first) = symbols.first() else {
@@ -138,18 +128,18 @@ fn read_statement<'a>(alloc: Global, symbols: &Symbols<'a>) -> Parsed<'a, Stmt>
     };
     match first.kind {
         TokenKind::Name => read_assignment(alloc, first.text, &first.behind),
-        TokenKind::Word(9) => {
+        TokenKind::Word(PIPE_WAIT) => {
             let (number, rest) = read_stage(alloc, &first.behind)?;
             Ok((Stmt::Wait(number), rest))
         }
-        TokenKind::Word(10) => {
+        TokenKind::Word(PIPE_CONTINUE) => {
             let (number, rest) = read_stage(alloc, &first.behind)?;
             Ok((Stmt::Continue(number), rest))
         }
-        TokenKind::Word(12) => read_let(alloc, &first.behind),
-        TokenKind::Word(13) => read_if(alloc, &first.behind),
-        TokenKind::Word(15) => read_while(alloc, &first.behind),
-        TokenKind::Word(16) => read_emit(alloc, &first.behind),
+        TokenKind::Word(LET) => read_let(alloc, &first.behind),
+        TokenKind::Word(IF) => read_if(alloc, &first.behind),
+        TokenKind::Word(WHILE) => read_while(alloc, &first.behind),
+        TokenKind::Word(EMIT) => read_emit(alloc, &first.behind),
         _ => Err(SyntaxFault::Unexpected(symbols.len())),
     }
 }
@@ -157,7 +147,7 @@ fn read_statement<'a>(alloc: Global, symbols: &Symbols<'a>) -> Parsed<'a, Stmt>
 /// Reads an `if`, behind its word.
 #[cycle(block)]
 fn read_if<'a>(alloc: Global, symbols: &Symbols<'a>) -> Parsed<'a, Stmt>
-    ensures ok { IfOk result (λ r. ReadsStatement 256 (word_if ∷ symbols.now) (statement_of r.0) r.1) }
+    ensures ok { IfOk result (λ r. ReadsStatement bounds.LONGEST_EXPRESSION (word_if ∷ symbols.now) (statement_of r.0) r.1) }
     ensures err { IfErr result (λ fault. SyntaxStops choice symbols.now fault) }
     ensures shorter { IfOk result (λ r. length r.1 < length symbols.now) }
 {
@@ -170,7 +160,7 @@ fn read_if<'a>(alloc: Global, symbols: &Symbols<'a>) -> Parsed<'a, Stmt>
 /// Reads a `while`, behind its word.
 #[cycle(block)]
 fn read_while<'a>(alloc: Global, symbols: &Symbols<'a>) -> Parsed<'a, Stmt>
-    ensures ok { IfOk result (λ r. ReadsStatement 256 (word_while ∷ symbols.now) (statement_of r.0) r.1) }
+    ensures ok { IfOk result (λ r. ReadsStatement bounds.LONGEST_EXPRESSION (word_while ∷ symbols.now) (statement_of r.0) r.1) }
     ensures err { IfErr result (λ fault. SyntaxStops repetition symbols.now fault) }
     ensures shorter { IfOk result (λ r. length r.1 < length symbols.now) }
 {
@@ -182,7 +172,7 @@ fn read_while<'a>(alloc: Global, symbols: &Symbols<'a>) -> Parsed<'a, Stmt>
 /// Reads a part that may be missing: a word and a block. Without them it is the empty block.
 #[cycle(block)]
 pub fn read_part<'a>(alloc: Global, word: u8, symbols: Symbols<'a>) -> Parsed<'a, Block>
-    ensures ok { IfOk result (λ r. ReadsPart 256 word symbols.entry (statements_of r.0.statements.items) r.1) }
+    ensures ok { IfOk result (λ r. ReadsPart bounds.LONGEST_EXPRESSION word symbols.entry (statements_of r.0.statements.items) r.1) }
     ensures err { IfErr result (λ fault. SyntaxStops (Part word ∷ []) symbols.entry fault) }
     ensures shorter { IfOk result (λ r. length r.1 ≤ length symbols.entry) }
 {
@@ -200,7 +190,7 @@ pub fn read_part<'a>(alloc: Global, word: u8, symbols: Symbols<'a>) -> Parsed<'a
 /// Reads a block.
 #[cycle(block)]
 pub fn read_block<'a>(alloc: Global, symbols: &Symbols<'a>) -> Parsed<'a, Block>
-    ensures ok { IfOk result (λ r. ReadsBlock 256 symbols.now (statements_of r.0.statements.items) r.1) }
+    ensures ok { IfOk result (λ r. ReadsBlock bounds.LONGEST_EXPRESSION symbols.now (statements_of r.0.statements.items) r.1) }
     ensures err { IfErr result (λ fault. SyntaxStops block symbols.now fault) }
     ensures shorter { IfOk result (λ r. length r.1 < length symbols.now) }
 {

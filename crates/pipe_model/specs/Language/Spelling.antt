@@ -73,17 +73,17 @@ pub record BreaksNoRule (ts : List Symbol) : Type 0 where
 
 -- the rules that a symbol may break
 pub data GrammarRule : Type 0 where
-  Expected : GrammarRule
-  Shallow : GrammarRule
-  Short : GrammarRule
+  Unexpected : GrammarRule
+  TooDeep : GrammarRule
+  TooLong : GrammarRule
 
 -- the first symbol that breaks a rule stands behind so many others; at one symbol the rules count in their order
 pub data FirstFault : List Symbol → GrammarRule → ℕ → Type 0 where
   UnexpectedSymbol : (before : List Symbol) (t : Symbol) (after : List Symbol) → BreaksNoRule before → (IsProgramPrefix (before ++ t ∷ []) → ⊥)
-      → FirstFault (before ++ t ∷ after) Expected (length before)
+      → FirstFault (before ++ t ∷ after) Unexpected (length before)
   UnexpectedEnd : (ts : List Symbol) → BreaksNoRule ts
-      → ((pieces : List Piece) (tree : SyntaxTree) → DerivesProgram pieces tree → ts ≡ flat pieces → ⊥) → FirstFault ts Expected (length ts)
-  TooDeep : (before : List Symbol) (t : Symbol) (after : List Symbol) → BreaksNoRule before → IsProgramPrefix (before ++ t ∷ [])
-      → MOST_OPEN_BRACKETS < open_brackets (before ++ t ∷ []) → FirstFault (before ++ t ∷ after) Shallow (length before)
-  TooLong : (before : List Symbol) (t : Symbol) (after : List Symbol) → BreaksNoRule before → open_brackets (before ++ t ∷ []) ≤ MOST_OPEN_BRACKETS
-      → EndsTooLong (before ++ t ∷ []) → FirstFault (before ++ t ∷ after) Short (length before)
+      → ((pieces : List Piece) (tree : SyntaxTree) → DerivesProgram pieces tree → ts ≡ flat pieces → ⊥) → FirstFault ts Unexpected (length ts)
+  FirstTooDeep : (before : List Symbol) (t : Symbol) (after : List Symbol) → BreaksNoRule before → IsProgramPrefix (before ++ t ∷ [])
+      → MOST_OPEN_BRACKETS < open_brackets (before ++ t ∷ []) → FirstFault (before ++ t ∷ after) TooDeep (length before)
+  FirstTooLong : (before : List Symbol) (t : Symbol) (after : List Symbol) → BreaksNoRule before → open_brackets (before ++ t ∷ []) ≤ MOST_OPEN_BRACKETS
+      → EndsTooLong (before ++ t ∷ []) → FirstFault (before ++ t ∷ after) TooLong (length before)

@@ -30,7 +30,7 @@ extend-returns-clause-ok t c =
 pub read_closed-returns-in_err-rest-clause-err : goal.read_closed-returns-in_err-rest-clause-err
 read_closed-returns-in_err-rest-clause-err t c =
     let p = err_from_is_err_and c.from_residual-in_err-rest.result c.from_residual-in_err-rest.ensures.1 in
-    rw (p.1, p.2) (fault_closed _ _ _ _ c.in_ok-e.ensures.ok _ c.in_err-rest.ensures.err)
+    rw (p.1, p.2) (fault_closed _ _ _ _ c.in_ok-e.ensures.ok _ c.in_err-rest.ensures.stuck)
 
 pub read_expression-returns-clause-ok : goal.read_expression-returns-clause-ok
 read_expression-returns-clause-ok t c =
