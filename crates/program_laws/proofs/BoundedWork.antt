@@ -12,6 +12,7 @@ use Rattle.std.proofs.lemmas.Bool.{cases_lt, eq-eqb, eqb-true, ltb-true}
 use Rattle.run_laws.specs.RunLaws.{sum_below}
 use Rattle.run_laws.proofs.RunStates.EventBounds.{runs_are_bounded}
 use Rattle.pipe_model.specs.declared.node.Kind.{Kind}
+use Rattle.pipe_model.specs.declared.tree.StageKind.{StageKind}
 use Rattle.pipe_model.specs.declared.column.ColumnEnd.{ColumnEnd}
 use Rattle.pipe_model.specs.declared.trap.Trap.{Trap}
 use Rattle.pipe_model.specs.declared.trap.Trap.TheVariants as traps
@@ -21,7 +22,7 @@ use Rattle.pipe_model.specs.Language.Interaction.{Interaction, Return, Raise, St
 use Rattle.pipe_model.specs.Pipelines.Pipeline.{AlwaysClosesLoop, HasBoundedWork}
 use Rattle.pipe_model.specs.Language.Programs.{natural, pipeline_of, setting_of}
 use Rattle.pipe_model.specs.Language.SyntaxTree as syntax
-use Rattle.pipe_model.specs.Language.SyntaxTree.{SyntaxTree, Expression, Number, Name, Element, And, Or, Binary, Unary, More, Take, Iter, Statement, Let, Assign, AssignElement, Emit, If, While, NextStage, Statements, Empty, Then}
+use Rattle.pipe_model.specs.Language.SyntaxTree.{SyntaxTree, Expression, Number, Name, Element, And, Or, Binary, Unary, More, Take, Iter, Statement, Let, Assign, AssignElement, Emit, If, While, NextStage, Statements, Empty, Then, kind_of_stage}
 use Rattle.program_laws.specs.WorkBounds.{ProgramsHaveBoundedWork, ProgramRunsAreBounded}
 
 -- ---- trees without stages
@@ -72,10 +73,11 @@ frugal-operate credit code a b =
     frugal_if (code == 3) _ _ (FrugalReturn _) (frugal_if (code == 4) _ _ (FrugalReturn _) (frugal_if (code == 5) _ _ (FrugalReturn _)
     (frugal_if (code == 6) _ _ (FrugalReturn _) (frugal_if (code == 7) _ _ (FrugalReturn _) (frugal_if (code == 8) _ _ (FrugalReturn _)
     (frugal_if (code == 9) _ _ (frugal-fitting credit (a +ℤ b)) (frugal_if (code == 10) _ _ (frugal-fitting credit (a -ℤ b))
-    (frugal_if (code == 11) _ _ (frugal-fitting credit (a *ℤ b)) (frugal_if (code == 12) _ _ (frugal-divided credit a b (int_div a b)) (frugal-divided credit a b (int_rem a b)))))))))))
+    (frugal_if (code == 11) _ _ (frugal-fitting credit (a *ℤ b)) (frugal_if (code == 12) _ _ (frugal-divided credit a b (int_div a b))
+    (frugal_if (code == 13) _ _ (frugal-divided credit a b (int_rem a b)) (FrugalReturn _)))))))))))
 
 frugal-operate_one : (credit code : ℕ) (a : ℤ) → IsFrugal credit (operate_one code a)
-frugal-operate_one credit code a = frugal_if (code == 1) _ _ (frugal-fitting credit (neg_ℤ a)) (FrugalReturn (if_zero a (pos 1) (pos 0)))
+frugal-operate_one credit code a = frugal_if (code == 1) _ _ (frugal-fitting credit (neg_ℤ a)) (frugal_if (code == 2) _ _ (FrugalReturn (if_zero a (pos 1) (pos 0))) (FrugalReturn _))
 
 frugal-named_value : (o : Option ℤ) (range : Option CellRange) → IsFrugal 2 (named_value o range)
 frugal-named_value (Some v) range = FrugalReturn v
@@ -172,11 +174,11 @@ bounded-stage : (stages room : ℕ) (kind : Kind) (here : StagePosition) (n : �
 bounded-stage stages zero kind here n has l = absurd (omega (arith, has, l))
 bounded-stage stages (suc room) kind here n has l = BoundStage kind n (BoundReturn (omega (arith, has)))
 
-bounded-go_to_stage : (stages room : ℕ) (kind : Kind) (here : StagePosition) (n : ℤ) → stages ≤ here.count + room
+bounded-go_to_stage : (stages room : ℕ) (kind : StageKind) (here : StagePosition) (n : ℤ) → stages ≤ here.count + room
     → IsBounded (PositionFits stages) 0 room (go_to_stage stages kind here n)
 bounded-go_to_stage stages room kind here n has =
     bounded_if (int_lt here.number n) _ _ (λ above. bounded_if (nat_lt here.count stages) _ _
-    (λ free. bounded-stage stages room kind here n has (ltb-true here.count stages free)) (BoundRaise _)) (BoundRaise _)
+    (λ free. bounded-stage stages room (kind_of_stage kind) here n has (ltb-true here.count stages free)) (BoundRaise _)) (BoundRaise _)
 
 bounded-assign : (stages room : ℕ) (env : Environment) (o : Option ℤ) (range : Option CellRange) (x : List ℕ) (v : ℤ) → stages ≤ env.stage.count + room
     → IsBounded (FitsIn stages) 2 room (assign env o range x v)

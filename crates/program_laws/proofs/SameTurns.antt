@@ -5,6 +5,7 @@ use Rattle.std.specs.Ordering.{int_eq}
 use Rattle.std.proofs.Math.Nat.{mul-suc}
 use Rattle.std.proofs.lemmas.Bool.{ltb-true}
 use Rattle.pipe_model.specs.declared.node.Kind.{Kind}
+use Rattle.pipe_model.specs.declared.tree.StageKind.{StageKind}
 use Rattle.pipe_model.specs.declared.column.ColumnEnd.{ColumnEnd}
 use Rattle.pipe_model.specs.declared.trap.Trap.{Trap}
 use Rattle.pipe_model.specs.declared.trap.Trap.TheVariants as traps
@@ -12,7 +13,7 @@ use Rattle.pipe_model.specs.Pipelines.Behaviour.{Reading, Writing, Staging}
 use Rattle.pipe_model.specs.Language.Evaluation.{CellRange, Local, Setting, StagePosition, Environment, evaluate, execute, execute_all, assign, emit, go_to_stage, if_zero, leave_block, loop_turns, local_value, run_iteration, first_environment}
 use Rattle.pipe_model.specs.Language.Interaction.{Interaction, Return, Raise, Step, Get, Set, Stage, bind, with_budget}
 use Rattle.pipe_model.specs.Language.SyntaxTree as syntax
-use Rattle.pipe_model.specs.Language.SyntaxTree.{Expression, Number, Name, Element, And, Or, Binary, Unary, More, Take, Iter, Statement, Let, Assign, AssignElement, Emit, If, While, NextStage, Statements, Empty, Then}
+use Rattle.pipe_model.specs.Language.SyntaxTree.{Expression, Number, Name, Element, And, Or, Binary, Unary, More, Take, Iter, Statement, Let, Assign, AssignElement, Emit, If, While, NextStage, Statements, Empty, Then, kind_of_stage}
 use Rattle.language_laws.proofs.Straight.{IsStraight, Returns, Raises, Steps, Gets, Sets, Anything, straight-evaluate, straight-element_of, straight-fitting}
 use Rattle.language_laws.proofs.Straight.{either as straight_either}
 use Rattle.pipe_model.specs.Language.Programs.{natural, setting_of}
@@ -116,11 +117,11 @@ same_if : {A : Type 0} {P : ℕ → ℕ → A → Type 0} {budget left room : �
 same_if true x y s t = s refl
 same_if false x y s t = t
 
-same-go_to_stage : (budget stages left room : ℕ) (kind : Kind) (here : StagePosition) (n : ℤ) → stages ≤ here.count + room
+same-go_to_stage : (budget stages left room : ℕ) (kind : StageKind) (here : StagePosition) (n : ℤ) → stages ≤ here.count + room
     → SameWithin budget (HasRoomAt stages) left room (go_to_stage stages kind here n) (go_to_stage stages kind here n)
 same-go_to_stage budget stages left room kind here n has =
     same_if (int_lt here.number n) _ _ (λ above. same_if (nat_lt here.count stages) _ _
-    (λ free. same-stage budget stages left room kind here n has (ltb-true here.count stages free)) (SameRaise traps.StageLimit)) (SameRaise traps.StageOrder)
+    (λ free. same-stage budget stages left room (kind_of_stage kind) here n has (ltb-true here.count stages free)) (SameRaise traps.StageLimit)) (SameRaise traps.StageOrder)
 
 -- the environment has the stage of the one before
 abbrev KeepsStage : Environment → Environment → Type 0

@@ -1,6 +1,6 @@
 -- Worked examples of whole programs, which the checker computes: `init`, the loop and `final`, their budgets and their traps.
 use Rattle.std.specs.Prelude.{◌≡◌, ℕ, pos, [], ◌∷◌, Some, None}
-use Rattle.pipe_model.specs.declared.node.Kind.TheVariants as kinds
+use Rattle.pipe_model.specs.declared.tree.StageKind.TheVariants as stage_kinds
 use Rattle.pipe_model.specs.declared.trap.Trap.TheVariants as traps
 use Rattle.pipe_model.specs.declared.tree.Limits.{Limits}
 use Rattle.pipe_model.specs.Language.Grammar.{declaration}
@@ -18,7 +18,7 @@ exact value = record {
   cells = plain_cell n (pos 0) ∷ [];
   init = Empty;
   test = less (Name n) (number 2);
-  body = count_up n (Then (Let t (Name n)) (Then (Stage kinds.Wait (number 1)) (Then (Emit (Name t)) (Then (If (equal (Name t) (number 1)) (Then (Let k value) Empty) Empty) Empty))));
+  body = count_up n (Then (Let t (Name n)) (Then (Stage stage_kinds.Wait (number 1)) (Then (Emit (Name t)) (Then (If (equal (Name t) (number 1)) (Then (Let k value) Empty) Empty) Empty))));
   last = Empty;
 }
 

@@ -4,6 +4,7 @@ use Rattle.pipe_model.specs.declared.column.ColumnEnd.TheVariants.{Closed, End}
 use Rattle.pipe_model.specs.declared.event.Event.{Event}
 use Rattle.pipe_model.specs.declared.event.Event.TheVariants as events
 use Rattle.pipe_model.specs.declared.node.Kind.TheVariants as kinds
+use Rattle.pipe_model.specs.declared.tree.StageKind.TheVariants as stage_kinds
 use Rattle.pipe_model.specs.Pipelines.Behaviour.{read_access, write_access}
 use Rattle.pipe_model.specs.Language.ProgramsOfTrees.{pipeline_after_init}
 use Rattle.pipe_model.specs.Runs.Schedules.{played}
@@ -18,7 +19,7 @@ emitting_once = record {
   cells = plain_cell n (pos 0) ∷ [];
   init = Empty;
   test = less (Name n) (number 1);
-  body = Then (Assign n (number 1)) (Then (Stage kinds.Wait (number 1)) (Then (Emit (Name n)) Empty));
+  body = Then (Assign n (number 1)) (Then (Stage stage_kinds.Wait (number 1)) (Then (Emit (Name n)) Empty));
   last = Empty;
 }
 

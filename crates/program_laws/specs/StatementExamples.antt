@@ -2,6 +2,7 @@
 use Rattle.std.specs.Prelude.{◌≡◌, ℕ, pos, [], ◌∷◌, Some, None}
 use Rattle.pipe_model.specs.declared.column.ColumnEnd.TheVariants.{Closed, End}
 use Rattle.pipe_model.specs.declared.node.Kind.TheVariants as kinds
+use Rattle.pipe_model.specs.declared.tree.StageKind.TheVariants as stage_kinds
 use Rattle.pipe_model.specs.declared.trap.Trap.TheVariants as traps
 use Rattle.pipe_model.specs.Pipelines.Behaviour.{node_of}
 use Rattle.pipe_model.specs.Language.ProgramsOfTrees.{whole_of}
@@ -72,8 +73,8 @@ staged stages body = record {
 
 -- let k = 6; pipe_wait(2); emit k; pipe_wait; pipe_continue(7); pipe_continue; emit k + 1;
 abbrev pub each_stage : SyntaxTree
-each_stage = staged 5 (Then (Let k (number 6)) (Then (Stage kinds.Wait (number 2)) (Then (Emit (Name k)) (Then (NextStage kinds.Wait)
-    (Then (Stage kinds.Continue (number 7)) (Then (NextStage kinds.Continue) (Then (Emit (plus (Name k) (number 1))) Empty)))))))
+each_stage = staged 5 (Then (Let k (number 6)) (Then (Stage stage_kinds.Wait (number 2)) (Then (Emit (Name k)) (Then (NextStage stage_kinds.Wait)
+    (Then (Stage stage_kinds.Continue (number 7)) (Then (NextStage stage_kinds.Continue) (Then (Emit (plus (Name k) (number 1))) Empty)))))))
 
 -- stages with and without a number; locals live across stages
 abbrev pub StagesAreNamed : Type 0
@@ -88,10 +89,10 @@ StagesAreNamed =
 -- a number that is not above the current one, one instance too many, and an implied number that is no i64
 abbrev pub StagesTrap : Type 0
 StagesTrap =
-    HasOutputAndTrap (staged 3 (Then (Stage kinds.Wait (number 1)) (Then (Stage kinds.Continue (number 1)) Empty))) [] [] (Some (trap_at traps.StageOrder 0 1 (pos 1)))
-    × HasOutputAndTrap (staged 3 (Then (Stage kinds.Wait (number 0)) Empty)) [] [] (Some (trap_at traps.StageOrder 0 0 (pos 0)))
-    × HasOutputAndTrap (staged 2 (Then (Stage kinds.Wait (number 1)) (Then (NextStage kinds.Continue) Empty))) [] [] (Some (trap_at traps.StageLimit 0 1 (pos 1)))
-    × HasOutputAndTrap (staged 3 (Then (Stage kinds.Wait (number 9223372036854775807)) (Then (NextStage kinds.Wait) Empty))) [] []
+    HasOutputAndTrap (staged 3 (Then (Stage stage_kinds.Wait (number 1)) (Then (Stage stage_kinds.Continue (number 1)) Empty))) [] [] (Some (trap_at traps.StageOrder 0 1 (pos 1)))
+    × HasOutputAndTrap (staged 3 (Then (Stage stage_kinds.Wait (number 0)) Empty)) [] [] (Some (trap_at traps.StageOrder 0 0 (pos 0)))
+    × HasOutputAndTrap (staged 2 (Then (Stage stage_kinds.Wait (number 1)) (Then (NextStage stage_kinds.Continue) Empty))) [] [] (Some (trap_at traps.StageLimit 0 1 (pos 1)))
+    × HasOutputAndTrap (staged 3 (Then (Stage stage_kinds.Wait (number 9223372036854775807)) (Then (NextStage stage_kinds.Wait) Empty))) [] []
     (Some (trap_at traps.Overflow 0 1 (pos 9223372036854775807)))
 
 -- limits iterations 4, stages 3, steps 50, emits 4; cell n = 0; cell s = 0;
@@ -102,8 +103,8 @@ every_other = record {
   cells = plain_cell n (pos 0) ∷ plain_cell s (pos 0) ∷ [];
   init = Empty;
   test = less (Name n) (number 4);
-  body = count_up n (Then (Let t (Name n)) (Then (If (equal (remainder Iter (number 2)) (number 0)) (Then (Stage kinds.Wait (number 1)) Empty) Empty)
-      (Then (Stage kinds.Wait (number 2)) (Then (Assign s (plus (Name s) (Name t))) (Then (Emit (Name s)) Empty)))));
+  body = count_up n (Then (Let t (Name n)) (Then (If (equal (remainder Iter (number 2)) (number 0)) (Then (Stage stage_kinds.Wait (number 1)) Empty) Empty)
+      (Then (Stage stage_kinds.Wait (number 2)) (Then (Assign s (plus (Name s) (Name t))) (Then (Emit (Name s)) Empty)))));
   last = Empty;
 }
 
@@ -119,12 +120,12 @@ waiting other = record {
   cells = plain_cell n (pos 0) ∷ plain_cell c (pos 0) ∷ [];
   init = Empty;
   test = less (Name n) (number 2);
-  body = count_up n (Then (If (equal Iter (number 0)) (Then (Stage kinds.Wait (number 5)) (Then (Assign c (number 7)) Empty)) other) Empty);
+  body = count_up n (Then (If (equal Iter (number 0)) (Then (Stage stage_kinds.Wait (number 5)) (Then (Assign c (number 7)) Empty)) other) Empty);
   last = Empty;
 }
 
 -- waits with redundant edges: { pipe_wait(5); pipe_wait(6); pipe_wait(7); emit c; }, and a wait for an earlier stage: { pipe_wait(6); emit c; }
 abbrev pub WaitsEmit : Type 0
 WaitsEmit =
-    HasOutputAndTrap (waiting (Then (Stage kinds.Wait (number 5)) (Then (Stage kinds.Wait (number 6)) (Then (Stage kinds.Wait (number 7)) (Then (Emit (Name c)) Empty))))) [] (pos 7 ∷ []) None
-    × HasOutputAndTrap (waiting (Then (Stage kinds.Wait (number 6)) (Then (Emit (Name c)) Empty))) [] (pos 7 ∷ []) None
+    HasOutputAndTrap (waiting (Then (Stage stage_kinds.Wait (number 5)) (Then (Stage stage_kinds.Wait (number 6)) (Then (Stage stage_kinds.Wait (number 7)) (Then (Emit (Name c)) Empty))))) [] (pos 7 ∷ []) None
+    × HasOutputAndTrap (waiting (Then (Stage stage_kinds.Wait (number 6)) (Then (Emit (Name c)) Empty))) [] (pos 7 ∷ []) None

@@ -8,9 +8,9 @@ use Rattle.std.specs.Str.{bytes_eq}
 use Rattle.pipe_model.specs.declared.column.ColumnEnd.{ColumnEnd}
 use Rattle.pipe_model.specs.declared.column.ColumnEnd.TheVariants as ends
 use Rattle.pipe_model.specs.declared.trap.Trap.TheVariants as traps
-use Rattle.pipe_model.specs.declared.tree.StageKind.{StageKind}
+use Rattle.pipe_model.specs.declared.interactions.StageKind.{StageKind}
 use Rattle.pipe_model.specs.Language.Interaction.{Interaction, Return, Raise, Step, Get, Set, bind}
-use Rattle.pipe_model.specs.Language.Interaction as tree
+use Rattle.pipe_model.specs.Language.Interaction as interactions
 use Rattle.pipe_model.specs.Language.SyntaxTree.{Expression, Number, Name, Element, And, Or, Binary, Unary, More, Take, Iter, Statement, Let, Assign, AssignElement, Emit, If, While, Stage, NextStage, Statements, Empty, Then, kind_of_stage}
 
 -- a local and its value
@@ -166,7 +166,7 @@ emit limit v = Get 1 (λ count. if int_eq count (pos limit) then Raise traps.Out
 abbrev pub go_to_stage : ℕ → StageKind → StagePosition → ℤ → Interaction StagePosition
 go_to_stage stages kind here n =
     if int_lt here.number n
-    then (if nat_lt here.count stages then tree.Stage (kind_of_stage kind) n (Return (record { number = n; count = here.count + 1 })) else Raise traps.StageLimit)
+    then (if nat_lt here.count stages then interactions.Stage (kind_of_stage kind) n (Return (record { number = n; count = here.count + 1 })) else Raise traps.StageLimit)
     else Raise traps.StageOrder
 
 -- a missing stage number is the current one plus 1
