@@ -11,9 +11,9 @@ pub struct CellId(pub u32);
 /// Whether a cell is read or written.
 #[derive(Clone, Copy, PartialEq, Eq, Debug)]
 pub enum AccessKind {
-    /// The cell's value is taken.
+    /// The value of the cell is read.
     Read,
-    /// The cell gets a value.
+    /// A value is written to the cell.
     Write,
 }
 

@@ -71,7 +71,7 @@ pub struct Block {
     pub statements: Vec<Stmt>,
 }
 
-/// A cell with its declared value, or an array of so many cells that each have it.
+/// A cell with its declared value, or an array of `size` cells that each have it.
 #[derive(Drop)]
 pub struct Declaration {
     pub name: Name,
