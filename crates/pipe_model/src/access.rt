@@ -3,8 +3,8 @@
 use crate::list::ListOf;
 use crate::node::NodeId;
 
-/// A cell: 0 is the input's cursor, 1 is the output, declared cells follow from 2 in order, an array's
-/// elements one after the other.
+/// A cell: 0 is the input's cursor, 1 is the output, declared cells follow from 2 in order, an
+/// array's elements one after the other.
 #[derive(Clone, Copy, PartialEq, Eq, Debug)]
 pub struct CellId(pub u32);
 

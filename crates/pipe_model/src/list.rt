@@ -36,7 +36,8 @@ impl<T> ListOf<T> {
         }
     }
 
-    /// Returns an empty list with room for `capacity` items. Returns an error only if memory runs out.
+    /// Returns an empty list with room for `capacity` items.
+    /// Returns an error only if memory runs out.
     pub fn with_capacity(alloc: Global, capacity: usize) -> Result<Self, AllocError>
         ensures { IfOk result (λ list. list ≡ []) }
     {

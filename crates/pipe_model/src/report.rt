@@ -4,8 +4,8 @@ use crate::access::{AccessKind, CellId};
 use crate::list::ListOf;
 use crate::node::NodeId;
 
-/// A racy cell with two conflicting accesses of parallel instances, the earlier one first, each with its
-/// instance, stage number and kind.
+/// A racy cell with two conflicting accesses of parallel instances, the earlier one first, each
+/// with its instance, stage number and kind.
 #[derive(Clone, Copy, PartialEq, Eq, Debug)]
 pub struct Report {
     /// The cell on which the two race.

@@ -27,7 +27,8 @@ pub enum Expr {
     Iter,
 }
 
-/// How a statement enters the next stage. Stage 0 begins without a statement, so there is no third kind.
+/// How a statement enters the next stage. Stage 0 begins without a statement, so there is no third
+/// kind.
 #[derive(Clone, Copy, PartialEq, Eq, Debug)]
 pub enum StageKind {
     /// By `pipe_wait`.
