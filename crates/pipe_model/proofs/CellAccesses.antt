@@ -1,4 +1,4 @@
--- The accesses to a cell among those of a run: which access stands at a place, and at which place an access stands.
+-- The accesses to a cell among those of a run: which access is at an index, and at which index an access is.
 use Rattle.pipe_model.specs.Races.CellRaces.{NotedAccess, access_at, accesses_to, noted_access}
 use Rattle.pipe_model.specs.Races.DeterminacyRaces.{Among, Here, Later}
 use Rattle.pipe_model.specs.declared.access.CellId.{CellId}
@@ -12,11 +12,11 @@ use Rattle.std.proofs.lemmas.Bool.{eqb-true, eq-eqb}
 abbrev pub noted_of : NodeAccess → NotedAccess
 noted_of a = noted_access a.node a.access.kind
 
--- the cell of a number
+-- the cell with this number
 abbrev pub cell_id : ℕ → CellId
 cell_id c = record { 0 = c }
 
--- the access of the run at a place of a cell's accesses
+-- the access of the run at an index of a cell's accesses
 pub record IsPlacedAccess (cell : ℕ) (xs : List NodeAccess) (noted : List NotedAccess) (n : ℕ) : Type 0 where
   pub front : List NodeAccess
   pub access : NodeAccess
@@ -25,7 +25,7 @@ pub record IsPlacedAccess (cell : ℕ) (xs : List NodeAccess) (noted : List Note
   pub at_cell : access.access.cell.0 ≡ cell
   pub is : access_at noted n ≡ noted_of access
 
--- one_place, by the test
+-- `one_place`, by whether the first access is to the cell
 one_place_by : (cell : ℕ) (x : NodeAccess) (xs : List NodeAccess) (noted : List NotedAccess) (t : Bool)
     → eqb x.access.cell.0 cell ≡ t → (n : ℕ) → n < length (cond t (noted_of x ∷ noted) noted)
     → ((m : ℕ) → m < length noted → IsPlacedAccess cell xs noted m)
@@ -59,19 +59,19 @@ one_place_by cell x xs noted false e n l ih =
       is = h.is;
     }
 
--- each place has one
+-- each index of a cell's accesses has an access of the run
 pub one_place : (cell : ℕ) (xs : List NodeAccess) (n : ℕ) → n < length (accesses_to cell xs)
     → IsPlacedAccess cell xs (accesses_to cell xs) n
 one_place cell [] n l = absurd (omega (arith, l))
 one_place cell (x ∷ xs) n l =
     one_place_by cell x xs (accesses_to cell xs) (eqb x.access.cell.0 cell) refl n l (one_place cell xs)
 
--- it is among them
+-- the access at an index is among those of the run
 pub placed_among : {cell : ℕ} {xs : List NodeAccess} {noted : List NotedAccess} {n : ℕ}
     (h : IsPlacedAccess cell xs noted n) → Among h.access xs
 placed_among h = subst (λ l. Among h.access l) (sym h.stands) (among_right h.access h.front (h.access ∷ h.rest) Here)
 
--- the accesses of the run at two places of a cell's accesses
+-- the accesses of the run at two indices of a cell's accesses
 pub record ArePlacedAccesses (cell : ℕ) (xs : List NodeAccess) (noted : List NotedAccess) (n k : ℕ) : Type 0 where
   pub front : List NodeAccess
   pub earlier : NodeAccess
@@ -84,7 +84,7 @@ pub record ArePlacedAccesses (cell : ℕ) (xs : List NodeAccess) (noted : List N
   pub earlier_is : access_at noted k ≡ noted_of earlier
   pub later_is : access_at noted n ≡ noted_of later
 
--- two places past another access
+-- two indices, with one more access before them
 two_places_later : {cell : ℕ} {xs : List NodeAccess} {noted noted' : List NotedAccess} {n k n' k' : ℕ}
     (x : NodeAccess)
     → access_at noted' n' ≡ access_at noted n → access_at noted' k' ≡ access_at noted k
@@ -102,7 +102,7 @@ two_places_later x en ek h = record {
   later_is = en ∙ h.later_is;
 }
 
--- two_places, by the test
+-- `two_places`, by whether the first access is to the cell
 two_places_by : (cell : ℕ) (x : NodeAccess) (xs : List NodeAccess) (noted : List NotedAccess) (t : Bool)
     → eqb x.access.cell.0 cell ≡ t → (n k : ℕ) → k < n → n < length (cond t (noted_of x ∷ noted) noted)
     → ((m : ℕ) → m < length noted → IsPlacedAccess cell xs noted m)
@@ -125,7 +125,7 @@ two_places_by cell x xs noted true e (suc n) (suc k) w l one two =
     two_places_later x refl refl (two n k (omega (arith, w)) (omega (arith, l)))
 two_places_by cell x xs noted false e n k w l one two = two_places_later x refl refl (two n k w l)
 
--- each two places have them
+-- each two indices of a cell's accesses have accesses of the run
 pub two_places : (cell : ℕ) (xs : List NodeAccess) (n k : ℕ) → k < n → n < length (accesses_to cell xs)
     → ArePlacedAccesses cell xs (accesses_to cell xs) n k
 two_places cell [] n k w l = absurd (omega (arith, l))
@@ -133,19 +133,19 @@ two_places cell (x ∷ xs) n k w l =
     two_places_by cell x xs (accesses_to cell xs) (eqb x.access.cell.0 cell) refl n k w l (one_place cell xs)
     (two_places cell xs)
 
--- the place of an access of the run among those to its cell
+-- the index of an access of the run among those to its cell
 pub record IsPlaceOf (noted : List NotedAccess) (a : NodeAccess) : Type 0 where
   pub number : ℕ
   pub within : number < length noted
   pub is : access_at noted number ≡ noted_of a
 
--- the place of the access in front
+-- the index of the first access, which is to the cell
 place_here : (a : NodeAccess) (noted : List NotedAccess) (t : Bool) → t ≡ true
     → IsPlaceOf (cond t (noted_of a ∷ noted) noted) a
 place_here a noted true e = record { number = 0; within = omega arith; is = refl }
 place_here a noted false e = absurd (cc)
 
--- the place of a later access
+-- the index of a later access
 place_later : (x a : NodeAccess) (noted : List NotedAccess) (t : Bool) → IsPlaceOf noted a
     → IsPlaceOf (cond t (noted_of x ∷ noted) noted) a
 place_later x a noted true h =
@@ -153,7 +153,7 @@ place_later x a noted true h =
     record { number = suc h.number; within = omega (arith, l); is = h.is }
 place_later x a noted false h = h
 
--- each access to the cell has one
+-- each access to the cell has an index
 pub place_of : (cell : ℕ) (xs : List NodeAccess) (a : NodeAccess) → a.access.cell.0 ≡ cell → Among a xs
     → IsPlaceOf (accesses_to cell xs) a
 place_of cell [] a e m = elim m [ ]

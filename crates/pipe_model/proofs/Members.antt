@@ -28,7 +28,7 @@ only_one x y (Later z m) = elim m [ ]
 pub none_among : {A : Type 0} (x : A) → Among x [] → ⊥
 none_among x m = elim m [ ]
 
--- what stands at a place is among the elements
+-- what is at an index is among the elements
 pub among_at : {A : Type 0} (xs : List A) (k : ℕ) (d : A) → k < length xs → Among (get_or xs k d) xs
 among_at [] k d w = absurd (omega (arith, w))
 among_at (x ∷ xs) zero d w = Here

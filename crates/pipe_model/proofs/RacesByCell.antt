@@ -11,7 +11,7 @@ use Rattle.pipe_model.specs.declared.node.Node.{Node}
 use Rattle.pipe_model.specs.declared.node.NodeId.{NodeId}
 use Rattle.pipe_model.proofs.CellAccesses.{noted_of, place_of}
 
--- two accesses of the run that race, at their places
+-- two accesses of the run that race, at their indices
 races_at : (columns : List (List Node)) (noted : List NotedAccess) (n k : ℕ) (a b : NodeAccess) → n < length noted
     → k < n → access_at noted k ≡ noted_of a → access_at noted n ≡ noted_of b
     → KindsConflict a.access.kind b.access.kind → AreParallel columns a.node b.node → RacesAt columns noted n k
@@ -24,17 +24,17 @@ races_at columns noted n k a b l w e f c p = record {
       (subst (λ (y : NotedAccess). AreParallel columns a.node y.who) (sym f) p);
 }
 
--- instances are parallel both ways
+-- being parallel is symmetric
 parallel_sym : {columns : List (List Node)} {x y : NodeId} → AreParallel columns x y → AreParallel columns y x
 parallel_sym p = record { apart = λ e. p.apart (sym e); not_before = p.not_after; not_after = p.not_before }
 
--- the places of a race among the accesses to its cell
+-- the indices of a race among the accesses to its cell
 pub record HasRacesAt (columns : List (List Node)) (noted : List NotedAccess) : Type 0 where
   pub later : ℕ
   pub earlier : ℕ
   pub racy : RacesAt columns noted later earlier
 
--- kinds conflict both ways
+-- the conflict of kinds is symmetric
 conflict_sym : {k j : AccessKind} → KindsConflict k j → KindsConflict j k
 conflict_sym (inl e) = inr e
 conflict_sym (inr e) = inl e

@@ -1,4 +1,4 @@
--- The language: symbols, grammar, rules, evaluation, canonical text, and what a source is refused for.
+-- The language: symbols, grammar, rules, evaluation, canonical text, and the reasons for which a source is refused.
 pub mod SyntaxTree
 pub mod Lexis
 pub mod Tokens

@@ -20,7 +20,6 @@ use Rattle.pipe_model.specs.Language.Tokens.{LexicalFault, BadByte, TooWide, Sou
 abbrev pub output_lines : List ℤ → List ℕ
 output_lines output = flat_map (λ v. signed_decimal v ++ codes "\n") output
 
--- the name of a trap
 abbrev pub trap_name : Trap → List ℕ
 trap_name traps.Overflow = codes "Overflow"
 trap_name traps.DivZero = codes "DivZero"
@@ -36,22 +35,20 @@ trap_name traps.OutputLimit = codes "OutputLimit"
 abbrev pub instance_text : NodeId → ℤ → List ℕ
 instance_text node number = decimal node.iteration ++ (codes "/" ++ signed_decimal number)
 
--- where a trap came
+-- where a trap occurred
 abbrev pub trap_place : TrapPlace → List ℕ
 trap_place places.Init = codes "in init"
 trap_place (places.At node number) = codes "at " ++ instance_text node number
 trap_place places.Last = codes "in final"
 
--- the line of a trap
 abbrev pub trap_line : TrapAt → List ℕ
 trap_line t = codes "trap " ++ (trap_name t.trap ++ (codes " " ++ (trap_place t.place ++ codes "\n")))
 
--- the line of a trap, where there is one
+-- the line of a trap, if there is one
 abbrev pub trap_lines : Option TrapAt → List ℕ
 trap_lines None = []
 trap_lines (Some t) = trap_line t
 
--- the word of an access kind
 abbrev pub kind_text : AccessKind → List ℕ
 kind_text accesses.Read = codes "read"
 kind_text accesses.Write = codes "write"
@@ -62,11 +59,11 @@ race_line cell_name r =
     codes "race " ++ (cell_name r.cell.0 ++ (codes " " ++ (kind_text r.earlier_kind ++ (codes " " ++ (instance_text r.earlier r.earlier_number
     ++ (codes " " ++ (kind_text r.later_kind ++ (codes " " ++ (instance_text r.later r.later_number ++ codes "\n")))))))))
 
--- the words are no command
+-- the words of the call form no command
 abbrev pub refused_usage : List ℕ
 refused_usage = codes "refused usage\n"
 
--- a file of this name is not held
+-- there is no file of this name
 abbrev pub refused_missing : List ℕ → List ℕ
 refused_missing name = codes "refused missing " ++ (name ++ codes "\n")
 
@@ -74,7 +71,7 @@ refused_missing name = codes "refused missing " ++ (name ++ codes "\n")
 abbrev pub numbered_line : List ℕ → ℕ → List ℕ
 numbered_line before n = before ++ (decimal n ++ codes "\n")
 
--- the line for what is wrong in the text of a source
+-- the line for a fault in the text of a source
 abbrev pub lexical_line : LexicalFault → List ℕ
 lexical_line (BadByte place) = numbered_line (codes "refused source BadByte at ") place
 lexical_line (TooWide place) = numbered_line (codes "refused source TooWide at ") place
@@ -87,7 +84,7 @@ syntax_line grammar.Unexpected place = numbered_line (codes "refused source Unex
 syntax_line grammar.TooDeep place = numbered_line (codes "refused source TooDeep at ") place
 syntax_line grammar.TooLong place = numbered_line (codes "refused source TooLong at ") place
 
--- the line for a mark that breaks a rule of programs
+-- the line for a mark that breaks a checking rule
 abbrev pub rule_line : checking.CheckingRule → ℕ → List ℕ
 rule_line checking.Unknown place = numbered_line (codes "refused check Unknown at ") place
 rule_line checking.Twice place = numbered_line (codes "refused check Twice at ") place
@@ -105,7 +102,7 @@ refusal_line (Syntactic rule place) = syntax_line rule place
 refusal_line (LimitOut which) = numbered_line (codes "refused check LimitOut ") which
 refusal_line (RuleBroken rule place) = rule_line rule place
 
--- the program is accepted, and not of the first form
+-- the program is accepted, but is not of the first form
 abbrev pub refused_program : List ℕ
 refused_program = codes "refused source NotYetBuilt\n"
 

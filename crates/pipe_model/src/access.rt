@@ -3,17 +3,17 @@
 use crate::list::ListOf;
 use crate::node::NodeId;
 
-/// A cell: 0 is the input's cursor, 1 is the output, declared cells follow from 2 in order, an array's
-/// elements one after the other.
+/// A cell: 0 is the input's cursor, 1 is the output, declared cells follow from 2 in order, an
+/// array's elements one after the other.
 #[derive(Clone, Copy, PartialEq, Eq, Debug)]
 pub struct CellId(pub u32);
 
 /// Whether a cell is read or written.
 #[derive(Clone, Copy, PartialEq, Eq, Debug)]
 pub enum AccessKind {
-    /// The cell's value is taken.
+    /// The value of the cell is read.
     Read,
-    /// The cell gets a value.
+    /// A value is written to the cell.
     Write,
 }
 

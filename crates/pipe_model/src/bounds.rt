@@ -6,7 +6,7 @@ pub const LONGEST_SOURCE: usize = 1_048_576;
 pub const LONGEST_NAME: usize = 64;
 /// The most brackets that are open at once, of all kinds together.
 pub const MOST_OPEN_BRACKETS: usize = 64;
-/// The most symbols of a full expression, which is one that is no part of another.
+/// The most symbols of a full expression, which is one that is not part of another.
 pub const LONGEST_EXPRESSION: usize = 256;
 /// The most marks, nodes of expressions and statements of a program together.
 pub const LARGEST_PROGRAM: usize = 4_194_304;

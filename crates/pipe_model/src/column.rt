@@ -15,12 +15,12 @@ pub enum ColumnEnd {
     Trapped(Trap),
 }
 
-/// An iteration: its stage instances in order, and its end where it has come to one.
+/// An iteration: its stage instances in order, and its end if it has ended.
 #[derive(Drop)]
 pub struct Column {
     /// The stage instances that were entered.
     pub nodes: Nodes,
-    /// The end, none while the iteration goes on.
+    /// The end; `None` while the iteration goes on.
     pub end: Option<ColumnEnd>,
 }
 

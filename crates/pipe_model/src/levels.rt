@@ -1,4 +1,4 @@
-//! Levels of precedence. A greater level binds more tightly; those of two-place operators are 1 to 6.
+//! Levels of precedence. A greater level binds more tightly; two-place operators have 1 to 6.
 
 /// The level of any expression: that of the operator that binds most loosely.
 pub const ANY_EXPRESSION: u8 = 1;

@@ -1,4 +1,5 @@
-//! Plain types of pipeline programs and their runs, and in `specs/` the definitions that every other crate cites.
+//! Plain types of pipeline programs and their runs, and in `specs/` the definitions that every
+//! other crate cites.
 #![tactic(auto)]
 
 pub mod access;

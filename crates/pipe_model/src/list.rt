@@ -1,12 +1,12 @@
-//! Lists, which contracts see as lists and not as vectors with room kept free.
+//! Lists, which contracts see as lists of items, without the spare capacity of vectors.
 
 ghost use Rattle.std.specs.Prelude.{◌≡◌, ◌==◌, ◌++◌, ◌∷◌, [], IfOk, OnOk, OnErr, length};
 
 use std::alloc::{AllocError, AllocFailed, Global};
 use std::marker::Model;
 
-/// A list of values, seen in contracts as the list of its items. It is made from a vector and gives it back
-/// without taking memory.
+/// A list of values, seen in contracts as the list of its items. Converting it from or to a vector
+/// does not allocate.
 #[derive(Drop)]
 pub struct ListOf<T> {
     items: Vec<T>,
@@ -27,7 +27,7 @@ impl<T> Model for ListOf<T> {
 }
 
 impl<T> ListOf<T> {
-    /// The empty list.
+    /// Returns an empty list.
     pub fn new(alloc: Global) -> Self
         ensures { result ≡ [] }
     {
@@ -36,7 +36,8 @@ impl<T> ListOf<T> {
         }
     }
 
-    /// An empty list with room for so many items. Fails for want of memory alone.
+    /// Returns an empty list with room for `capacity` items.
+    /// Returns an error only if memory runs out.
     pub fn with_capacity(alloc: Global, capacity: usize) -> Result<Self, AllocError>
         ensures { IfOk result (λ list. list ≡ []) }
     {
@@ -45,42 +46,42 @@ impl<T> ListOf<T> {
         })
     }
 
-    /// The list of a vector's items.
+    /// Returns the list of a vector's items.
     pub fn from_vec(items: Vec<T>) -> Self
         ensures { result ≡ items.items }
     {
         ListOf { items }
     }
 
-    /// The vector of the list's items.
+    /// Returns the vector of the list's items.
     pub fn into_vec(self) -> Vec<T>
         ensures { result.items ≡ self }
     {
         self.items
     }
 
-    /// The items.
+    /// Returns the items in order.
     pub fn as_slice(&self) -> &[T]
         ensures { result.now ≡ self.now }
     {
         self.items.as_slice()
     }
 
-    /// How many items there are.
+    /// Returns the number of items.
     pub fn len(&self) -> usize
         ensures { result ≡ length self.now }
     {
         self.items.len()
     }
 
-    /// Whether there is no item.
+    /// Returns whether there is no item.
     pub fn is_empty(&self) -> bool
         ensures { result ≡ (length self.now == 0) }
     {
         self.items.is_empty()
     }
 
-    /// Puts an item behind the others; where memory is refused the list stays as it was.
+    /// Appends an item. Returns an error only if memory runs out; then the list is unchanged.
     pub fn push(&mut self, item: T) -> Result<(), AllocFailed<T>>
         ensures ok { OnOk result (self.new ≡ self.old ++ item ∷ []) }
         ensures err { OnErr result (self.new ≡ self.old) }

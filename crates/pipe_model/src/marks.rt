@@ -1,5 +1,6 @@
-//! Elements of the two order lists, down-first and right-first, that belong to stage instances (Xu, Lee and
-//! Agrawal, "Efficient Parallel Determinacy Race Detection for Two-Dimensional Dags", PPoPP 2018).
+//! Elements of the two order lists, down-first and right-first, that belong to stage instances (Xu,
+//! Lee and Agrawal, "Efficient Parallel Determinacy Race Detection for Two-Dimensional Dags", PPoPP
+//! 2018).
 
 /// An element of each list, kept for an instance that has not started.
 #[derive(Clone, Copy, PartialEq, Eq, Debug)]

@@ -1,10 +1,10 @@
-//! Want of memory.
+//! The error of calls that allocate.
 
 ghost use Rattle.std.specs.Prelude.{◌≡◌};
 
 use std::alloc::{AllocError, AllocFailed};
 
-/// The answer of a call that was refused memory. No clause says when it comes.
+/// Out of memory. Any call that allocates may return it; no clause says when.
 #[derive(Clone, Copy, PartialEq, Eq, Debug)]
 pub struct NoMemory;
 

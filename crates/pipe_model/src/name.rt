@@ -21,7 +21,7 @@ impl Model for Name {
 }
 
 impl Name {
-    /// The name with these bytes. Fails for want of memory alone.
+    /// Returns the name with these bytes. Returns an error only if memory runs out.
     pub fn new(alloc: Global, bytes: &[u8]) -> Result<Name, AllocError>
         ensures { IfOk result (λ name. name ≡ bytes.now) }
     {
@@ -30,14 +30,14 @@ impl Name {
         })
     }
 
-    /// The name's bytes.
+    /// Returns the name's bytes.
     pub fn as_bytes(&self) -> &[u8]
         ensures { result.now ≡ self.now }
     {
         self.bytes.as_slice()
     }
 
-    /// Whether this is the other name.
+    /// Returns whether the two names have the same bytes.
     pub fn is(&self, other: &Name) -> bool
         ensures same { IsTrue result ↔ (self.now ≡ other.now) }
         ensures test { result ≡ bytes_eq self.now other.now }

@@ -9,7 +9,7 @@ pub enum Kind {
     Zero,
     /// By `pipe_wait`, after the left neighbour has passed the stage.
     Wait,
-    /// By `pipe_continue`, waiting for nobody.
+    /// By `pipe_continue`, without waiting.
     Continue,
 }
 
@@ -22,17 +22,17 @@ pub struct Node {
     pub kind: Kind,
 }
 
-/// Which stage instance: the iteration, and the place in its column, both counted from 0.
+/// The name of a stage instance: its iteration, and its index in the column, both counted from 0.
 #[derive(Clone, Copy, PartialEq, Eq, Debug)]
 pub struct NodeId {
     /// The iteration's number, which is that of its column.
     pub iteration: u32,
-    /// The place in the column.
+    /// The index in the column.
     pub index: u32,
 }
 
 /// The stage instances of a column, in order.
 pub type Nodes = ListOf<Node>;
 
-/// A list of stage instances by their places.
+/// Names of stage instances.
 pub type NodeIds = ListOf<NodeId>;

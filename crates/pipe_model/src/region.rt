@@ -1,6 +1,6 @@
 //! Regions of a program's text.
 
-/// A region of a program's text. A local belongs to the region in which its `let` stands.
+/// A region of a program's text. A local belongs to the region that contains its `let`.
 #[derive(Clone, Copy, PartialEq, Eq, Debug)]
 pub enum Region {
     /// The declarations of cells.

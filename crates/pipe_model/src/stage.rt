@@ -5,7 +5,8 @@ use crate::trap::Trap;
 /// How an instance ended.
 #[derive(Clone, Copy, PartialEq, Eq, Debug)]
 pub enum StageEnd {
-    /// By `pipe_wait`: the iteration waits for its left neighbour to pass this stage number, and goes on there.
+    /// By `pipe_wait`: the iteration waits for its left neighbour to pass this stage number, and
+    /// goes on there.
     Wait(i64),
     /// By `pipe_continue`: the iteration goes on at this stage number.
     Continue(i64),

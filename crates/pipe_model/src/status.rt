@@ -8,7 +8,8 @@ use crate::node::Kind;
 pub enum Status {
     /// It runs its current instance, the last of its column.
     Running,
-    /// Its current instance has ended. The next has this kind and stage number, and is not entered yet.
+    /// Its current instance has ended. The next has this kind and stage number, and is not entered
+    /// yet.
     Pending(Kind, i64),
     /// It has ended.
     Completed(ColumnEnd),

@@ -5,9 +5,9 @@ use crate::name::Name;
 /// A terminal symbol of the grammar.
 #[derive(Drop)]
 pub enum Symbol {
-    /// A name that is no reserved word.
+    /// A name, which is not a reserved word.
     Name(Name),
-    /// A reserved word, by its place in the list of reserved words, counted from 0.
+    /// A reserved word, by its index in the list of reserved words, counted from 0.
     Word(u8),
     /// A number by its value.
     Number(i64),

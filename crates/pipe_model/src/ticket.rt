@@ -1,5 +1,5 @@
-//! Log entries with tickets. A ticket is a point in the order of all entries: of two entries where one happened
-//! before the other, the later has the greater ticket.
+//! Log entries with tickets. A ticket is a point in the order of all entries: if one entry happened
+//! before another, the later one has the greater ticket.
 
 use crate::access::Access;
 use crate::event::Event;
@@ -15,7 +15,8 @@ pub struct Entry {
     pub access: Access,
 }
 
-/// An access in the log of a shard. A shard has the cells whose number has the same remainder modulo the number of shards.
+/// An access in the log of a shard. The cells of a shard are those whose numbers have the same
+/// remainder modulo the number of shards.
 #[derive(Clone, Copy, PartialEq, Eq, Debug)]
 pub struct ShardEntry {
     /// When the access was made.

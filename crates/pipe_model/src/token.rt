@@ -1,13 +1,13 @@
-//! Tokens: the symbols of a source with their places.
+//! Tokens: the symbols of a source with their offsets.
 
 use crate::list::ListOf;
 
 /// What a token is.
 #[derive(Clone, Copy, PartialEq, Eq, Debug)]
 pub enum TokenKind {
-    /// A name that is no reserved word; its bytes stand in the source.
+    /// A name, which is not a reserved word; its bytes are in the source.
     Name,
-    /// A reserved word, by its place in the list of reserved words, counted from 0.
+    /// A reserved word, by its index in the list of reserved words, counted from 0.
     Word(u8),
     /// A number by its value.
     Number(i64),
@@ -17,7 +17,7 @@ pub enum TokenKind {
     Sign(u8),
 }
 
-/// A token: what it is, where it begins in the source, in bytes counted from 0, and how many bytes it has.
+/// A token: what it is, its offset in the source, in bytes counted from 0, and its length in bytes.
 #[derive(Clone, Copy, PartialEq, Eq, Debug)]
 pub struct Token {
     pub kind: TokenKind,

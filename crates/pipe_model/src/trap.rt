@@ -1,8 +1,8 @@
-//! Traps: the ends that the language gives to a step that cannot be made.
+//! Traps: how execution ends at a step that cannot be made.
 
 use crate::node::NodeId;
 
-/// Why an iteration, `init` or `final` ended before its end.
+/// Why an iteration, `init` or `final` stopped early.
 #[derive(Clone, Copy, PartialEq, Eq, Debug)]
 pub enum Trap {
     /// A sum, difference, product, negative, quotient or implied stage number outside `i64`.
@@ -17,7 +17,7 @@ pub enum Trap {
     StageOrder,
     /// The iteration has had as many instances as the limit allows.
     StageLimit,
-    /// `take()` where no input number is left.
+    /// `take()` when no input number is left.
     InputEnd,
     /// The loop goes on after as many iterations as the limit allows.
     IterLimit,
@@ -25,7 +25,7 @@ pub enum Trap {
     OutputLimit,
 }
 
-/// Where a trap came: in `init`, in a stage instance (with its stage number), or in `final`.
+/// Where a trap occurred: in `init`, in a stage instance (with its stage number), or in `final`.
 #[derive(Clone, Copy, PartialEq, Eq, Debug)]
 pub enum TrapPlace {
     /// In `init`.
@@ -39,7 +39,7 @@ pub enum TrapPlace {
 /// A trap and its place.
 #[derive(Clone, Copy, PartialEq, Eq, Debug)]
 pub struct TrapAt {
-    /// Where it came.
+    /// Where it occurred.
     pub place: TrapPlace,
     /// Why.
     pub trap: Trap,

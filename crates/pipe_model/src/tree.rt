@@ -27,7 +27,8 @@ pub enum Expr {
     Iter,
 }
 
-/// How a statement enters the next stage. Stage 0 begins without a statement, so there is no third kind.
+/// How a statement enters the next stage. Stage 0 begins without a statement, so there is no third
+/// kind.
 #[derive(Clone, Copy, PartialEq, Eq, Debug)]
 pub enum StageKind {
     /// By `pipe_wait`.
@@ -71,7 +72,7 @@ pub struct Block {
     pub statements: Vec<Stmt>,
 }
 
-/// A cell with its declared value, or an array of so many cells that each have it.
+/// A cell with its declared value, or an array of `size` cells that each have it.
 #[derive(Drop)]
 pub struct Declaration {
     pub name: Name,

@@ -1,4 +1,5 @@
-//! The reserved words that the grammar names, by their index in the list of reserved words, counted from 0.
+//! The reserved words that the grammar names, by their index in the list of reserved words,
+//! counted from 0.
 
 /// `limits`
 pub const LIMITS: u8 = 1;

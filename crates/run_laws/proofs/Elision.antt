@@ -1,4 +1,4 @@
--- Runs and the serial elision: why a run without a race computes what it computes.
+-- Runs and the serial elision: why a run without a race computes what the elision computes.
 pub mod Beginnings
 pub mod ColumnOrder
 pub mod FinishedRuns

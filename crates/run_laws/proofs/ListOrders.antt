@@ -1,4 +1,4 @@
--- The two lists of starts: the dag by columns, the places in each list, and how they grow.
+-- The two lists of starts: the dag by columns, the indices in each list, and how they grow.
 pub mod BothOrders
 pub mod DownChildren
 pub mod DownFirst

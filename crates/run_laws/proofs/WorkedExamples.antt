@@ -23,7 +23,7 @@ last_before_skipped = record { within = omega arith; up_to = omega (arith, ints)
     later (suc (suc zero)) l w = omega (arith, ints)
     later (suc (suc (suc k))) l w = absurd (omega arith)
 
--- the source of an edge across to place 1
+-- the source of an edge across to instance 1
 only_source : {j q : ℕ} → q ≡ 1 → CrossEdge (nodes_at skipping_columns 0) (nodes_at skipping_columns 1) j q → j ≡ 1
 only_source e (HeadCross a b) = absurd (omega (arith, e))
 only_source e (WaitCross j q l w h) =
@@ -88,7 +88,7 @@ redundant_edge_has_no_parent = record {
   none = refl;
 }
 
--- told by the numbers
+-- by the numbers
 pub waits_until_passed : WaitsUntilPassed
 waits_until_passed = record { running = λ l. omega (arith, ints, l); pending = omega (arith, ints) }
 

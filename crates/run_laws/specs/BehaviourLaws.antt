@@ -1,4 +1,4 @@
--- Laws of behaviours: the actions that an iteration can make, told by an interpreter, by replies and action by action.
+-- Laws of behaviours: the actions that an iteration can make, as defined by an interpreter, by replies, and action by action.
 -- Interaction trees are those of Xia et al. 2020.
 use Rattle.std.specs.Prelude.{List, ℕ, ◌≡◌, ◌++◌, ℤ}
 use Rattle.pipe_model.specs.Pipelines.Behaviour.{accesses_in, Behaviour, Performs, actions_with, Action, HasNoEnd}
@@ -15,8 +15,8 @@ InterpretersAreSerial =
     → interpreted_actions (interpret p.store base budget tree k)
     ≡ k.actions ++ serial_trace p.store (with_budget budget k.left tree) (base ++ accesses_in k.actions)
 
--- what a behaviour performs is what it does with the replies that stand in it:
--- the actions with any replies are performed; a performed trace begins the actions with its own replies; and more
+-- what a behaviour performs is what it does with the replies that are in it:
+-- the actions with any replies are performed; a performed trace is a prefix of the actions with its own replies; and more
 -- replies only add actions at the end
 pub record PerformsByReplies (behaviour : Behaviour) : Type 0 where
   pub performs : (replies : List ℤ) → Performs behaviour (actions_with behaviour replies)

@@ -1,4 +1,4 @@
--- Laws of the access histories of a run (Xu, Lee, Agrawal 2018): three kept instances a cell are enough to find its
+-- Laws of the access histories of a run (Xu, Lee, Agrawal 2018): three kept instances per cell are enough to find its
 -- first race.
 use Rattle.std.specs.Prelude.{ℕ, List, None, ◌≡◌, ◌↔◌, ◌<◌}
 use Rattle.pipe_model.specs.Races.CellRaces.{accesses_to}
@@ -23,14 +23,14 @@ HistoriesFindTheFirstRace =
     → IsRightVerdict (own_columns s) (accesses_to cell s.accesses)
     (found_race_of_cell (own_columns s) (starts_of events) s.accesses cell)
 
--- the histories of all cells find nothing exactly where there is no race
+-- the histories of all cells find nothing exactly when there is no race
 abbrev pub HistoriesDecideRaces : Type 0
 HistoriesDecideRaces =
     (p : Pipeline) (limit : ℕ) (events : List Event) (s : State) → Run p limit events s
     → ((cell : ℕ) → found_race_of_cell (own_columns s) (starts_of events) s.accesses cell ≡ None)
     ↔ IsRaceFree (own_columns s) s.accesses
 
--- the reports of the first races of all cells are right, where `cells` is above the number of each cell that is accessed
+-- the reports of the first races of all cells are right, if `cells` is greater than the number of each cell that is accessed
 abbrev pub ReportsAreRight : Type 0
 ReportsAreRight =
     (p : Pipeline) (limit : ℕ) (events : List Event) (s : State) (cells : ℕ) → Run p limit events s
@@ -45,7 +45,7 @@ NothingFoundIsSerial =
     → ((cell : ℕ) → found_race_of_cell (own_columns s) (starts_of events) s.accesses cell ≡ None)
     → IsSerial p s
 
--- where the serial elision has no race, the histories of no run find one
+-- if the serial elision has no race, the histories of no run find one
 abbrev pub RaceFreeElisionsFindNothing : Type 0
 RaceFreeElisionsFindNothing =
     (p : Pipeline) (limit : ℕ) (events : List Event) (s : State) → Run p limit events s

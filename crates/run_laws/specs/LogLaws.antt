@@ -1,4 +1,4 @@
--- The law of the logs of a closed run: merged by their tickets they are a run.
+-- The law of the logs of a closed run: their merge by tickets is a run.
 use Rattle.std.specs.Prelude.{ℕ, List, ◌≡◌, map}
 use Rattle.pipe_model.specs.Pipelines.Pipeline.{Pipeline}
 use Rattle.pipe_model.specs.Runs.Run.{Run, IsFinished}
@@ -8,7 +8,7 @@ use Rattle.pipe_model.specs.declared.ticket.BookEntry.{BookEntry}
 use Rattle.pipe_model.specs.declared.ticket.ShardEntry.{ShardEntry}
 use Rattle.pipe_model.specs.declared.event.Event.{Event}
 
--- the events are a run, with the columns of this state of the control part, and finished where that is
+-- the events are a run, with the columns of this state of the control part, and finished if that is
 pub record MakesRun (p : Pipeline) (limit : ℕ) (events : List Event) (c : State) : Type 0 where
   pub state : State
   pub run : Run p limit events state

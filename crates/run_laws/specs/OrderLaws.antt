@@ -16,7 +16,7 @@ use Rattle.pipe_model.specs.declared.node.Node.{Node}
 use Rattle.pipe_model.specs.declared.node.NodeId.{NodeId}
 use Rattle.run_laws.specs.EachRun.{OfEachRun}
 
--- what the starts of a run are: the instances of its own columns, each once, each after all that have an edge to it
+-- the starts of a run are the instances of its own columns, each once, and each after all that have an edge to it
 pub record HasStarts (events : List Event) (s : State) : Type 0 where
   pub columns : AreColumns (own_columns s)
   pub ordered : AreStarts (own_columns s) (starts_of events)
@@ -26,20 +26,20 @@ pub record HasStarts (events : List Event) (s : State) : Type 0 where
 abbrev pub StartedNodesAreOwnNodes : Type 0
 StartedNodesAreOwnNodes = OfEachRun (λ limit events s. HasStarts events s)
 
--- before in both orders is exactly precedes, for any list of starts that respects the edges
+-- x is before y in both lists exactly when x precedes y, for any list of starts that respects the edges
 abbrev pub BothOrdersOfStarts : Type 0
 BothOrdersOfStarts =
     (columns : List (List Node)) (starts : List NodeId) → AreColumns columns → AreStarts columns starts
     → (x y : NodeId) → IsStarted starts x → IsStarted starts y
     → IsBeforeInBoth columns starts x y ↔ Precedes columns x y
 
--- before in both orders is exactly precedes, in every run
+-- x is before y in both lists exactly when x precedes y, in every run
 abbrev pub BothOrdersArePrecedes : Type 0
 BothOrdersArePrecedes = OfEachRun (λ limit events s.
     (x y : NodeId) → IsNodeOf (own_columns s) x → IsNodeOf (own_columns s) y
     → IsBeforeInBoth (own_columns s) (starts_of events) x y ↔ Precedes (own_columns s) x y)
 
--- no two instances take one element of a list
+-- no two instances take the same element of a list
 pub record TakesEachOnce (columns : List (List Node)) (starts : List NodeId) : Type 0 where
   pub down : (x y : NodeId) → IsStarted starts x → IsStarted starts y
       → down_element starts x ≡ down_element starts y → x ≡ y
@@ -50,7 +50,7 @@ pub record TakesEachOnce (columns : List (List Node)) (starts : List NodeId) : T
 abbrev pub PlaceholdersAreTakenOnce : Type 0
 PlaceholdersAreTakenOnce = OfEachRun (λ limit events s. TakesEachOnce (own_columns s) (starts_of events))
 
--- the left parent is the source of the left edge, where that does not precede the instance above
+-- the left parent is the source of the left edge, if that does not precede the instance above
 abbrev pub LeftParentsAreSources : Type 0
 LeftParentsAreSources = OfEachRun (λ limit events s.
     (i j k : ℕ) → i + 1 < length (own_columns s) → suc k < length (nodes_at (own_columns s) (i + 1))
@@ -58,8 +58,8 @@ LeftParentsAreSources = OfEachRun (λ limit events s.
     ↔ (CrossEdge (nodes_at (own_columns s) i) (nodes_at (own_columns s) (i + 1)) j (suc k)
     × (Precedes (own_columns s) (at i j) (at (suc i) k) → ⊥)))
 
--- the left parent of an instance below a head, told by a search of the left column: if it waits it is the place that is
--- found, where that is after the one that precedes the instance above already, and if it continues there is none
+-- the left parent of an instance below a head, by a search of the left column: if the instance waits, the index that is
+-- found, if that is after the last index that already precedes the instance above; if it continues, there is none
 pub record LeftParentFound (columns : List (List Node)) (i k : ℕ) : Type 0 where
   pub wait : (j : ℕ) → (node_at (nodes_at columns (i + 1)) (suc k)).kind ≡ Wait
       → last_up_to (nodes_at columns i) (node_at (nodes_at columns (i + 1)) (suc k)).number ≡ Some j
@@ -88,19 +88,19 @@ pub record AddsEntries (events : List Event) (s : State) (e : Event) : Type 0 wh
 abbrev pub LogsGrowAtTheirEnd : Type 0
 LogsGrowAtTheirEnd = OfEachRun (λ limit events s. (e : Event) → ControlAllows limit s e → AddsEntries events s e)
 
--- each entry of both logs of a run names an element that stands already
+-- each entry of both logs of a run names an element that is already in the list
 abbrev pub LogsNameWhatStands : Type 0
 LogsNameWhatStands = OfEachRun (λ limit events s.
     IsLog 1 (down_first_log (starts_of events)) × IsLog 1 (right_first_log (own_columns s) (starts_of events)))
 
--- a longer log changes the order of no two elements that were there
+-- a longer log keeps the order of the elements that were there
 abbrev pub LongerLogsKeepTheOrder : Type 0
 LongerLogsKeepTheOrder =
     (log more : List ℕ) (x y : ℕ) → IsLog 1 (log ++ more)
     → has x (list_of_log log) ≡ true → has y (list_of_log log) ≡ true
     → StandsBefore (list_of_log (log ++ more)) x y ↔ StandsBefore (list_of_log log) x y
 
--- one entry more puts the next element right after the element that it names
+-- one more entry inserts the next element right after the element that it names
 pub record InsertsNext (log : List ℕ) (x : ℕ) : Type 0 where
   pub list : list_of_log (log ++ x ∷ []) ≡ insert_after x (1 + length log) (list_of_log log)
   pub names : IsLog 1 log → x < 1 + length log → IsLog 1 (log ++ x ∷ [])

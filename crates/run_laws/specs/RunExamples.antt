@@ -43,18 +43,18 @@ redundant_columns =
     (node_of Zero (pos 0) ∷ node_of Continue (pos 5) ∷ [])
     ∷ (node_of Zero (pos 0) ∷ node_of Wait (pos 1) ∷ []) ∷ []
 
--- its edge comes from stage 0, which precedes the instance above it already, so it is not the left parent
+-- its edge is from stage 0, which already precedes the instance above it, so that is not the left parent
 pub record RedundantEdgeHasNoParent : Type 0 where
   pub edge : Edge redundant_columns (at 0 0) (at 1 1)
   pub above : Precedes redundant_columns (at 0 0) (at 1 0)
   pub none : left_parent redundant_columns 1 1 ≡ None
 
--- a stage that waits enters only once its left neighbour has named a greater number, and not in an equal stage
+-- a stage that waits is entered only after its left neighbour has named a greater number; an equal number is not enough
 pub record WaitsUntilPassed : Type 0 where
   pub running : HasPassed Running (node_of Zero (pos 0) ∷ node_of Wait (pos 1) ∷ []) (pos 1) → ⊥
   pub pending : HasPassed (Pending Wait (pos 2)) (node_of Zero (pos 0) ∷ node_of Wait (pos 1) ∷ []) (pos 1)
 
--- two columns with the stages 0 and 1, both of which wait in stage 1
+-- two columns that each have the stages 0 and 1 and wait in stage 1
 abbrev pub waiting_columns : List (List Node)
 waiting_columns =
     (node_of Zero (pos 0) ∷ node_of Wait (pos 1) ∷ []) ∷ (node_of Zero (pos 0) ∷ node_of Wait (pos 1) ∷ []) ∷ []
@@ -70,18 +70,18 @@ pub record ListsOfWaitingColumns : Type 0 where
   pub down_elements : map (down_element waiting_starts) waiting_starts ≡ 0 ∷ 2 ∷ 1 ∷ 3 ∷ []
   pub right_elements : map (right_element waiting_columns waiting_starts) waiting_starts ≡ 0 ∷ 1 ∷ 2 ∷ 5 ∷ []
 
--- an access of an instance to cell 2
+-- an access with the instance that makes it
 abbrev pub access_of : NodeId → Access → NodeAccess
 access_of x a = record { node = x; access = a }
 
--- (1, 0) writes a cell that (0, 1) reads then: they are parallel, so the history finds a race at the read
+-- (1, 0) writes a cell that (0, 1) then reads: they are parallel, so the history finds a race at the read
 abbrev pub ParallelReadIsFound : Type 0
 ParallelReadIsFound =
     found_race_of_cell waiting_columns waiting_starts
     (access_of (at 1 0) (write_access 2 (pos 7)) ∷ access_of (at 0 1) (read_access 2 (pos 7)) ∷ []) 2
     ≡ Some (record { number = 1; earlier = noted_access (at 1 0) Write })
 
--- (0, 1) writes a cell that (1, 1) reads then: the one precedes the other, so the history finds nothing
+-- (0, 1) writes a cell that (1, 1) then reads: the one precedes the other, so the history finds nothing
 abbrev pub OrderedReadIsNoRace : Type 0
 OrderedReadIsNoRace =
     found_race_of_cell waiting_columns waiting_starts

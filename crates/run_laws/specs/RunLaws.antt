@@ -1,4 +1,4 @@
--- Laws of runs: what every run keeps, that it goes on, and that it comes to an end.
+-- Laws of runs: what every run keeps, that it goes on, and that its length is bounded.
 use Rattle.std.specs.Prelude.{List, ℕ, suc, length, ◌≡◌, ◌+◌, ◌≤◌, ◌<◌, false, ◌≢◌, ◌⊎◌, zero, ◌*◌, ◌↔◌}
 use Rattle.pipe_model.specs.Runs.Allowed.{Allowed, IsClosed, LastEndedFirstInstance, MayBegin}
 use Rattle.pipe_model.specs.Races.Columns.{IsRising, nodes_at}
@@ -12,7 +12,7 @@ use Rattle.pipe_model.specs.declared.event.Event.{Event}
 use Rattle.pipe_model.specs.declared.event.Event.TheVariants.{Stop}
 use Rattle.run_laws.specs.EachRun.{OfEachRun}
 
--- what every run keeps: iterations have begun_count, are alive or have ended; after each event at most `limit` are alive; the
+-- what every run keeps: iterations that have begun are alive or have ended; after each event at most `limit` are alive; the
 -- stage numbers of an iteration rise; and each access is made by an instance of the run
 pub record KeepsRules (limit : ℕ) (events : List Event) (s : State) : Type 0 where
   pub columns : begun_count events ≡ length (own_columns s)
@@ -28,27 +28,27 @@ RunsKeepRules =
     (p : Pipeline) (limit : ℕ) (events : List Event) (s : State) → Run p limit events s
     → KeepsRules limit events s
 
--- a run is told from the front as well, and its state is what the events make
+-- a run can also be defined from its first event, and its state is the one after its events
 abbrev pub RunsFromTheFront : Type 0
 RunsFromTheFront =
     (p : Pipeline) (limit : ℕ) (events : List Event) (s : State)
     → Run p limit events s ↔ (AllowedFrom p limit initial_state events × (s ≡ state_from initial_state events))
 
--- a run that is neither ended_count nor stopped goes on, with an event other than a stop
+-- a run that is neither finished nor stopped goes on, with an event other than a stop
 abbrev pub RunsNeverStick : Type 0
 RunsNeverStick =
     (p : Pipeline) (limit : ℕ) (events : List Event) (s : State) → Run p limit events s
     → IsWellFormed p → 0 < limit → s.stopped ≡ false
     → IsFinished s ⊎ ((e : Event) × (e ≢ Stop) × Allowed p limit s e)
 
--- the next iteration may begin exactly where fewer than the limit are alive, the loop is not closed, and the iteration
+-- the next iteration may begin exactly when fewer than the limit are alive, the loop is not closed, and the iteration
 -- that began last has ended its instance 0
 abbrev pub IterationsBeginInTurn : Type 0
 IterationsBeginInTurn = OfEachRun (λ limit events s.
     MayBegin limit s (length s.frames)
     ↔ ((alive s < limit) × (IsClosed s.frames → ⊥) × LastEndedFirstInstance s.frames))
 
--- a state is ended_count exactly where it was not stopped, the loop is closed, and no iteration is alive
+-- a state is finished exactly when it was not stopped, the loop is closed, and no iteration is alive
 abbrev pub FinishedStatesAreClosed : Type 0
 FinishedStatesAreClosed =
     (s : State) → IsFinished s ↔ ((s.stopped ≡ false) × IsClosed s.frames × (alive s ≡ 0))
@@ -58,7 +58,7 @@ abbrev pub sum_below : (ℕ → ℕ) → ℕ → ℕ
 sum_below f zero = 0
 sum_below f (suc n) = sum_below f n + f n
 
--- where iteration i makes at most `more i` further instances of at most `each` accesses each, a run that was not stopped
+-- if iteration i makes at most `more i` further instances of at most `each` accesses each, a run that was not stopped
 -- has at most this many events, and no iteration after the one that always closes the loop
 abbrev pub RunsAreBounded : Type 0
 RunsAreBounded =

@@ -20,11 +20,11 @@ pub record HasSerialRun (p : Pipeline) (limit : ℕ) : Type 0 where
   pub ended : map column_of_frame state.frames ≡ serial_ended_columns p
   pub accesses : state.accesses ≡ serial_accesses p
 
--- the serial elision is a run, whatever the limit, where that is at least 1
+-- the serial elision is a run, for every limit of at least 1
 abbrev pub SerialElisionIsARun : Type 0
 SerialElisionIsARun = (p : Pipeline) (limit : ℕ) → IsWellFormed p → 0 < limit → HasSerialRun p limit
 
--- the run has the columns and ends of the serial elision, and writes to each cell, in order, what that writes;
+-- the run has the columns and ends of the serial elision, and writes to each cell the same values in the same order;
 -- and the serial elision has no race
 pub record IsSerial (p : Pipeline) (s : State) : Type 0 where
   pub columns : own_columns s ≡ serial_columns p
@@ -41,7 +41,7 @@ RaceFreeRunsAreSerial =
     → IsRaceFree (own_columns s) s.accesses
     → IsSerial p s
 
--- where the serial elision has no race, no run has one, finished or not
+-- if the serial elision has no race, no run has one, finished or not
 abbrev pub RaceFreeElisionsHaveRaceFreeRuns : Type 0
 RaceFreeElisionsHaveRaceFreeRuns =
     (p : Pipeline) (limit : ℕ) (events : List Event) (s : State) → Run p limit events s
@@ -49,7 +49,7 @@ RaceFreeElisionsHaveRaceFreeRuns =
     → IsRaceFree (serial_columns p) (serial_accesses p)
     → IsRaceFree (own_columns s) s.accesses
 
--- a finished run has no race exactly where the serial elision has none
+-- a finished run has no race exactly when the serial elision has none
 abbrev pub RacesAreThoseOfTheElision : Type 0
 RacesAreThoseOfTheElision =
     (p : Pipeline) (limit : ℕ) (events : List Event) (s : State) → Run p limit events s

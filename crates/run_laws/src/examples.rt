@@ -4,8 +4,8 @@ ghost use Rattle.run_laws.specs.RunExamples.{WaitsForTheStageBefore, SkippingSta
 ghost use Rattle.run_laws.specs.RunExamples.{RedundantEdgeHasNoParent, WaitsUntilPassed, ListsOfWaitingColumns};
 ghost use Rattle.run_laws.specs.RunExamples.{ParallelReadIsFound, OrderedReadIsNoRace, SerialEventsOfTwoIterations};
 
-/// An instance that waits in a stage which the left column skips takes its edge from the last stage before it, and from
-/// no other.
+/// An instance that waits in a stage which the left column skips takes its edge from the last stage
+/// before it, and from no other.
 #[tactic(auto, using(crate::proofs::WorkedExamples::waits_for_the_stage_before))]
 pub fn waits_for_the_stage_before()
     ensures { WaitsForTheStageBefore }
@@ -17,21 +17,21 @@ pub fn skipping_stages_are_parallel()
     ensures { SkippingStagesAreParallel }
 {}
 
-/// An edge whose source precedes the instance above already gives no left parent.
+/// An edge whose source already precedes the instance above makes no left parent.
 #[tactic(auto, using(crate::proofs::WorkedExamples::redundant_edge_has_no_parent))]
 pub fn redundant_edge_has_no_parent()
     ensures { RedundantEdgeHasNoParent }
 {}
 
-/// A stage that waits does not enter while its left neighbour runs the stage of that number; once the neighbour has named
-/// a greater one it does.
+/// A stage that waits is not entered while the left neighbour runs the stage of that number; it is
+/// once the neighbour has named a greater number.
 #[tactic(auto, using(crate::proofs::WorkedExamples::waits_until_passed))]
 pub fn waits_until_passed()
     ensures { WaitsUntilPassed }
 {}
 
-/// The down-first and the right-first list of two columns with the stages 0 and 1, both of which wait, started head by
-/// head.
+/// The down-first and the right-first list of two columns that each have the stages 0 and 1 and
+/// wait in stage 1; the instances start head by head.
 #[tactic(auto, using(crate::proofs::WorkedExamples::lists_of_waiting_columns))]
 pub fn lists_of_waiting_columns()
     ensures { ListsOfWaitingColumns }
@@ -43,7 +43,7 @@ pub fn parallel_read_is_found()
     ensures { ParallelReadIsFound }
 {}
 
-/// It finds nothing where the write precedes the read.
+/// The history of a cell finds nothing if the write precedes the read.
 #[tactic(auto, using(crate::proofs::WorkedExamples::ordered_read_is_no_race))]
 pub fn ordered_read_is_no_race()
     ensures { OrderedReadIsNoRace }

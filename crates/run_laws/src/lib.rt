@@ -1,7 +1,7 @@
 //! Laws of pipelines, their runs, the two orders of a run and the access histories.
 //!
-//! There is no code here. Each public function has an empty body, and its contract is one law about the
-//! definitions of `pipe_model`; `specs/` states the laws, and `proofs/` proves them.
+//! There is no code here. Each public function has an empty body, and its contract is one law about
+//! the definitions of `pipe_model`; `specs/` states the laws, and `proofs/` proves them.
 #![tactic(auto)]
 
 pub mod behaviours;

@@ -1,5 +1,5 @@
 -- The canonical text: the one text in which a program is printed, as a function of its tree.
--- Round brackets stand exactly where the tree needs them, and each line is indented by the blocks round it.
+-- There are round brackets exactly where the tree needs them, and each line is indented by two spaces for each block around it.
 use Rattle.std.specs.Prelude.{ℕ, ◌+◌, ℤ, List, [], ◌∷◌, ◌++◌, Option, Some, None, nat_le, ◌==◌, if◌then◌else◌, codes, slice_index_or, replicate}
 use Rattle.pipe_model.specs.declared.operator_codes.TheConstants as operator_codes
 use Rattle.std.specs.Fmt.{signed_decimal}
@@ -14,7 +14,7 @@ use Rattle.pipe_model.specs.Language.Grammar.{level_of, operand_level}
 
 -- ---- expressions
 
--- the text of a two-place operator by its code; none where no operator has the code
+-- the text of a two-place operator by its code; empty if no operator has the code
 abbrev pub operator_text : ℕ → List ℕ
 operator_text code = slice_index_or ([] ∷ operators) code []
 
@@ -22,7 +22,7 @@ operator_text code = slice_index_or ([] ∷ operators) code []
 abbrev pub one_place_text : ℕ → List ℕ
 one_place_text code = if code == operator_codes.NEGATIVE then codes "-" else codes "!"
 
--- how tightly an expression holds together: as its two-place operator binds, if it is one
+-- the level of an expression: that of its outermost operator if that has two places, and else that of operands
 abbrev pub level_in : Expression → ℕ
 level_in (Or a b) = level_of operator_codes.OR
 level_in (And a b) = level_of operator_codes.AND
@@ -35,16 +35,15 @@ level_in More = operand_level
 level_in Take = operand_level
 level_in Iter = operand_level
 
--- a text where a certain level is needed: in round brackets where its own is lower
+-- a text in a position that needs a level: in round brackets if its own level is lower
 abbrev pub at_level : (needed own : ℕ) → List ℕ → List ℕ
 at_level needed own text = if nat_le needed own then text else codes "(" ++ (text ++ codes ")")
 
--- a two-place operator between its sides, of these levels and texts; the right side needs a higher level
+-- a two-place operator between two sides with these levels and texts; the right side needs a higher level
 abbrev pub two_place : (code left_level right_level : ℕ) → (left right : List ℕ) → List ℕ
 two_place code left_level right_level left right =
     at_level (level_of code) left_level left ++ (codes " " ++ (operator_text code ++ (codes " " ++ at_level (level_of code + 1) right_level right)))
 
--- an expression
 abbrev pub expression_text : Expression → List ℕ
 expression_text (Number n) = signed_decimal n
 expression_text (Name x) = x
@@ -59,7 +58,7 @@ expression_text Iter = codes "iter()"
 
 -- ---- statements
 
--- a line, indented by so many spaces
+-- a line, indented by `indent` spaces
 abbrev pub line : ℕ → List ℕ → List ℕ
 line indent text = replicate indent 32 ++ (text ++ codes "\n")
 
@@ -68,13 +67,13 @@ abbrev pub stage_word : StageKind → List ℕ
 stage_word kinds.Wait = codes "pipe_wait"
 stage_word kinds.Continue = codes "pipe_continue"
 
--- an else part behind a block, where it is not empty: its opening line and the lines of its block
+-- an else part after a block, if it is not empty: its opening line and the lines of its block
 abbrev pub else_text : ℕ → Statements → List ℕ → List ℕ
 else_text indent Empty block = []
 else_text indent (Then s ss) block = line indent (codes "} else {") ++ block
 
 abbrev mutual
-  -- a statement, its lines indented by so many spaces
+  -- a statement, indented by `indent` spaces
   pub statement_text : ℕ → Statement → List ℕ
   statement_text indent (Let x e) = line indent (codes "let " ++ (x ++ (codes " = " ++ (expression_text e ++ codes ";"))))
   statement_text indent (Assign x e) = line indent (x ++ (codes " = " ++ (expression_text e ++ codes ";")))
@@ -96,7 +95,6 @@ abbrev mutual
 
 -- ---- programs
 
--- the line of limits
 abbrev pub limits_text : Limits → List ℕ
 limits_text limits =
     line 0 (codes "limits iterations " ++ (signed_decimal limits.iterations ++ (codes ", stages " ++ (signed_decimal limits.stages
@@ -111,16 +109,14 @@ size_text (Some n) = codes "[" ++ (signed_decimal n ++ codes "]")
 abbrev pub cell_text : Declaration → List ℕ
 cell_text d = line 0 (codes "cell " ++ (d.name ++ (size_text d.size ++ (codes " = " ++ (signed_decimal d.value ++ codes ";")))))
 
--- a part of the program that is missing where it is empty: its word and its block
+-- a part of the program, which is left out if it is empty: its word and its block
 abbrev pub part_text : List ℕ → Statements → List ℕ
 part_text word Empty = []
 part_text word (Then s ss) = line 0 (word ++ codes " {") ++ (statements_text 2 (Then s ss) ++ line 0 (codes "}"))
 
--- the loop
 abbrev pub loop_text : Expression → Statements → List ℕ
 loop_text test body = line 0 (codes "pipe_while (" ++ (expression_text test ++ codes ") {")) ++ (statements_text 2 body ++ line 0 (codes "}"))
 
--- a program
 abbrev pub program_text : SyntaxTree → List ℕ
 program_text tree =
     limits_text tree.limits ++ (flat_map cell_text tree.cells ++ (part_text (codes "init") tree.init

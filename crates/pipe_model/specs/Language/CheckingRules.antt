@@ -1,5 +1,5 @@
--- The rules that a program obeys beside its grammar, and the first of them that it breaks.
--- Limits come first, in their order, and then the marks in the order of the text; at one mark the earlier rule of the list counts.
+-- The rules that a program must obey besides the grammar, and the first that it breaks.
+-- Limits are checked first, in their order, and then the marks, in the order of the text; at one mark the rule that is earlier in the list counts.
 use Rattle.std.specs.Prelude.{ℕ, ℤ, pos, Bool, true, false, not, ◌&&◌, ◌||◌, List, [], ◌∷◌, length, Option, Some, None, ◌+◌, ◌==◌, if◌then◌else◌, is_some, nat_lt, nat_le, int_lt}
 use Rattle.pipe_model.specs.declared.bounds.TheConstants.{MOST_CELLS, MOST_LOCALS, MOST_ITERATIONS, MOST_STAGES, MOST_INSTANCES, MOST_STEPS, MOST_EMITS}
 use Rattle.std.proofs.Math.IntN.{◌*ℤ◌}
@@ -13,7 +13,7 @@ use Rattle.pipe_model.specs.Language.Marks.{Scope, Occurrence, DeclaredCell, Dec
 use Rattle.pipe_model.specs.Language.Programs.{declared_size}
 use Rattle.pipe_model.specs.Language.SyntaxTree.{SyntaxTree}
 
--- the rules of marks
+-- the rules that a mark can break
 pub data CheckingRule : Type 0 where
   Unknown : CheckingRule
   Twice : CheckingRule
@@ -24,11 +24,11 @@ pub data CheckingRule : Type 0 where
   NeedsIndex : CheckingRule
   ZeroSize : CheckingRule
 
--- the rules, the one that counts first at one mark first
+-- the rules in the order in which they count at one mark
 abbrev pub rules_in_order : List CheckingRule
 rules_in_order = Unknown ∷ Twice ∷ PipeOutside ∷ TooManyCells ∷ TooManyLocals ∷ NotAnArray ∷ NeedsIndex ∷ ZeroSize ∷ []
 
--- the size with which the name is declared, where it is the name of a cell; a plain cell has none
+-- the size with which the name is declared, if it is the name of a cell; a plain cell has no size
 abbrev pub size_in : List Declaration → List ℕ → Option (Option ℤ)
 size_in [] x = None
 size_in (d ∷ ds) x = if bytes_eq d.name x then Some d.size else size_in ds x
@@ -37,19 +37,19 @@ size_in (d ∷ ds) x = if bytes_eq d.name x then Some d.size else size_in ds x
 abbrev pub is_cell : List Declaration → List ℕ → Bool
 is_cell cells x = is_some (size_in cells x)
 
--- how many cells these declarations have, array elements counted
+-- the number of cells of these declarations; each array element is a cell
 abbrev pub cell_total : List Declaration → ℕ
 cell_total [] = 0
 cell_total (d ∷ ds) = declared_size d.size + cell_total ds
 
--- what a used name stands for
+-- what a used name refers to
 pub data Meaning : Type 0 where
   Nothing : Meaning
   Local : Meaning
   PlainCell : Meaning
   Array : Meaning
 
--- what the name of a cell stands for
+-- what a name refers to, by the size of the cell of this name, if there is one
 abbrev pub cell_meaning : Option (Option ℤ) → Meaning
 cell_meaning None = Nothing
 cell_meaning (Some None) = PlainCell
@@ -59,7 +59,7 @@ cell_meaning (Some (Some n)) = Array
 abbrev pub is_among : List (List ℕ) → List ℕ → Bool
 is_among names x = list_any (λ name. bytes_eq name x) names
 
--- what the name stands for at a place: a local in scope, or else a cell
+-- what the name refers to in this scope: a local, or else a cell
 abbrev pub meaning_at : Scope → List ℕ → Meaning
 meaning_at scope x = if is_among scope.visible x then Local else cell_meaning (size_in scope.cells x)
 
@@ -70,7 +70,7 @@ is_nothing Local = false
 is_nothing PlainCell = false
 is_nothing Array = false
 
--- it has no elements
+-- it is a local or a plain cell
 abbrev pub is_single : Meaning → Bool
 is_single Nothing = false
 is_single Local = true
@@ -84,7 +84,7 @@ is_array Local = false
 is_array PlainCell = false
 is_array Array = true
 
--- in the region `iter` may stand
+-- `iter` is allowed in the region
 abbrev pub has_iteration : Region → Bool
 has_iteration regions.Cells = false
 has_iteration regions.Init = false
@@ -92,7 +92,7 @@ has_iteration regions.Test = true
 has_iteration regions.Body = true
 has_iteration regions.Last = false
 
--- in the region a stage statement may stand
+-- stage statements are allowed in the region
 abbrev pub has_stages : Region → Bool
 has_stages regions.Cells = false
 has_stages regions.Init = false
@@ -100,7 +100,7 @@ has_stages regions.Test = false
 has_stages regions.Body = true
 has_stages regions.Last = false
 
--- which occurrences break a rule, and where
+-- the occurrence breaks the rule in this scope
 abbrev pub breaks : CheckingRule → Scope → Occurrence → Bool
 breaks Unknown scope (Plain x) = is_nothing (meaning_at scope x)
 breaks Unknown scope (Indexed x) = is_nothing (meaning_at scope x)
@@ -120,7 +120,7 @@ abbrev pub first_broken : Mark → List CheckingRule → Option CheckingRule
 first_broken mark [] = None
 first_broken mark (rule ∷ rules) = if breaks rule mark.scope mark.occurrence then Some rule else first_broken mark rules
 
--- the rule that counts at the mark
+-- the rule that counts at the mark, if the mark breaks one
 abbrev pub broken_at : Mark → Option CheckingRule
 broken_at mark = first_broken mark rules_in_order
 
@@ -129,17 +129,17 @@ pub data Fault : Type 0 where
   OutOfLimit : ℕ → Fault  -- which limit
   Broken : CheckingRule → ℕ → Fault  -- a rule, and the number of the mark that breaks it
 
--- the fault of a mark with this number, or else what follows
+-- the fault of the mark with this number, if it has one, or else `rest`
 abbrev pub fault_or : Option CheckingRule → ℕ → Option Fault → Option Fault
 fault_or (Some rule) n rest = Some (Broken rule n)
 fault_or None n rest = rest
 
--- the first fault of marks of which the first has the number n
+-- the first fault of these marks, which are numbered from n
 abbrev pub first_fault : ℕ → List Mark → Option Fault
 first_fault n [] = None
 first_fault n (mark ∷ marks) = fault_or (broken_at mark) n (first_fault (n + 1) marks)
 
--- from low to high, both counted in
+-- from low to high, both included
 abbrev pub is_between : ℤ → ℤ → ℤ → Bool
 is_between low high z = not (int_lt z low) && not (int_lt high z)
 
@@ -153,7 +153,7 @@ first_limit_out limits =
     else (if int_lt MOST_EMITS limits.emits then Some 5
     else None))))
 
--- the fault of a limit, or else what follows
+-- the fault of a limit, if one is out of its range, or else `rest`
 abbrev pub limit_fault_or : Option ℕ → Option Fault → Option Fault
 limit_fault_or (Some which) rest = Some (OutOfLimit which)
 limit_fault_or None rest = rest

@@ -18,7 +18,7 @@ pub record Local : Type 0 where
   pub name : List ℕ
   pub value : ℤ
 
--- a declared name's first cell, and how many cells there are
+-- the first cell of a declared name, and the number of its cells
 pub record CellRange : Type 0 where
   pub first : ℕ
   pub size : ℕ
@@ -31,7 +31,7 @@ pub record World : Type 0 where
   pub stages : ℕ
   pub emits : ℕ
 
--- where a part of a program runs: its declared names, a bound on the turns of one loop, and the rest of the world
+-- what a part of a program runs with: the declared names, a bound on the turns of one loop, and the world
 pub record Setting : Type 0 where
   pub cells : List ℕ → Option CellRange
   pub turns : ℕ
@@ -42,7 +42,7 @@ pub record StagePosition : Type 0 where
   pub number : ℤ
   pub count : ℕ
 
--- what a statement finds and leaves: the locals in scope, and the stage
+-- the state that a statement reads and changes: the locals in scope, and the stage
 pub record Environment : Type 0 where
   pub locals : List Local
   pub stage : StagePosition
@@ -58,7 +58,7 @@ is_i64 (negsuc n) = nat_lt n (2 ^ 63)
 abbrev pub truth : Bool → ℤ
 truth b = if b then pos 1 else pos 0
 
--- the first at 0, and else the second
+-- the first if the number is 0, and else the second
 abbrev pub if_zero : {A : Type 0} → ℤ → A → A → A
 if_zero (pos zero) a b = a
 if_zero (pos (suc n)) a b = b
@@ -68,11 +68,11 @@ if_zero (negsuc n) a b = b
 abbrev pub truth_of : ℤ → ℤ
 truth_of v = if_zero v (pos 0) (pos 1)
 
--- the number where it is an `i64`
+-- the number if it is an `i64`, and else the trap Overflow
 abbrev pub fitting : ℤ → Interaction ℤ
 fitting v = if is_i64 v then Return v else Raise traps.Overflow
 
--- the quotient or the remainder, given as the last argument, where the divisor is not 0 and the quotient is an `i64`
+-- the last argument, which is the quotient or the remainder, if the divisor is not 0 and the quotient is an `i64`
 abbrev pub divided : ℤ → ℤ → ℤ → Interaction ℤ
 divided a b v = if_zero b (Raise traps.DivZero) (bind (fitting (int_div a b)) (λ quotient. Return v))
 
@@ -93,7 +93,7 @@ operate code a b =
     else (if code == operator_codes.REMAINDER then divided a b (int_rem a b)
     else Return (pos 0)))))))))))
 
--- the operation of a one-place operator, by its code; other codes occur in no program that a source spells either
+-- a one-place operator, by its code. A program that a source spells has no other codes, and for those the value is 0.
 abbrev pub operate_one : ℕ → ℤ → Interaction ℤ
 operate_one code a =
     if code == operator_codes.NEGATIVE then fitting (neg_ℤ a)
@@ -112,7 +112,7 @@ abbrev pub updated_locals : List Local → List ℕ → ℤ → List Local
 updated_locals [] x v = []
 updated_locals (l ∷ ls) x v = if bytes_eq l.name x then record l { value = v } ∷ ls else l ∷ updated_locals ls x v
 
--- the cell at an index that is inside the range
+-- the cell at an index, which must be inside the range
 abbrev pub element_in : ℕ → ℕ → ℤ → Interaction ℕ
 element_in first size (pos i) = if nat_lt i size then Return (first + i) else Raise traps.Index
 element_in first size (negsuc i) = Raise traps.Index
@@ -122,13 +122,13 @@ abbrev pub element_of : Option CellRange → ℤ → Interaction ℕ
 element_of None i = Raise traps.Index
 element_of (Some range) i = element_in range.first range.size i
 
--- a name's value: a local makes no access, and a cell is read
+-- the value of a name: reading a local is no access, and reading a cell is one
 abbrev pub named_value : Option ℤ → Option CellRange → Interaction ℤ
 named_value (Some v) range = Return v
 named_value None (Some range) = Get range.first Return
 named_value None None = Raise traps.Index
 
--- the input number at the cursor, which goes one further
+-- the input number at the cursor, which then moves by one
 abbrev pub take_at : List ℤ → ℤ → Interaction ℤ
 take_at input (pos n) = if nat_lt n (length input) then Set 0 (pos (n + 1)) (Return (slice_index_or input n (pos 0))) else Raise traps.InputEnd
 take_at input (negsuc n) = Raise traps.InputEnd
@@ -148,21 +148,21 @@ evaluate setting locals Iter = Step (Return (pos setting.world.iteration))
 
 -- ---- effects of statements
 
--- one local more
+-- adds a local
 abbrev pub declare_local : Environment → List ℕ → ℤ → Environment
 declare_local env x v = record env { locals = env.locals ++ record { name = x; value = v } ∷ [] }
 
--- a local is set, and a cell is written
+-- sets the local of this name, if there is one, and else writes to the cell
 abbrev pub assign : Environment → Option ℤ → Option CellRange → List ℕ → ℤ → Interaction Environment
 assign env (Some old) range x v = Return (record env { locals = updated_locals env.locals x v })
 assign env None (Some range) x v = Set range.first v (Return env)
 assign env None None x v = Raise traps.Index
 
--- the output is read, and written unless it has had as many numbers as its limit allows
+-- reads the cell of the output, and writes to it unless it has as many numbers as the limit allows
 abbrev pub emit : ℕ → ℤ → Interaction (Unit {0})
 emit limit v = Get 1 (λ count. if int_eq count (pos limit) then Raise traps.OutputLimit else Set 1 v (Return tt))
 
--- the instance ends and the next stage is named: its number is above the current one, and there is room for an instance
+-- ends the instance and names the next stage, whose number must be greater than the current one; there must be room for one more instance
 abbrev pub go_to_stage : ℕ → StageKind → StagePosition → ℤ → Interaction StagePosition
 go_to_stage stages kind here n =
     if int_lt here.number n
@@ -177,7 +177,7 @@ go_to_next_stage stages kind here = bind (fitting (here.number +ℤ pos 1)) (go_
 abbrev pub leave_block : Environment → Environment → Environment
 leave_block before after = record after { locals = take (length before.locals) after.locals }
 
--- at most so many turns of a loop; the budget of steps allows fewer
+-- a loop of at most this many turns; the budget of steps allows fewer
 abbrev pub loop_turns : ℕ → (Environment → Interaction ℤ) → (Environment → Interaction Environment) → Environment → Interaction Environment
 loop_turns zero test body env = Raise traps.Budget
 loop_turns (suc n) test body env =
@@ -205,11 +205,11 @@ abbrev mutual
 
 -- ---- iterations
 
--- where a body begins: no locals, stage 0, one instance
+-- at the beginning of a body: no locals, stage 0, one instance
 abbrev pub first_environment : Environment
 first_environment = record { locals = []; stage = record { number = pos 0; count = 1 } }
 
--- the loop's test has this value: 0 closes the loop, and no iteration follows the last that is allowed
+-- what follows a test of the loop with this value: 0 closes the loop; otherwise the body runs, unless the limit on iterations is reached
 abbrev pub after_test : World → ℤ → Interaction ColumnEnd → Interaction ColumnEnd
 after_test world v body = if_zero v (Return ends.Closed) (if int_eq (pos world.iteration) world.iterations then Raise traps.IterLimit else body)
 

@@ -1,7 +1,7 @@
 -- The first form of the language, as a part of the whole language: its programs have plain cells, `let`, assignment to a name, `emit`
 -- and stages in the body alone, and expressions of numbers and names with `<` and `+`. Brackets and empty blocks leave no trace in a
--- tree, so the symbols are counted too: the test and each stage have one `(`, and no word `init` or `final` stands among them.
--- Comments leave no symbol, and are free.
+-- tree, so the symbols are counted too: the test and each stage have one `(`, and no symbol is the word `init` or `final`.
+-- Comments have no symbols, so they are allowed.
 use Rattle.std.specs.Prelude.{◌≡◌, ℕ, ◌+◌, ℤ, Bool, true, false, List, ◌==◌, ◌||◌, ◌&&◌, Option, Some, None}
 use Rattle.std.specs.List.{count_by, list_all}
 use Rattle.pipe_model.specs.declared.symbol.Symbol.{Symbol}
@@ -51,11 +51,11 @@ abbrev pub is_no_size : Option ℤ → Bool
 is_no_size None = true
 is_no_size (Some n) = false
 
--- a cell, and no array
+-- a cell that is not an array
 abbrev pub is_plain_cell : Declaration → Bool
 is_plain_cell d = is_no_size d.size
 
--- one for a stage, and nothing for another statement
+-- 1 for a stage statement, and 0 for any other
 abbrev pub stages_of : Statement → ℕ
 stages_of (Let x e) = 0
 stages_of (Assign x e) = 0
@@ -66,7 +66,7 @@ stages_of (While e a) = 0
 stages_of (Stage kind e) = 1
 stages_of (NextStage kind) = 1
 
--- how many stages stand among the statements, outside inner blocks
+-- the number of stage statements among these, without those of inner blocks
 abbrev pub stages_in : Statements → ℕ
 stages_in Empty = 0
 stages_in (Then s ss) = stages_of s + stages_in ss

@@ -1,6 +1,6 @@
 -- The grammar of the whole language: which symbols derive which expression, and which pieces derive which statements and program,
--- one constructor a line of the grammar. A piece is one symbol, or the symbols of a full expression: one that is no part of another.
--- The bounds on brackets and on full expressions stand beside the grammar (Spelling), not in it.
+-- one constructor for each line of the grammar. A piece is one symbol, or the symbols of a full expression: one that is not part of another.
+-- The bounds on brackets and on full expressions are not part of the grammar; they are in Spelling.
 use Rattle.std.specs.Prelude.{◌≡◌, ℕ, suc, ℤ, pos, List, [], ◌∷◌, ◌++◌, slice_index, Option, Some, None}
 use Rattle.pipe_model.specs.declared.operator_codes.TheConstants as operator_codes
 use Rattle.pipe_model.specs.declared.levels.TheConstants.{ANY_EXPRESSION, OPERAND}
@@ -12,7 +12,7 @@ use Rattle.pipe_model.specs.declared.tree.Declaration.{Declaration}
 use Rattle.pipe_model.specs.Language.SyntaxTree.{Expression, Number, Name, Element, Unary, More, Take, Iter, binary_expression, Statement, Let, Assign, AssignElement, Emit, If, While, Stage, NextStage, Statements, Empty, Then, SyntaxTree}
 use Rattle.pipe_model.specs.Language.Words.{word_limits, word_iterations, word_stages, word_steps, word_emits, word_cell, word_init, word_pipe_while, word_pipe_wait, word_pipe_continue, word_final, word_let, word_if, word_else, word_while, word_emit, word_more, word_take, word_iter, minus, exclamation, open_round, close_round, comma, semicolon, equals, open_square, close_square, open_brace, close_brace}
 
--- the level of each two-place operator by its code from 1 to 13; 0 where no operator has the code
+-- the level of each two-place operator by its code from 1 to 13; 0 if no operator has the code
 abbrev pub level_of : ℕ → ℕ
 level_of code = slice_index (0 ∷ 1 ∷ 2 ∷ 3 ∷ 3 ∷ 4 ∷ 4 ∷ 4 ∷ 4 ∷ 5 ∷ 5 ∷ 6 ∷ 6 ∷ 6 ∷ []) code
 
@@ -25,7 +25,7 @@ abbrev pub any_expression : ℕ
 any_expression = ANY_EXPRESSION
 
 -- the symbols derive the expression at a level: an operand at the level of operands, and at a lower level expressions of the
--- next level with operators of this level between them, which group from the left
+-- next level with operators of this level between them, which are left-associative
 pub data Derives : ℕ → List Symbol → Expression → Type 0 where
   Numeral : (n : ℤ) → Derives operand_level (symbols.Number n ∷ []) (Number n)
   Named : (name : List ℕ) → Derives operand_level (symbols.Name name ∷ []) (Name name)
@@ -41,7 +41,6 @@ pub data Derives : ℕ → List Symbol → Expression → Type 0 where
   Joined : {level : ℕ} {left right : List Symbol} {a b : Expression} (code : ℕ) → level_of code ≡ level
       → Derives level left a → Derives (suc level) right b → Derives level (left ++ symbols.Operator code ∷ right) (binary_expression code a b)
 
--- a piece of a program
 pub data Piece : Type 0 where
   Single : Symbol → Piece
   FullExpression : List Symbol → Piece
@@ -53,7 +52,6 @@ flat (Single t ∷ ps) = t ∷ flat ps
 flat (FullExpression ts ∷ ps) = ts ++ flat ps
 
 mutual
-  -- a statement
   pub data DerivesStatement : List Piece → Statement → Type 0 where
     LetIs : {ts : List Symbol} {e : Expression} (name : List ℕ) → Derives any_expression ts e
         → DerivesStatement (Single word_let ∷ Single (symbols.Name name) ∷ Single equals ∷ FullExpression ts ∷ Single semicolon ∷ []) (Let name e)
@@ -114,7 +112,7 @@ pub data DerivesCells : List Piece → List Declaration → Type 0 where
       → DerivesSize ps size → DerivesValue qs value → DerivesCells rs ds
       → DerivesCells (Single word_cell ∷ Single (symbols.Name name) ∷ (ps ++ Single equals ∷ (qs ++ Single semicolon ∷ rs))) (declaration name size value ∷ ds)
 
--- the line of limits, before what follows it
+-- the line of limits, followed by these pieces
 abbrev pub limits_before : (iterations stages steps emits : ℤ) → List Piece → List Piece
 limits_before iterations stages steps emits ps =
     Single word_limits ∷ Single word_iterations ∷ Single (symbols.Number iterations) ∷ Single comma ∷ Single word_stages ∷ Single (symbols.Number stages)

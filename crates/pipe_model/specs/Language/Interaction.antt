@@ -1,5 +1,5 @@
--- Interaction trees (Xia et al. 2020) of statements, which also take steps of a budget: the behaviour that a tree has,
--- and what an interpreter does with it.
+-- Interaction trees (Xia et al. 2020) of statements, which also take steps of a budget: the behaviour of a tree,
+-- and how an interpreter runs it.
 use Rattle.std.specs.Prelude.{ℕ, ℤ, zero, suc, List, [], ◌∷◌, ◌++◌}
 use Rattle.pipe_model.specs.declared.access.Access.{Access}
 use Rattle.pipe_model.specs.declared.access.AccessKind.{AccessKind}
@@ -40,27 +40,27 @@ with_budget budget left (Get c go) = Reading c (λ v. with_budget budget left (g
 with_budget budget left (Set c v d) = Writing c v (with_budget budget left d)
 with_budget budget left (Stage k n d) = Staging k n (with_budget budget budget d)
 
--- how far an interpreter has come in an iteration: the actions so far, and the steps that are left
+-- how far an interpreter is in an iteration: the actions so far, and the steps that are left
 pub record Progress : Type 0 where
   pub actions : List Action
   pub left : ℕ
 
--- how a tree ends for an interpreter, with the state that it leaves
+-- how a tree ends for an interpreter, with the state at its end
 pub data Interpreted (S A : Type 0) : Type 0 where
   Returned : A → S → Interpreted S A
   Raised : Trap → S → Interpreted S A
 
--- what comes after an outcome; nothing after a trap
+-- goes on with the returned value and the state; after a trap there is nothing more to do
 abbrev pub interpreted_bind : {S A B : Type 0} → Interpreted S A → (A → S → Interpreted S B) → Interpreted S B
 interpreted_bind (Returned a k) f = f a k
 interpreted_bind (Raised t k) f = Raised t k
 
--- goes on with one step less, or stops where none is left
+-- goes on with one step less, or stops if none is left
 abbrev pub spend_step : {B : Type 0} → ℕ → B → (ℕ → B) → B
 spend_step zero stop go = stop
 spend_step (suc n) stop go = go n
 
--- one action more
+-- adds an action
 abbrev pub progress_with : Progress → Action → Progress
 progress_with k i = record k { actions = k.actions ++ i ∷ [] }
 
@@ -68,7 +68,7 @@ progress_with k i = record k { actions = k.actions ++ i ∷ [] }
 abbrev pub value_seen : InitialStore → List Access → Progress → ℕ → ℤ
 value_seen store base k c = value_after store (base ++ accesses_in k.actions) c
 
--- what an interpreter does with a tree
+-- runs a tree with a budget of steps for each instance, after the accesses `base`
 abbrev pub interpret : {A : Type 0} → InitialStore → List Access → ℕ → Interaction A → Progress → Interpreted Progress A
 interpret store base budget (Return a) k = Returned a k
 interpret store base budget (Raise t) k = Raised t k
@@ -82,12 +82,12 @@ abbrev pub interpreted_actions : Interpreted Progress ColumnEnd → List Action
 interpreted_actions (Returned e k) = k.actions ++ Ended e ∷ []
 interpreted_actions (Raised t k) = k.actions ++ Ended (ends.Trapped t) ∷ []
 
--- the reply in an access, if it is a read
+-- the replies with that of this access at the front, if it is a read
 abbrev pub reply_of : AccessKind → ℤ → List ℤ → List ℤ
 reply_of Read v rs = v ∷ rs
 reply_of Write v rs = rs
 
--- the replies that stand in a trace
+-- the values of the reads in a trace, in order
 abbrev pub replies_in : List Action → List ℤ
 replies_in [] = []
 replies_in (Accessed a ∷ is) = reply_of a.kind a.value (replies_in is)

@@ -1,4 +1,4 @@
--- Lexical structure: which text is which symbol, and which symbol is the longest at a place of a source.
+-- Lexical structure: which text is which symbol, and which symbol is the longest at an offset of a source.
 use Rattle.std.specs.Prelude.{◌≡◌, ◌≢◌, ℕ, ◌+◌, ◌-◌, ◌*◌, pos, Bool, List, [], ◌∷◌, ◌++◌, fold, nat_le, ◌==◌, ◌&&◌, ◌||◌, Option, Some, None, if◌then◌else◌, position, codes}
 use Rattle.std.specs.List.{list_all, list_any}
 use Rattle.std.specs.Str.{bytes_eq}
@@ -17,21 +17,21 @@ is_digit b = nat_le 48 b && nat_le b 57
 abbrev pub is_letter : ℕ → Bool
 is_letter b = (nat_le 65 b && nat_le b 90) || ((nat_le 97 b && nat_le b 122) || (b == 95))
 
--- what may follow in a name
+-- a byte that a name may have after its first
 abbrev pub is_name_byte : ℕ → Bool
 is_name_byte b = is_letter b || is_digit b
 
--- the number that decimal digits write
+-- the value of decimal digits
 abbrev pub number_of : List ℕ → ℕ
 number_of digits = fold (λ n d. 10 * n + (d - 48)) 0 digits
 
--- the reserved words, in the order by which a symbol names them
+-- the reserved words; a symbol names one by its index in this list
 abbrev pub reserved_words : List (List ℕ)
 reserved_words = codes "version" ∷ codes "limits" ∷ codes "iterations" ∷ codes "stages" ∷ codes "steps" ∷ codes "emits" ∷ codes "cell" ∷ codes "init"
     ∷ codes "pipe_while" ∷ codes "pipe_wait" ∷ codes "pipe_continue" ∷ codes "final" ∷ codes "let" ∷ codes "if" ∷ codes "else" ∷ codes "while"
     ∷ codes "emit" ∷ codes "more" ∷ codes "take" ∷ codes "iter" ∷ codes "input" ∷ codes "output" ∷ []
 
--- a reserved word where there is one at this place of their list, else a name
+-- the reserved word with this index, if there is one, and else a name
 abbrev pub word_or_name : Option ℕ → List ℕ → Symbol
 word_or_name (Some k) text = symbols.Word k
 word_or_name None text = symbols.Name text
@@ -49,7 +49,7 @@ operators = codes "||" ∷ codes "&&" ∷ codes "==" ∷ codes "!=" ∷ codes "<
 abbrev pub is_sign : ℕ → Bool
 is_sign b = list_any (λ s. s == b) (codes "!=()[]{},;")
 
--- the operator at this place of their list, or else the sign that is this one byte
+-- the operator with this index, if there is one, and else the sign that is this one byte
 abbrev pub operator_or_sign : Option ℕ → List ℕ → Option Symbol
 operator_or_sign (Some k) text = Some (symbols.Operator (k + 1))
 operator_or_sign None [] = None
@@ -68,6 +68,6 @@ symbol_of (b ∷ bs) =
     else (if is_digit b then (if list_all is_digit bs then Some (symbols.Number (pos (number_of (b ∷ bs)))) else None)
     else punctuation_symbol (b ∷ bs))
 
--- no longer front of what stands here is the text of a symbol
+-- no longer prefix of `text ++ rest` is the text of a symbol
 pub record IsLongest (text rest : List ℕ) : Type 0 where
   pub longest : (more after : List ℕ) (s : Symbol) → rest ≡ more ++ after → more ≢ [] → symbol_of (text ++ more) ≡ Some s → ⊥

@@ -1,4 +1,5 @@
--- The places of marks: of the tokens that the rules of programs speak of, which are the names and the words `iter`, `pipe_wait` and `pipe_continue`.
+-- The offsets of marks, in bytes. The marks are the tokens to which checking rules apply: the names and the words `iter`, `pipe_wait` and
+-- `pipe_continue`.
 use Rattle.std.specs.Prelude.{ℤ, pos, List, [], ◌∷◌, Bool, true, false, ◌==◌, ◌||◌, if◌then◌else◌}
 use Rattle.pipe_model.specs.declared.word_codes.TheConstants as words
 use Rattle.pipe_model.specs.declared.token.Token.{Token}
@@ -13,7 +14,7 @@ is_mark (kinds.Number n) = false
 is_mark (kinds.Operator code) = false
 is_mark (kinds.Sign b) = false
 
--- the places of the marks, in the order of the text
+-- the offsets of the marks, in the order of the text
 abbrev pub mark_places : List Token → List ℤ
 mark_places [] = []
 mark_places (token ∷ tokens) = if is_mark token.kind then pos token.place ∷ mark_places tokens else mark_places tokens

@@ -1,19 +1,19 @@
--- The marks of a program: the places of its text mark_at which a rule of the language can be broken, each with what is known there.
--- A mark is a name, the word `iter`, or the word of a stage statement. Marks stand in the order of the text, and are numbered from 0.
+-- The marks of a program: the points of its text at which a checking rule can be broken, each with what is known there.
+-- A mark is a name, the word `iter`, or the word of a stage statement. Marks are in the order of the text, numbered from 0.
 use Rattle.std.specs.Prelude.{ℕ, ℤ, List, [], ◌∷◌, ◌++◌, Option}
 use Rattle.pipe_model.specs.declared.region.Region.{Region}
 use Rattle.pipe_model.specs.declared.region.Region.TheVariants as regions
 use Rattle.pipe_model.specs.declared.tree.Declaration.{Declaration}
 use Rattle.pipe_model.specs.Language.SyntaxTree.{Expression, Number, Name, Element, And, Or, Binary, Unary, More, Take, Iter, Statement, Let, Assign, AssignElement, Emit, If, While, Stage, NextStage, Statements, Empty, Then, SyntaxTree}
 
--- what is known mark_at a place of the text
+-- what is known at a point of the text
 pub record Scope : Type 0 where
   pub region : Region
   pub cells : List Declaration  -- the cells declared so far, in order
   pub visible : List (List ℕ)  -- the locals in scope
   pub lets : List (List ℕ)  -- the name of each `let` of the region so far, whether its local is still in scope or not
 
--- what stands mark_at a mark
+-- what is at a mark
 pub data Occurrence : Type 0 where
   DeclaredCell : List ℕ → Option ℤ → Occurrence  -- the name that a cell declares, with the size of an array
   DeclaredLocal : List ℕ → Occurrence  -- the name that a `let` declares
@@ -22,29 +22,26 @@ pub data Occurrence : Type 0 where
   IterWord : Occurrence
   StageWord : Occurrence
 
--- a mark
 pub record Mark : Type 0 where
   pub scope : Scope
   pub occurrence : Occurrence
 
--- the mark mark_at a place
 abbrev pub mark_at : Scope → Occurrence → Mark
 mark_at scope occurrence = record { scope = scope; occurrence = occurrence }
 
--- mark_at the beginning of a region no local is declared
+-- the scope at the beginning of a region, where no local is declared
 abbrev pub opening : Region → List Declaration → Scope
 opening region cells = record { region = region; cells = cells; visible = []; lets = [] }
 
--- behind a `let` its local is in scope
+-- the scope after a `let`, whose local is in scope
 abbrev pub after_let : Scope → List ℕ → Scope
 after_let scope x = record { region = scope.region; cells = scope.cells; visible = scope.visible ++ x ∷ []; lets = scope.lets ++ x ∷ [] }
 
--- behind a block, which began in the outer scope and ended in the inner one, the locals of the block are out of scope
+-- the scope after a block that began in the outer scope and ended in the inner one: the locals of the block are out of scope
 abbrev pub leave : (outer inner : Scope) → Scope
 leave outer inner = record { region = inner.region; cells = inner.cells; visible = outer.visible; lets = inner.lets }
 
 abbrev mutual
-  -- what is known behind a statement
   pub after_statement : Scope → Statement → Scope
   after_statement scope (Let x e) = after_let scope x
   after_statement scope (Assign x e) = scope
@@ -55,16 +52,15 @@ abbrev mutual
   after_statement scope (Stage kind e) = scope
   after_statement scope (NextStage kind) = scope
 
-  -- what is known mark_at the end of these statements
+  -- at the end of these statements, where their locals are still in scope
   pub after_statements : Scope → Statements → Scope
   after_statements scope Empty = scope
   after_statements scope (Then s ss) = after_statements (after_statement scope s) ss
 
--- what is known behind a block of these statements
+-- after a block of these statements, where their locals are out of scope
 abbrev pub after_block : Scope → Statements → Scope
 after_block scope ss = leave scope (after_statements scope ss)
 
--- the marks of an expression
 abbrev pub marks_of_expression : Scope → Expression → List Mark
 marks_of_expression scope (Number n) = []
 marks_of_expression scope (Name x) = mark_at scope (Plain x) ∷ []
@@ -78,7 +74,6 @@ marks_of_expression scope Take = []
 marks_of_expression scope Iter = mark_at scope IterWord ∷ []
 
 abbrev mutual
-  -- the marks of a statement
   pub marks_of_statement : Scope → Statement → List Mark
   marks_of_statement scope (Let x e) = mark_at scope (DeclaredLocal x) ∷ marks_of_expression scope e
   marks_of_statement scope (Assign x e) = mark_at scope (Plain x) ∷ marks_of_expression scope e
@@ -89,12 +84,11 @@ abbrev mutual
   marks_of_statement scope (Stage kind e) = mark_at scope StageWord ∷ marks_of_expression scope e
   marks_of_statement scope (NextStage kind) = mark_at scope StageWord ∷ []
 
-  -- the marks of statements in order
   pub marks_of_statements : Scope → Statements → List Mark
   marks_of_statements scope Empty = []
   marks_of_statements scope (Then s ss) = marks_of_statement scope s ++ marks_of_statements (after_statement scope s) ss
 
--- the marks of declarations, behind those of the cells before them
+-- the marks of declarations that follow the cells `before`
 abbrev pub marks_of_cells : List Declaration → List Declaration → List Mark
 marks_of_cells before [] = []
 marks_of_cells before (d ∷ ds) = mark_at (opening regions.Cells before) (DeclaredCell d.name d.size) ∷ marks_of_cells (before ++ d ∷ []) ds

@@ -8,12 +8,12 @@ use Rattle.pipe_model.specs.Pipelines.Pipeline.{Pipeline}
 use Rattle.pipe_model.specs.Pipelines.Store.{InitialStore}
 use Rattle.pipe_model.specs.Language.SyntaxTree.{SyntaxTree}
 
--- the number, or 0 where it is negative
+-- the number, or 0 if it is negative
 abbrev pub natural : ℤ → ℕ
 natural (pos n) = n
 natural (negsuc n) = 0
 
--- how many cells a declaration has
+-- the number of cells of a declaration with this size
 abbrev pub declared_size : Option ℤ → ℕ
 declared_size None = 1
 declared_size (Some n) = natural n
@@ -23,12 +23,12 @@ abbrev pub declared_values : List Declaration → List ℤ
 declared_values [] = []
 declared_values (d ∷ ds) = replicate (declared_size d.size) d.value ++ declared_values ds
 
--- the cells of a name, where the first declaration's first cell is `next`
+-- the cells of a name; those of the first declaration begin at `next`
 abbrev pub range_of : ℕ → List Declaration → List ℕ → Option CellRange
 range_of next [] x = None
 range_of next (d ∷ ds) x = if bytes_eq d.name x then Some (record { first = next; size = declared_size d.size }) else range_of (next + declared_size d.size) ds x
 
--- where iteration i of the program runs; no loop of an iteration makes as many turns as all its instances may make steps
+-- the setting of iteration i; `turns` is more than any of its loops can make, since each turn takes a step of an instance's budget
 abbrev pub setting_of : SyntaxTree → List ℤ → ℕ → Setting
 setting_of tree input i = record {
   cells = range_of 2 tree.cells;

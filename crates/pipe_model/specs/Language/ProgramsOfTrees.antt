@@ -10,7 +10,7 @@ use Rattle.pipe_model.specs.Language.Programs.{natural, pipeline_of, setting_of}
 use Rattle.pipe_model.specs.Language.SyntaxTree.{Statements, SyntaxTree}
 use Rattle.pipe_model.specs.Pipelines.WholePrograms.{WholeProgram, loop_after_init}
 
--- the statements of `init` or `final`, from no locals on
+-- the statements of `init` or `final`, which begin without locals
 abbrev pub execute_part : Setting → Statements → Interaction ColumnEnd
 execute_part w statements = bind (execute_all w statements first_environment) (λ env. Return ends.End)
 

@@ -1,5 +1,5 @@
--- Which sources are accepted, and what the others are refused for: the first thing that is wrong in the text; or else the first
--- token that breaks the grammar or one of its bounds; or else the first rule that the program breaks.
+-- Which sources are accepted, and why the others are refused: for the first fault of the text; or else for the first
+-- token that breaks the grammar or one of its bounds; or else for the first rule that the program breaks.
 use Rattle.std.specs.Prelude.{◌≡◌, ℕ, pos, List, length, slice_get, Option, Some, None}
 use Rattle.pipe_model.specs.declared.token.Token.{Token}
 use Rattle.pipe_model.specs.Language.CheckingRules as checking
@@ -16,29 +16,29 @@ pub record IsAccepted (source : List ℕ) (tree : SyntaxTree) : Type 0 where
   pub spelled : SourceSpells source tree
   pub obeys : fault_of tree ≡ None
 
--- the place of a token, or the source's length where there is none
+-- the offset of a token, or the source's length if there is none
 abbrev pub token_offset_or_end : List ℕ → Option Token → ℕ
 token_offset_or_end source None = length source
 token_offset_or_end source (Some token) = token.place
 
--- the place of the token behind so many, or the source's length behind the last
+-- the offset of token k, counted from 0, or the source's length if it has at most k tokens
 abbrev pub fault_place : List ℕ → List Token → ℕ → ℕ
 fault_place source tokens k = token_offset_or_end source (slice_get tokens k)
 
--- the first token that breaks the rule has this place; where the source ends too early it is the source's length
+-- the first token that breaks the rule is at this offset; if the source ends too early, the offset is the source's length
 pub record BreaksAt (source : List ℕ) (tokens : List Token) (rule : grammar.GrammarRule) (place : ℕ) : Type 0 where
   pub before : ℕ
   pub breaks : FirstFault (symbols_in source tokens) rule before
   pub place_is : place ≡ fault_place source tokens before
 
--- what a source may be refused for, with the place in bytes from 0
+-- why a source is refused, with the offset in bytes from 0
 pub data Refusal : Type 0 where
   Lexical : LexicalFault → Refusal
   Syntactic : grammar.GrammarRule → ℕ → Refusal
   LimitOut : ℕ → Refusal  -- which limit
   RuleBroken : checking.CheckingRule → ℕ → Refusal
 
--- the source is refused for this
+-- the source is refused for this reason
 pub data IsRefused (source : List ℕ) : Refusal → Type 0 where
   ForItsText : (fault : LexicalFault) → HasFault source fault → IsRefused source (Lexical fault)
   ForAToken : (tokens : List Token) (rule : grammar.GrammarRule) (place : ℕ) → IsLexed source tokens → BreaksAt source tokens rule place

@@ -1,5 +1,5 @@
 -- What holds of every program that a source spells, whether it obeys the rules or not: its operators are those of the language,
--- no number of its declarations is negative where the grammar has no sign, and its size is bounded as a source's length is.
+-- no number of its declarations is negative where the grammar has no sign, and its size is bounded, since a source's length is.
 use Rattle.std.specs.Prelude.{◌≡◌, ◌≤◌, ◌≤ℤ◌, ℕ, ℤ, pos, Bool, true, ◌&&◌, List, [], ◌∷◌, ◌++◌, length, sum_by, All, Option, Some, None, ◌+◌, nat_le}
 use Rattle.pipe_model.specs.declared.bounds.TheConstants.{LONGEST_EXPRESSION, LARGEST_PROGRAM}
 use Rattle.pipe_model.specs.declared.operator_codes.TheConstants as operator_codes
@@ -7,7 +7,6 @@ use Rattle.pipe_model.specs.declared.tree.Declaration.{Declaration}
 use Rattle.pipe_model.specs.Language.Marks.{marks_of}
 use Rattle.pipe_model.specs.Language.SyntaxTree.{Expression, Number, Name, Element, And, Or, Binary, Unary, More, Take, Iter, Statement, Let, Assign, AssignElement, Emit, If, While, Stage, NextStage, Statements, Empty, Then, SyntaxTree}
 
--- how many nodes an expression has
 abbrev pub node_count : Expression → ℕ
 node_count (Number n) = 1
 node_count (Name x) = 1
@@ -51,7 +50,7 @@ abbrev mutual
   expressions_of_statements (Then s ss) = expressions_of_statement s ++ expressions_of_statements ss
 
 abbrev mutual
-  -- how many statements a statement is, those of its blocks counted
+  -- 1, plus the number of statements in its blocks
   pub statement_count : Statement → ℕ
   statement_count (Let x e) = 1
   statement_count (Assign x e) = 1
@@ -62,7 +61,7 @@ abbrev mutual
   statement_count (Stage kind e) = 1
   statement_count (NextStage kind) = 1
 
-  -- how many statements these are, those of their blocks counted
+  -- the number of these statements and of those in their blocks
   pub statement_counts : Statements → ℕ
   statement_counts Empty = 0
   statement_counts (Then s ss) = statement_count s + statement_counts ss
@@ -71,7 +70,7 @@ abbrev mutual
 abbrev pub expressions_of : SyntaxTree → List Expression
 expressions_of tree = expressions_of_statements tree.init ++ (tree.test ∷ (expressions_of_statements tree.body ++ expressions_of_statements tree.last))
 
--- how many marks, nodes of expressions and statements a program has
+-- the number of marks, nodes of expressions and statements of a program, added up
 abbrev pub size_of : SyntaxTree → ℕ
 size_of tree =
     length (marks_of tree) + (sum_by node_count (expressions_of tree)
@@ -82,7 +81,7 @@ abbrev pub HasNoNegativeSize : Option ℤ → Type 0
 HasNoNegativeSize None = Unit {0}
 HasNoNegativeSize (Some n) = pos 0 ≤ℤ n
 
--- a source may spell the program
+-- what holds of a program that a source spells
 pub record IsSpellable (tree : SyntaxTree) : Type 0 where
   pub operators : All (λ e. has_known_operators e ≡ true) (expressions_of tree)
   pub short : All (λ e. node_count e ≤ LONGEST_EXPRESSION) (expressions_of tree)

@@ -24,21 +24,20 @@ is_closing_bracket (symbols.Word k) = false
 is_closing_bracket (symbols.Number n) = false
 is_closing_bracket (symbols.Operator code) = false
 
--- how many brackets of the symbols are still open at their end
+-- the number of brackets that are still open after the symbols
 abbrev pub open_brackets : List Symbol → ℕ
 open_brackets ts = count_by is_opening_bracket ts - count_by is_closing_bracket ts
 
--- at no point too many brackets are open
+-- no prefix leaves too many brackets open
 pub record IsShallow (ts : List Symbol) : Type 0 where
   pub shallow : (before after : List Symbol) → ts ≡ before ++ after → open_brackets before ≤ MOST_OPEN_BRACKETS
 
--- each full expression has at most so many symbols
+-- each full expression has at most `longest` symbols
 abbrev pub AreShort : ℕ → List Piece → Type 0
 AreShort longest [] = Unit {0}
 AreShort longest (Single t ∷ ps) = AreShort longest ps
 AreShort longest (FullExpression ts ∷ ps) = (length ts ≤ longest) × AreShort longest ps
 
--- the symbols spell the program
 pub record Spells (ts : List Symbol) (tree : SyntaxTree) : Type 0 where
   pub pieces : List Piece
   pub split : ts ≡ flat pieces
@@ -46,7 +45,7 @@ pub record Spells (ts : List Symbol) (tree : SyntaxTree) : Type 0 where
   pub short : AreShort LONGEST_EXPRESSION pieces
   pub shallow : IsShallow ts
 
--- the symbols are a front of the symbols of some program, by the grammar alone
+-- the symbols are a prefix of the symbols of some program, by the grammar alone
 pub record IsProgramPrefix (before : List Symbol) : Type 0 where
   pub after : List Symbol
   pub pieces : List Piece
@@ -54,7 +53,7 @@ pub record IsProgramPrefix (before : List Symbol) : Type 0 where
   pub derived : DerivesProgram pieces tree
   pub split : before ++ after ≡ flat pieces
 
--- the last of the symbols is the first that a full expression has too many
+-- the last of the symbols is number LONGEST_EXPRESSION + 1 of a full expression
 pub record EndsTooLong (ts : List Symbol) : Type 0 where
   pub before : List Piece
   pub inside : List Symbol
@@ -77,7 +76,7 @@ pub data GrammarRule : Type 0 where
   TooDeep : GrammarRule
   TooLong : GrammarRule
 
--- the first symbol that breaks a rule stands behind so many others; at one symbol the rules count in their order
+-- the rule that is broken first, with the number of symbols before the one that breaks it; at one symbol the rules count in their order
 pub data FirstFault : List Symbol → GrammarRule → ℕ → Type 0 where
   UnexpectedSymbol : (before : List Symbol) (t : Symbol) (after : List Symbol) → BreaksNoRule before → (IsProgramPrefix (before ++ t ∷ []) → ⊥)
       → FirstFault (before ++ t ∷ after) Unexpected (length before)

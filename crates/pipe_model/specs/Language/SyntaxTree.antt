@@ -1,4 +1,4 @@
--- Syntax trees as plain data, without the addresses and spare room of the Rust values, and the view from one to the other.
+-- Syntax trees as plain data, without the addresses and the spare capacity of the Rust values, and the functions from those to these.
 use Rattle.std.specs.Prelude.{ℕ, ℤ, List, [], ◌∷◌, Option, Some, None, if◌then◌else◌, ◌==◌}
 use Rattle.pipe_model.specs.declared.operator_codes.TheConstants as operator_codes
 use Rattle.pipe_model.specs.declared.node.Kind.{Kind}
@@ -13,7 +13,7 @@ use Rattle.pipe_model.specs.declared.tree.StageKind.TheVariants as kinds
 use Rattle.pipe_model.specs.declared.tree.Stmt.{Stmt, Row_of-Stmt, end_of-Stmt, more_of-Stmt}
 use Rattle.pipe_model.specs.declared.tree.Stmt.TheVariants as stmts
 
--- an expression; `&&` and `||` stand apart from the other two-place operators, since they may leave out their right side
+-- an expression; `&&` and `||` are apart from the other two-place operators, since they may leave their right side unevaluated
 pub data Expression : Type 0 where
   Number : ℤ → Expression
   Name : List ℕ → Expression
@@ -42,7 +42,7 @@ mutual
     Empty : Statements
     Then : Statement → Statements → Statements
 
--- a program
+-- the tree of a whole program
 pub record SyntaxTree : Type 0 where
   pub limits : Limits
   pub cells : List Declaration

@@ -1,5 +1,5 @@
--- Tokens: which tokens a source has, each with its kind, place and length, among blanks and comments; and which fault a
--- source has that has no tokens within the bounds.
+-- Tokens: which tokens a source has, each with its kind, offset and length, among blanks and comments; and which fault a
+-- source has if it has no tokens within the bounds.
 use Rattle.std.specs.Prelude.{◌≡◌, ℕ, ◌+◌, ◌-◌, ◌<◌, ◌≤◌, ◌^◌, pos, ◌≤ℤ◌, Bool, true, false, not, List, [], ◌∷◌, ◌++◌, length, take, drop, map, ◌==◌, ◌&&◌, Some, All}
 use Rattle.pipe_model.specs.declared.bounds.TheConstants.{LONGEST_SOURCE, LONGEST_NAME}
 use Rattle.std.specs.List.{list_all}
@@ -12,7 +12,6 @@ use Rattle.pipe_model.specs.declared.token.TokenKind.TheVariants as kinds
 
 -- ---- comments
 
--- a line feed
 abbrev pub is_line_feed : ℕ → Bool
 is_line_feed b = b == 10
 
@@ -22,7 +21,7 @@ begins_comment [] = false
 begins_comment (a ∷ []) = false
 begins_comment (a ∷ b ∷ bs) = (a == 47) && (b == 47)
 
--- behind a comment the source ends, or a line feed stands
+-- a comment may end here: the source ends, or a line feed is next
 abbrev pub EndsComment : List ℕ → Type 0
 EndsComment [] = Unit {0}
 EndsComment (b ∷ bs) = is_line_feed b ≡ true
@@ -35,7 +34,7 @@ pub record IsComment (text rest : List ℕ) : Type 0 where
 
 -- ---- tokens
 
--- the text is a token: a symbol, the longest at its place, where no comment begins
+-- the text is a token: the longest symbol at its offset, where no comment begins
 pub record IsToken (text rest : List ℕ) (s : Symbol) : Type 0 where
   pub symbol : symbol_of text ≡ Some s
   pub longest : IsLongest text rest
@@ -49,11 +48,11 @@ kind_of (symbols.Number n) = kinds.Number n
 kind_of (symbols.Operator code) = kinds.Operator code
 kind_of (symbols.Sign b) = kinds.Sign b
 
--- the token that this text is at this place
+-- the token of this text at this offset
 abbrev pub token_at : ℕ → List ℕ → Symbol → Token
 token_at place text s = record { kind = kind_of s; place = place; length = length text }
 
--- from the place on the bytes begin with these tokens, among blanks and comments; then the rest stands
+-- the bytes, which begin at offset `place`, are these tokens, among blanks and comments, and then `rest`
 pub data Scans : ℕ → List ℕ → List Token → List ℕ → Type 0 where
   Stops : (place : ℕ) (rest : List ℕ) → Scans place rest [] rest
   Blank : {place : ℕ} {bytes rest : List ℕ} {tokens : List Token} (b : ℕ) → is_blank b ≡ true → Scans (place + 1) bytes tokens rest
@@ -91,7 +90,7 @@ pub record IsLexed (source : List ℕ) (tokens : List Token) : Type 0 where
   pub scanned : HasTokens source tokens
   pub bounded : All IsTokenWithinBounds tokens
 
--- ---- the symbols that the grammar speaks of
+-- ---- the symbols of tokens
 
 -- the bytes of a token in its source
 abbrev pub text_in : List ℕ → Token → List ℕ
@@ -105,50 +104,49 @@ symbol_as (kinds.Number n) text = symbols.Number n
 symbol_as (kinds.Operator code) text = symbols.Operator code
 symbol_as (kinds.Sign b) text = symbols.Sign b
 
--- the symbol that a token is in its source
+-- the symbol of a token in its source
 abbrev pub symbol_in : List ℕ → Token → Symbol
 symbol_in source token = symbol_as token.kind (text_in source token)
 
--- the symbols of tokens in their source
 abbrev pub symbols_in : List ℕ → List Token → List Symbol
 symbols_in source tokens = map (symbol_in source) tokens
 
--- a token stands in its source, and its text there is that of its symbol
+-- a token is inside its source, and its text there is that of its symbol
 pub record StandsIn (source : List ℕ) (token : Token) : Type 0 where
   pub symbol : symbol_of (text_in source token) ≡ Some (symbol_in source token)
   pub within : token.place + token.length ≤ length source
 
 -- ---- faults
 
--- a source that is not too long is tokens within the bounds, among blanks and comments, up to exactly this place
+-- the source is not too long, and up to exactly this offset it is tokens within the bounds, among blanks and comments
 pub record IsReached (source : List ℕ) (place : ℕ) : Type 0 where
   pub short : IsShortEnough source
   pub before : List Token
   pub scanned : Scans 0 source before (drop place source)
   pub bounded : All IsTokenWithinBounds before
 
--- a byte stands here, and neither a blank nor a comment nor a token
+-- there is a byte here, and no blank, comment or symbol begins with it
 abbrev pub BeginsNothing : List ℕ → Type 0
 BeginsNothing [] = ⊥
 BeginsNothing (b ∷ bs) =
     (is_blank b ≡ false) × (begins_comment (b ∷ bs) ≡ false)
     × ((text rest : List ℕ) (s : Symbol) → b ∷ bs ≡ text ++ rest → symbol_of text ≡ Some s → ⊥)
 
--- a token stands here that is this symbol
+-- the bytes begin with a token that is this symbol
 pub record BeginsWith (bytes : List ℕ) (s : Symbol) : Type 0 where
   pub text : List ℕ
   pub rest : List ℕ
   pub parts : bytes ≡ text ++ rest
   pub token : IsToken text rest s
 
--- what may be wrong with a source, and at which place, in bytes from 0
+-- what is wrong with a source, with the offset in bytes from 0
 pub data LexicalFault : Type 0 where
   BadByte : ℕ → LexicalFault
   TooWide : ℕ → LexicalFault
   SourceTooLong : LexicalFault
   NameTooLong : ℕ → LexicalFault
 
--- the source has this fault: it is too long, or else the first thing that is wrong in its text is this
+-- the source has this fault: it is too long, or else this is the first fault of its text
 pub data HasFault (source : List ℕ) : LexicalFault → Type 0 where
   IsTooLong : LONGEST_SOURCE < length source → HasFault source SourceTooLong
   HasBadByte : (place : ℕ) → IsReached source place → BeginsNothing (drop place source) → HasFault source (BadByte place)

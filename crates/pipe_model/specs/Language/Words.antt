@@ -1,4 +1,4 @@
--- Names for the symbols that the grammar speaks of.
+-- Names for the symbols of the grammar.
 use Rattle.pipe_model.specs.declared.symbol.Symbol.{Symbol}
 use Rattle.pipe_model.specs.declared.operator_codes.TheConstants as operator_codes
 use Rattle.pipe_model.specs.declared.sign_bytes.TheConstants as signs

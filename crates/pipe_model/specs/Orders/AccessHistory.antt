@@ -1,5 +1,5 @@
 -- The access history of a cell (Xu, Lee, Agrawal 2018): the last writer and two readers are kept, and each access is
--- compared with them alone. An order of the instances is told by a place for each.
+-- compared with them alone. An order of the instances is given by the index of each instance in it.
 use Rattle.std.specs.Prelude.{ℕ, suc, List, [], ◌∷◌, Bool, Option, Some, None, ◌==◌, if◌then◌else◌, nat_lt, ◌&&◌, ◌||◌}
 use Rattle.pipe_model.specs.declared.access.AccessKind.{AccessKind}
 use Rattle.pipe_model.specs.declared.access.AccessKind.TheVariants.{Read, Write}
@@ -16,11 +16,11 @@ pub record AccessHistory : Type 0 where
 abbrev pub empty_history : AccessHistory
 empty_history = record { writer = None; rightmost = None; downmost = None }
 
--- y is x, or stands before it in both orders
+-- y is x, or before x in both orders
 abbrev pub is_ordered : (NodeId → ℕ) → (NodeId → ℕ) → NodeId → NodeId → Bool
 is_ordered down right y x = ((y.iteration == x.iteration) && (y.index == x.index)) || (nat_lt (down y) (down x) && nat_lt (right y) (right x))
 
--- the access of the kept instance, if there is one that is not before x; or else the rest
+-- the access of the kept instance, if there is one that is not before x; or else `rest`
 abbrev pub race_with : (NodeId → ℕ) → (NodeId → ℕ) → NodeId → AccessKind → Option NodeId → Option NotedAccess → Option NotedAccess
 race_with down right x kind None rest = rest
 race_with down right x kind (Some y) rest = if is_ordered down right y x then rest else Some (noted_access y kind)
@@ -45,12 +45,12 @@ pub record FoundRace : Type 0 where
   pub number : ℕ
   pub earlier : NotedAccess
 
--- a race of access n, or else one of the rest
+-- the race of access n with this earlier access, if there is one; or else `rest`
 abbrev pub race_or : ℕ → Option NotedAccess → Option FoundRace → Option FoundRace
 race_or n None rest = rest
 race_or n (Some e) rest = Some (record { number = n; earlier = e })
 
--- the first race of accesses from number n on, with this history
+-- the first race of these accesses, which are numbered from n, if this history was kept before them
 abbrev pub found_race_from : (NodeId → ℕ) → (NodeId → ℕ) → ℕ → AccessHistory → List NotedAccess → Option FoundRace
 found_race_from down right n kept [] = None
 found_race_from down right n kept (x ∷ xs) = race_or n (check_access down right kept x.who x.kind) (found_race_from down right (suc n) (updated_history down right kept x.who x.kind) xs)

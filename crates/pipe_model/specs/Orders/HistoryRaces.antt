@@ -1,4 +1,4 @@
--- What the access history of a cell is to find: the first access that races with an earlier one.
+-- What the access history of a cell must find: the first access that races with an earlier one.
 use Rattle.std.specs.Prelude.{◌≡◌, ℕ, List, ◌<◌, Option, Some, None}
 use Rattle.pipe_model.specs.declared.node.Node.{Node}
 use Rattle.pipe_model.specs.declared.access.NodeAccess.{NodeAccess}
@@ -12,7 +12,7 @@ pub record IsEarliestRace (columns : List (List Node)) (accesses : List NotedAcc
   pub racy : (k : ℕ) × RacesAt columns accesses race.number k × (access_at accesses k ≡ race.earlier)
   pub first : (n k : ℕ) → n < race.number → RacesAt columns accesses n k → ⊥
 
--- nothing is found where there is no race, and otherwise the first race
+-- nothing is found if there is no race, and otherwise the first race
 abbrev pub IsRightVerdict : List (List Node) → List NotedAccess → Option FoundRace → Type 0
 IsRightVerdict columns accesses None = (n k : ℕ) → RacesAt columns accesses n k → ⊥
 IsRightVerdict columns accesses (Some race) = IsEarliestRace columns accesses race

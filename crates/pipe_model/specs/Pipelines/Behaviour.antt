@@ -22,7 +22,7 @@ pub data Action : Type 0 where
   Staged : Kind → ℤ → Action
   Ended : ColumnEnd → Action
 
--- a read of cell c that gives v
+-- a read of cell c with the reply v
 abbrev pub read_access : ℕ → ℤ → Access
 read_access c v = record { cell = record { 0 = c }; kind = Read; value = v }
 
@@ -38,7 +38,7 @@ actions_with (Writing c v d) rs = Accessed (write_access c v) ∷ actions_with d
 actions_with (Staging k n d) rs = Staged k n ∷ actions_with d rs
 actions_with (Ending e) rs = Ended e ∷ []
 
--- the action can come next
+-- the action may be the next
 abbrev pub Offers : Behaviour → Action → Type 0
 Offers (Reading c go) item = (v : ℤ) × (item ≡ Accessed (read_access c v))
 Offers (Writing c v d) item = item ≡ Accessed (write_access c v)
@@ -59,7 +59,7 @@ abbrev pub behaviour_after_all : Behaviour → List Action → Behaviour
 behaviour_after_all d [] = d
 behaviour_after_all d (i ∷ is) = behaviour_after_all (behaviour_after d i) is
 
--- the actions are the first that are performed, with the replies that stand in them
+-- the behaviour can begin with these actions, with the replies that are in them
 abbrev pub Performs : Behaviour → List Action → Type 0
 Performs d [] = Unit {0}
 Performs d (i ∷ is) = Offers d i × Performs (behaviour_after d i) is
@@ -86,7 +86,7 @@ nodes_in (Ended e ∷ is) = nodes_in is
 abbrev pub column_of : List Action → List Node
 column_of items = node_of Zero (pos 0) ∷ nodes_in items
 
--- the end closes the loop where it comes in instance 0: a false test of the loop, or a trap
+-- the end closes the loop if instance 0 ends so: a false test of the loop, or a trap
 abbrev pub closes_at_once : ColumnEnd → Bool
 closes_at_once ends.End = false
 closes_at_once ends.Closed = true
@@ -99,14 +99,14 @@ closes_loop (Accessed a ∷ is) = closes_loop is
 closes_loop (Staged k n ∷ is) = false
 closes_loop (Ended e ∷ is) = closes_at_once e
 
--- the end of a trace, if it has come to one
+-- the end of a trace, if it has ended
 abbrev pub trace_end : List Action → Option ColumnEnd
 trace_end [] = None
 trace_end (Accessed a ∷ is) = trace_end is
 trace_end (Staged k n ∷ is) = trace_end is
 trace_end (Ended e ∷ is) = Some e
 
--- the trace has not come to its end
+-- the trace has not ended
 abbrev pub HasNoEnd : List Action → Type 0
 HasNoEnd [] = Unit {0}
 HasNoEnd (Accessed a ∷ is) = HasNoEnd is

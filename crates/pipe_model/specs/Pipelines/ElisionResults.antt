@@ -1,4 +1,4 @@
--- What the serial elision comes to: its output, its trap, and its columns with their ends.
+-- The results of the serial elision: its output, its trap, and its columns with their ends.
 use Rattle.std.specs.Prelude.{ℕ, ℤ, List, [], ◌∷◌, ◌++◌, Option, Some, None, ◌+◌, length, map}
 use Rattle.pipe_model.specs.declared.column.Column.{Column}
 use Rattle.pipe_model.specs.declared.column.ColumnEnd.{ColumnEnd}
@@ -12,11 +12,10 @@ use Rattle.pipe_model.specs.Pipelines.SerialElision.{serial_traces, serial_acces
 use Rattle.pipe_model.specs.Runs.State.{accesses_of}
 use Rattle.pipe_model.specs.Pipelines.Store.{output_of}
 
--- the output of the serial elision
 abbrev pub serial_output : Pipeline → List ℤ
 serial_output p = output_of p.store (p.preamble ++ accesses_of (serial_accesses p))
 
--- the trap of an iteration that ends so, in its last instance
+-- the trap of iteration i, in its last instance, if it ends with one
 abbrev pub trap_at_end : ℕ → List Action → Option ColumnEnd → Option TrapAt
 trap_at_end i trace None = None
 trap_at_end i trace (Some ends.End) = None
@@ -34,7 +33,6 @@ abbrev pub first_trap : ℕ → List (List Action) → Option TrapAt
 first_trap i [] = None
 first_trap i (trace ∷ rest) = first_of_both (trap_at_end i trace (trace_end trace)) (first_trap (i + 1) rest)
 
--- the trap of the serial elision
 abbrev pub serial_trap : Pipeline → Option TrapAt
 serial_trap p = first_trap 0 (serial_traces p)
 

@@ -35,7 +35,7 @@ pub record IsWellFormed (p : Pipeline) : Type 0 where
   pub legal : (i : ℕ) → HasLegalStages true (pos 0) (p.behaviour i)
   pub closes : AlwaysClosesLoop (p.behaviour p.last_iteration)
 
--- an instance makes at most `each` accesses, of which `left` may still come; at most `more` instances may follow
+-- an instance makes at most `each` accesses, the current one at most `left` more; at most `more` instances follow
 abbrev pub HasBoundedWork : ℕ → ℕ → ℕ → Behaviour → Type 0
 HasBoundedWork each left more (Reading c go) = (m : ℕ) × (left ≡ suc m) × ((v : ℤ) → HasBoundedWork each m more (go v))
 HasBoundedWork each left more (Writing c v d) = (m : ℕ) × (left ≡ suc m) × HasBoundedWork each m more d

@@ -1,5 +1,5 @@
 -- The serial elision of a pipeline (Lee et al. 2013): the program without its parallel control, one iteration after
--- the other, each to its end. Its traces come first; columns, accesses, ends and events are told by them.
+-- the other, each to its end. Its traces come first; they define its columns, accesses, ends and events.
 use Rattle.std.specs.Prelude.{ℕ, zero, suc, List, [], ◌∷◌, ◌++◌, Bool, true, false, ◌+◌, map, Option}
 use Rattle.pipe_model.specs.declared.access.Access.{Access}
 use Rattle.pipe_model.specs.declared.access.NodeAccess.{NodeAccess}
@@ -20,12 +20,12 @@ serial_trace store (Writing c v d) before = Accessed (write_access c v) ∷ seri
 serial_trace store (Staging k n d) before = Staged k n ∷ serial_trace store d before
 serial_trace store (Ending e) before = Ended e ∷ []
 
--- the list, or nothing where the first is true
+-- the list, or the empty list if the condition is true
 abbrev pub unless : {A : Type 0} → Bool → List A → List A
 unless true xs = []
 unless false xs = xs
 
--- the traces of iteration i and those after it, at most so many, up to the one that closes the loop
+-- the traces of at most n iterations from iteration i on, up to the one that closes the loop
 abbrev pub serial_traces_from : Pipeline → ℕ → ℕ → List Access → List (List Action)
 serial_traces_from p zero i before = []
 serial_traces_from p (suc n) i before =
@@ -35,7 +35,7 @@ serial_traces_from p (suc n) i before =
 abbrev pub serial_traces : Pipeline → List (List Action)
 serial_traces p = serial_traces_from p (p.last_iteration + 1) 0 p.preamble
 
--- the accesses of a trace with the instances that make them, from place k of column i on
+-- the accesses of a trace with the instances that make them, from instance k of column i on
 abbrev pub located : ℕ → ℕ → List Action → List NodeAccess
 located i k [] = []
 located i k (Accessed a ∷ is) = record { node = at i k; access = a } ∷ located i k is
@@ -47,7 +47,6 @@ abbrev pub located_from : ℕ → List (List Action) → List NodeAccess
 located_from i [] = []
 located_from i (is ∷ more) = located i 0 is ++ located_from (i + 1) more
 
--- the columns of the serial elision
 abbrev pub serial_columns : Pipeline → List (List Node)
 serial_columns p = map column_of (serial_traces p)
 

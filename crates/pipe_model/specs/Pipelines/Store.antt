@@ -25,7 +25,7 @@ abbrev pub written : ℕ → List Access → List ℤ
 written c [] = []
 written c (a ∷ rest) = wrote c a ++ written c rest
 
--- the last of a list, or d where it is empty
+-- the last of a list, or d if it is empty
 abbrev pub last_or : ℤ → List ℤ → ℤ
 last_or d [] = d
 last_or d (v ∷ vs) = last_or v vs

@@ -8,16 +8,15 @@ use Rattle.pipe_model.specs.declared.node.NodeId.{NodeId}
 use Rattle.pipe_model.specs.Races.Columns.{at}
 use Rattle.pipe_model.specs.Races.Dag.{AreParallel}
 
--- an access to a cell: by whom and of which kind
+-- an access to a cell: its instance and its kind
 pub record NotedAccess : Type 0 where
   pub who : NodeId
   pub kind : AccessKind
 
--- an access of this instance and kind
 abbrev pub noted_access : NodeId → AccessKind → NotedAccess
 noted_access who kind = record { who = who; kind = kind }
 
--- the access of number n
+-- access n, counted from 0
 abbrev pub access_at : List NotedAccess → ℕ → NotedAccess
 access_at accesses n = slice_index_or accesses n (noted_access (at 0 0) Read)
 

@@ -6,13 +6,13 @@ use Rattle.pipe_model.specs.declared.node.Node.{Node}
 use Rattle.pipe_model.specs.declared.node.NodeId.{NodeId}
 use Rattle.pipe_model.specs.Races.Columns.{node_at, nodes_at, at}
 
--- place j is the last of the left column whose stage number is at most this one
+-- instance j is the last of the left column whose stage number is at most this one
 pub record IsLastUpTo (left : List Node) (j : ℕ) (number : ℤ) : Type 0 where
   pub within : j < length left
   pub up_to : (node_at left j).number ≤ℤ number
   pub last : (k : ℕ) → j < k → k < length left → number <ℤ (node_at left k).number
 
--- an edge from place j of a column to place k of the next: between the heads, or to an instance that waits
+-- an edge from instance j of a column to instance k of the next: between the heads, or to an instance that waits
 pub data CrossEdge (left right : List Node) : ℕ → ℕ → Type 0 where
   HeadCross : 0 < length left → 0 < length right → CrossEdge left right 0 0
   WaitCross : (j k : ℕ) → k < length right → (node_at right k).kind ≡ Wait → IsLastUpTo left j (node_at right k).number → CrossEdge left right j k

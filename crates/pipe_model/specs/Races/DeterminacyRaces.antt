@@ -11,7 +11,7 @@ pub record Conflict (a b : Access) : Type 0 where
   pub same : a.cell ≡ b.cell
   pub one : (a.kind ≡ Write) ⊎ (b.kind ≡ Write)
 
--- x is one of the list
+-- x is an element of the list
 pub data Among {A : Type 0} (x : A) : List A → Type 0 where
   Here : {xs : List A} → Among x (x ∷ xs)
   Later : {xs : List A} (y : A) → Among x xs → Among x (y ∷ xs)

@@ -1,4 +1,4 @@
--- Reports of races: what a report says, and when the reports of a run are right, told by its columns and its accesses.
+-- Reports of races: what a report says, and when the reports of a run are right, by its columns and its accesses.
 use Rattle.std.specs.Prelude.{◌≡◌, ◌<◌, ℕ, ℤ, List, ◌∷◌, ◌++◌, AllPairs}
 use Rattle.pipe_model.specs.declared.access.NodeAccess.{NodeAccess}
 use Rattle.pipe_model.specs.declared.node.Node.{Node}
@@ -13,7 +13,7 @@ use Rattle.pipe_model.specs.Races.DeterminacyRaces.{Conflict, Among, IsDetermina
 abbrev pub number_at : List (List Node) → NodeId → ℤ
 number_at columns x = (node_at (nodes_at columns x.iteration) x.index).number
 
--- the report names two of the accesses that conflict, of parallel instances, the earlier one first
+-- the report names two conflicting accesses of parallel instances, the earlier one first
 pub record NamesRace (columns : List (List Node)) (accesses : List NodeAccess) (r : Report) : Type 0 where
   pub front : List NodeAccess
   pub earlier : NodeAccess

@@ -1,5 +1,5 @@
--- Which events are allowed in a state (Lee et al. 2013). The control part goes by instances and status, the program part
--- by traces and cells. An iteration waits until its left neighbour has named a greater stage number.
+-- Which events are allowed in a state (Lee et al. 2013). The control part depends on instances and status, the program part
+-- on traces and cells. An iteration waits until its left neighbour has named a greater stage number.
 use Rattle.std.specs.Prelude.{◌≡◌, ℕ, ℤ, zero, suc, List, ◌++◌, true, false, ◌≢◌, ◌<◌, ◌<ℤ◌, length, ◌-◌, Some}
 use Rattle.pipe_model.specs.declared.column.ColumnEnd.{ColumnEnd}
 use Rattle.pipe_model.specs.declared.event.Event.{Event}
@@ -82,7 +82,7 @@ pub record MayAdvance (s : State) (i : ℕ) (k : Kind) (n : ℤ) : Type 0 where
   pub kind : k ≢ Zero
   pub above : (node_at running.frame.nodes (length running.frame.nodes - 1)).number <ℤ n
 
--- iteration i runs, and ends; with Closed in instance 0 alone
+-- iteration i runs, and may end; with Closed only in instance 0
 pub record MayFinish (s : State) (i : ℕ) (e : ColumnEnd) : Type 0 where
   pub running : IsRunning s i
   pub first : e ≡ ends.Closed → length running.frame.nodes ≡ 1
@@ -100,7 +100,7 @@ ControlAllows limit s Stop = Unit {0}
 abbrev pub OffersAt : Pipeline → State → ℕ → Action → Type 0
 OffersAt p s i item = Offers (behaviour_after_all (p.behaviour i) (trace_in (frame_at s.frames i))) item
 
--- the program part allows the event: its action can come next, and a read has the value of its cell
+-- the program part allows the event: its action may be the next, and a read has the value of its cell
 abbrev pub ProgramAllows : Pipeline → State → Event → Type 0
 ProgramAllows p s (Begin i) = Unit {0}
 ProgramAllows p s (Access i a) = OffersAt p s i (Accessed a) × HasReply p.store (p.preamble ++ accesses_of s.accesses) a

@@ -1,11 +1,10 @@
--- Runs of the control part alone, whose events are no accesses.
+-- Runs of the control part alone, whose events are not accesses.
 use Rattle.std.specs.Prelude.{◌≡◌, ℕ, List, [], ◌∷◌, ◌++◌, Bool, true, false}
 use Rattle.pipe_model.specs.declared.event.Event.{Event}
 use Rattle.pipe_model.specs.declared.event.Event.TheVariants.{Begin, Advance, Enter, Finish, Stop, Access}
 use Rattle.pipe_model.specs.Runs.State.{State, initial_state, next_state}
 use Rattle.pipe_model.specs.Runs.Allowed.{ControlAllows}
 
--- the event is an access
 abbrev pub is_access : Event → Bool
 is_access (Begin i) = false
 is_access (Access i a) = true

@@ -1,4 +1,4 @@
--- Runs: lists of events, each allowed in the state that those before it have made. The last event stands last.
+-- Runs: lists of events, each allowed in the state after those before it. The last event is at the end of the list.
 use Rattle.std.specs.Prelude.{◌≡◌, ℕ, List, [], ◌∷◌, ◌++◌, true, false, Some}
 use Rattle.pipe_model.specs.declared.event.Event.{Event}
 use Rattle.pipe_model.specs.Pipelines.Pipeline.{Pipeline}
@@ -16,12 +16,12 @@ pub record IsFinished (s : State) : Type 0 where
   pub shut : IsClosed s.frames
   pub going : s.stopped ≡ false
 
--- the state that events make of a state, whether they are allowed or not
+-- the state after more events, whether they are allowed or not
 abbrev pub state_from : State → List Event → State
 state_from s [] = s
 state_from s (e ∷ es) = state_from (next_state s e) es
 
--- the events are allowed one after the other, from a state on: a run told from the front
+-- the events are allowed one after the other, from a state on: a run defined from its first event
 abbrev pub AllowedFrom : Pipeline → ℕ → State → List Event → Type 0
 AllowedFrom p limit s [] = Unit {0}
 AllowedFrom p limit s (e ∷ es) = Allowed p limit s e × AllowedFrom p limit (next_state s e) es

@@ -1,4 +1,4 @@
--- Run logs: what a run tells of itself. Its events lead to a state, which has the run's own columns and its own accesses.
+-- Run logs: what a run reports of itself. Its events lead to a state, which has the run's own columns and its own accesses.
 use Rattle.std.specs.Prelude.{◌≡◌, ℕ, List, map}
 use Rattle.pipe_model.specs.declared.access.NodeAccess.{NodeAccess}
 use Rattle.pipe_model.specs.declared.column.Column.{Column}
@@ -21,7 +21,7 @@ columns_after events = own_columns (state_after events)
 abbrev pub accesses_after : List Event → List NodeAccess
 accesses_after events = (state_after events).accesses
 
--- the column of an iteration, with its end where it has ended
+-- the column of an iteration, with its end if it has ended
 abbrev pub column_of_frame : Frame → Column
 column_of_frame f = record { nodes = f.nodes; end = end_of_status f.status }
 
@@ -29,7 +29,7 @@ column_of_frame f = record { nodes = f.nodes; end = end_of_status f.status }
 abbrev pub ended_columns_after : List Event → List Column
 ended_columns_after events = map column_of_frame (state_after events).frames
 
--- the log tells a finished run: each event is allowed where it stands, all iterations have ended, and the columns are the run's own
+-- the log is that of a finished run: each event is allowed after those before it, all iterations have ended, and the columns are the run's own
 pub record IsFinishedRun (p : Pipeline) (limit : ℕ) (log : RunLog) : Type 0 where
   pub run : Run p limit log.events (state_after log.events)
   pub finished : IsFinished (state_after log.events)

@@ -57,7 +57,7 @@ pub data PlayedRun (p : Pipeline) (limit workers : ℕ) : List Event → State �
 
 -- ---- choices
 
--- choice j; the choices are used round and round, and an empty list is always 0
+-- choice j; after the last choice the first is used again, and with an empty list each choice is 0
 abbrev pub choice_at : List ℕ → ℕ → ℕ
 choice_at [] j = 0
 choice_at (c ∷ cs) j = slice_index_or (c ∷ cs) (j % length (c ∷ cs)) 0

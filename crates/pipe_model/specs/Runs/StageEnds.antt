@@ -8,7 +8,7 @@ use Rattle.pipe_model.specs.declared.stage.StageEnd.{StageEnd}
 use Rattle.pipe_model.specs.declared.stage.StageEnd.TheVariants.{Wait, Continue, End, Closed, Trap, Stopped}
 use Rattle.pipe_model.specs.Pipelines.Behaviour.{Action, Staged, Ended}
 
--- the event, if there is one, where the instance is of iteration i
+-- the event, if there is one, for an instance of iteration i
 abbrev pub stage_end_events : ℕ → StageEnd → List Event
 stage_end_events i (Wait n) = events.Advance i kinds.Wait n ∷ []
 stage_end_events i (Continue n) = events.Advance i kinds.Continue n ∷ []

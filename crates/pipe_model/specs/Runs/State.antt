@@ -1,4 +1,4 @@
--- States of a run: the iterations that have begun, what they have done so far, and what an event changes of them.
+-- States of a run: the iterations that have begun, what they have done so far, and how an event changes a state.
 use Rattle.std.specs.Prelude.{ℕ, zero, suc, List, [], ◌∷◌, ◌++◌, Bool, true, false, pos, ◌+◌, length, ◌-◌, map, Option, Some, None}
 use Rattle.pipe_model.specs.declared.access.Access.{Access as Cell_access}
 use Rattle.pipe_model.specs.declared.access.NodeAccess.{NodeAccess}
@@ -44,22 +44,22 @@ update_frame [] i g = []
 update_frame (f ∷ fs) zero g = g f ∷ fs
 update_frame (f ∷ fs) (suc i) g = f ∷ update_frame fs i g
 
--- one action more, and a new status
+-- adds an action, and sets the status
 abbrev pub with_action : Action → Status → Frame → Frame
 with_action item now f = record f { status = now; trace = f.trace ++ item ∷ [] }
 
--- the stage that was named is entered: its instance runs
+-- enters the stage that was named, whose instance then runs
 abbrev pub enter_pending : Status → Frame → Frame
 enter_pending Running f = f
 enter_pending (Pending k n) f = record f { nodes = f.nodes ++ node_of k n ∷ []; status = Running }
 enter_pending (Completed e) f = f
 
--- the place of the current instance, which is the last of its column
+-- the index of the current instance, which is the last of its column
 abbrev pub current_index : Option Frame → ℕ
 current_index None = 0
 current_index (Some f) = length f.nodes - 1
 
--- the trace of a frame, if there is one
+-- the trace of a frame; empty if there is none
 abbrev pub trace_in : Option Frame → List Action
 trace_in None = []
 trace_in (Some f) = f.trace
@@ -82,7 +82,7 @@ is_completed Running = false
 is_completed (Pending k n) = false
 is_completed (Completed e) = true
 
--- 1 where the iteration has not ended
+-- 1 if the iteration has not ended, and else 0
 abbrev pub alive_one : Status → ℕ
 alive_one Running = 1
 alive_one (Pending k n) = 1

@@ -1,5 +1,5 @@
--- Logs with tickets: a book of the events that are no accesses, and shards of the accesses, each in its own order. The
--- merge goes by tickets. A closed run has these logs; what they say is enough for the merge to be a run.
+-- Logs with tickets: a book of the events that are not accesses, and shards of the accesses, each in its own order. They
+-- are merged by ticket. A closed run has these logs; their properties are enough for the merge to be a run.
 use Rattle.std.specs.Prelude.{◌≡◌, ℕ, zero, suc, List, [], ◌∷◌, ◌++◌, Bool, true, false, ◌+◌, ◌<◌, map, ◌⊎◌, Option, Some, None, ◌==◌, ◌%◌}
 use Rattle.pipe_model.specs.declared.access.Access.{Access as Cell_access}
 use Rattle.pipe_model.specs.declared.event.Event.{Event}
@@ -23,17 +23,15 @@ pub data LogEntry : Type 0 where
   OfBook : BookEntry → LogEntry
   OfShard : ℕ → ShardEntry → LogEntry
 
--- the ticket of an entry
 abbrev pub ticket_of : LogEntry → ℕ
 ticket_of (OfBook b) = b.ticket
 ticket_of (OfShard k e) = e.ticket
 
--- where an entry stands among those with its ticket: the book first, then the shards by number
+-- the rank of an entry among those with its ticket: the book first, then the shards by number
 abbrev pub rank_of : LogEntry → ℕ
 rank_of (OfBook b) = 0
 rank_of (OfShard k e) = suc k
 
--- the event of an entry
 abbrev pub event_of : LogEntry → Event
 event_of (OfBook b) = b.event
 event_of (OfShard k e) = Access e.node.iteration e.access
@@ -53,7 +51,7 @@ book_in [] = []
 book_in (OfBook b ∷ xs) = b ∷ book_in xs
 book_in (OfShard k e ∷ xs) = book_in xs
 
--- one more in front, where the first is true
+-- the list with one more entry at its front, if the condition is true
 abbrev pub if_shard : Bool → ShardEntry → List ShardEntry → List ShardEntry
 if_shard true e es = e ∷ es
 if_shard false e es = es
@@ -64,13 +62,13 @@ shard_in k [] = []
 shard_in k (OfBook b ∷ xs) = shard_in k xs
 shard_in k (OfShard j e ∷ xs) = if_shard (j == k) e (shard_in k xs)
 
--- a list in order that has the book and each shard as they are
+-- the list is in order, and its entries of the book and of each shard are those of `book` and `shards`, in their order
 pub record IsMerge (book : List BookEntry) (shards : ℕ → List ShardEntry) (merged : List LogEntry) : Type 0 where
   pub order : InOrder merged
   pub book_is : book_in merged ≡ book
   pub shard_is : (k : ℕ) → shard_in k merged ≡ shards k
 
--- the ticket, where the first is true
+-- the ticket, if the condition is true
 abbrev pub if_ticket : Bool → ℕ → List ℕ
 if_ticket true t = t ∷ []
 if_ticket false t = []
@@ -103,18 +101,17 @@ abbrev pub end_tickets : ℕ → List BookEntry → List ℕ
 end_tickets i [] = []
 end_tickets i (b ∷ bs) = end_ticket i b.event b.ticket ++ end_tickets i bs
 
--- the ticket at place n
+-- the ticket at index n
 abbrev pub ticket_at : List ℕ → ℕ → Option ℕ
 ticket_at [] n = None
 ticket_at (t ∷ ts) zero = Some t
 ticket_at (t ∷ ts) (suc n) = ticket_at ts n
 
--- the tickets rise
 abbrev pub TicketsRise : List TimedAction → Type 0
 TicketsRise [] = Unit {0}
 TicketsRise (x ∷ xs) = ((y : TimedAction) → Among y xs → x.ticket < y.ticket) × TicketsRise xs
 
--- the action with its ticket, where the first is true
+-- the action with its ticket, if the condition is true
 abbrev pub if_end : Bool → ℕ → Action → List TimedAction
 if_end true t x = record { ticket = t; action = x } ∷ []
 if_end false t x = []
@@ -133,7 +130,7 @@ abbrev pub end_actions : ℕ → List BookEntry → List TimedAction
 end_actions i [] = []
 end_actions i (b ∷ bs) = end_action i b.event b.ticket ++ end_actions i bs
 
--- the traces of the instances from number k on, each with its end
+-- the traces of the instances from number k on, each followed by its end
 abbrev pub laid_traces : (ℕ → List TimedAction) → ℕ → List TimedAction → List TimedAction
 laid_traces made k [] = made k
 laid_traces made k (e ∷ ends) = made k ++ e ∷ laid_traces made (k + 1) ends
@@ -146,8 +143,8 @@ pub record InTicketOrder (book : List BookEntry) (made : ℕ → ℕ → List Ti
   pub start_end : (i k t : ℕ) → ticket_at (end_tickets i book) k ≡ Some t → (s : ℕ) × (ticket_at (start_tickets i book) k ≡ Some s) × (s < t)
   pub down : (i k t s : ℕ) → ticket_at (end_tickets i book) k ≡ Some t → ticket_at (start_tickets i book) (k + 1) ≡ Some s → t < s
 
--- what the logs of a closed run say; `made i k` are the accesses of instance k of iteration i with their tickets,
--- and the accesses to a cell stand in the shard of its number modulo `width`
+-- the properties of the logs of a closed run; `made i k` are the accesses of instance k of iteration i with their tickets,
+-- and the accesses to a cell are in the shard of its number modulo `width`
 pub record ClosedLogs (p : Pipeline) (limit width : ℕ) (book : List BookEntry) (shards : ℕ → List ShardEntry) (made : ℕ → ℕ → List TimedAction) (c : State) : Type 0 where
   pub control : ControlRun limit (map (λ b. b.event) book) c
   pub order : InTicketOrder book made

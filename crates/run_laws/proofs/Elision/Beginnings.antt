@@ -1,4 +1,4 @@
--- Where a run is a beginning of the serial elision its columns extend to the elision's, and its accesses are some of
+-- If a run is a beginning of the serial elision, its columns extend to the elision's, and its accesses are some of
 -- the elision's.
 use Rattle.std.proofs.Common.{ℕ, List, Some, ◌≡◌, ◌++◌, ◌+◌, arith, take, subst, sym, [], ap, pos, ◌∙◌, ◌∷◌, true, ℤ, length, ◌<◌, ◌≤◌}
 use Rattle.std.proofs.Common.{◌<ℤ◌, ◌-◌, append-nil, inl, inr, refl}
@@ -39,7 +39,7 @@ pub record IsBeginning (p : Pipeline) (i : ℕ) (f : Frame) : Type 0 where
   pub rest : List Action
   pub begins : trace ≡ f.trace ++ rest
 
--- each frame has
+-- each frame has made the first part of a trace of the elision
 abbrev pub AreBeginnings : Pipeline → List Frame → Type 0
 AreBeginnings p fs = (i : ℕ) (f : Frame) → frame_at fs i ≡ Some f → IsBeginning p i f
 
@@ -51,7 +51,7 @@ beginning_ends p i f b =
     let h = serial_trace_ends p (p.behaviour (0 + i)) (memory_of p.preamble (take i (serial_traces p))) in
     (h.0, subst (λ (t : List Action). EndsWith t h.0) (sym e) h.1)
 
--- an iteration that has ended has made all of it
+-- an iteration that has ended has made the whole trace
 pub completed_has_no_rest : (p : Pipeline) (i : ℕ) (f : Frame) (e : ColumnEnd) → IsTraced p i f
     → f.status ≡ Completed e → (b : IsBeginning p i f) → b.rest ≡ []
 completed_has_no_rest p i f e t over b =
@@ -76,7 +76,7 @@ beginning_rises p i f proper b =
     rw (nodes_at_trace (serial_traces p) i b.trace b.is)
     (subst (λ (t : List Action). IsRising (column_of t)) (sym e) h)
 
--- past the instances of the frame stand numbers above all that it has passed
+-- the numbers after the instances of the frame are greater than all that it has passed
 beyond_passed : (f : Frame) (w : Status) (more : List Node) (n : ℤ) (j : ℕ) → f.status ≡ w → 0 < length f.nodes
     → (is_completed w ≡ true → more ≡ []) → IsRising ((f.nodes ++ pending_node w) ++ more) → length f.nodes ≤ j
     → j < length ((f.nodes ++ pending_node w) ++ more) → HasPassed w f.nodes n
@@ -182,7 +182,7 @@ run_among p s sp b x m =
     let st = sp.spread x m in
     beginning_among p st.place st.frame x (b st.place st.frame st.is) st.made
 
--- the run has no race where the elision has none
+-- the run has no race if the elision has none
 pub own_race_free : (p : Pipeline) (s : State) → IsWellFormed p → IsConsistent s → AllTraced p s.frames
     → HasLocatedAccesses s → AreBeginnings p s.frames → IsRaceFree (serial_columns p) (serial_accesses p)
     → IsRaceFree (own_columns s) s.accesses

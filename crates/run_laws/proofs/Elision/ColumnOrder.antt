@@ -1,5 +1,5 @@
--- In a run without a race the reads have the replies of the iterations one after the other, and the cells are written
--- the same.
+-- In a run without a race the reads have the replies of the iterations one after the other, and the same values are written
+-- to the cells.
 use Rattle.std.proofs.Common.{ℕ, ◌≡◌, List, ap, ◌∙◌, append-nil, [], ◌∷◌, ◌++◌, refl, Some, sym, ◌+◌, arith, inl, inr, append_assoc, subst}
 use Rattle.std.proofs.lemmas.List.{map-append}
 use Rattle.std.proofs.lemmas.List.Concat.{flat_map-append}
@@ -41,7 +41,7 @@ quiet_agrees p s fs q g =
     ap accesses_by_column q.result ∙ accesses_by_column-update_frame s.frames q.place q.frame q.update q.is q.quiet in
     record { replies = rw e g.replies; same = λ c. rw e (g.same c) }
 
--- a beginning keeps both
+-- the beginning of an iteration keeps both
 begun_agrees : (p : Pipeline) (s : State) (i : ℕ) → AgreesByColumn p s → AgreesByColumn p (next_state s (Begin i))
 begun_agrees p s i g =
     let e : accesses_by_column (s.frames ++ fresh_frame ∷ []) ≡ accesses_by_column s.frames =
@@ -49,7 +49,7 @@ begun_agrees p s i g =
     ∙ append-nil (accesses_by_column s.frames) in
     record { replies = rw e g.replies; same = λ c. rw e (g.same c) }
 
--- without a race, nothing that was done further to the right conflicts
+-- without a race, no access that was made further to the right conflicts
 no_conflict_right : (s : State) (i : ℕ) (a : Cell_access) → IsConsistent s → (r : IsRunning s i)
     → IsRaceFree (own_columns (next_state s (Access i a))) (next_state s (Access i a)).accesses
     → (h : IsParted s.frames i r.frame (with_action (Accessed a) Running)) → (b : Cell_access)
@@ -69,11 +69,11 @@ no_conflict_right s i a k r free h b m c =
           (omega arith));
     })
 
--- conflicts go both ways
+-- a conflict is symmetric
 conflict_sym : (a b : Cell_access) → Conflict a b → Conflict b a
 conflict_sym a b c = record { same = sym c.same; one = elim c.one [ inl l ↦ inr l | inr r ↦ inl r ] }
 
--- an access that does not race keeps both: it may be put at the end of its iteration's accesses
+-- an access that does not race keeps both: it may be moved to the end of its iteration's accesses
 access_agrees : (p : Pipeline) (s : State) (i : ℕ) (a : Cell_access) → IsConsistent s → IsRunning s i
     → HasReply p.store (p.preamble ++ accesses_of s.accesses) a
     → IsRaceFree (own_columns (next_state s (Access i a))) (next_state s (Access i a)).accesses → AgreesByColumn p s

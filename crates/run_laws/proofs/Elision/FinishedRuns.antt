@@ -26,7 +26,7 @@ use Rattle.run_laws.proofs.RunStates.FrameTraces.{IsTraced, completed_is, EndsBy
 use Rattle.run_laws.proofs.RunStates.Frames.{frame_at_within, frame_at_exists}
 use Rattle.run_laws.proofs.RunStates.RunInvariant.{run_consistent}
 
--- an iteration of a finished run: it has come to its end
+-- an iteration of a finished run, which has ended
 pub record IsEnded (p : Pipeline) (i : ℕ) (f : Frame) : Type 0 where
   pub end : ColumnEnd
   pub status : f.status ≡ Completed end
@@ -34,14 +34,14 @@ pub record IsEnded (p : Pipeline) (i : ℕ) (f : Frame) : Type 0 where
   pub ends : EndsWith f.trace end
   pub nodes : column_of f.trace ≡ f.nodes
 
--- the iterations of a finished run: the last one alone closes the loop
+-- the iterations of a finished run: only the last one closes the loop
 abbrev pub IsWhole : Pipeline → ℕ → List Frame → Type 0
 IsWhole p i [] = ⊥
 IsWhole p i (f ∷ fs) =
     IsEnded p i f × (((closes_loop f.trace ≡ true) × (fs ≡ []))
     ⊎ ((closes_loop f.trace ≡ false) × IsWhole p (i + 1) fs))
 
--- iterations that have ended, of which the last alone closes the loop
+-- iterations that have ended, of which only the last closes the loop
 whole_from : (p : Pipeline) (i : ℕ) (fs : List Frame)
     → ((j : ℕ) (f : Frame) → frame_at fs j ≡ Some f → IsEnded p (i + j) f)
     → ((j : ℕ) (f : Frame) → frame_at fs j ≡ Some f → j + 1 < length fs → closes_loop f.trace ≡ false)

@@ -1,4 +1,4 @@
--- The next access of a running instance does not conflict with what other iterations did too early or have still to do.
+-- The next access of a running instance does not conflict with accesses that other iterations made too early or have still to make.
 use Rattle.std.proofs.Common.{ℕ, length, ◌-◌, suc, ◌≡◌, ap, List, sym, append-nil, ◌∙◌, ◌++◌, ◌∷◌, arith, ◌+◌, Some, ◌<◌, ◌≤◌, subst, []}
 use Rattle.std.proofs.Common.{refl, take, append_assoc}
 use Rattle.std.proofs.lemmas.List.{length-append}
@@ -36,7 +36,7 @@ use Rattle.run_laws.proofs.RunStates.RunningInstances.{running_has_no_path}
 abbrev pub next_access : Frame → ℕ → Cell_access → NodeAccess
 next_access f i a = record { node = at i (length f.nodes - 1); access = a }
 
--- how many instances a running iteration has
+-- the number of instances of a running iteration
 running_count : (p : Pipeline) (i : ℕ) (f : Frame) → IsTraced p i f → f.status ≡ Running
     → length f.nodes ≡ suc (length (nodes_in f.trace))
 running_count p i f t e =
@@ -55,7 +55,7 @@ next_among p i f a rest t runs b e =
     (among_right (record { node = at i (0 + length (nodes_in f.trace)); access = a }) (located i 0 f.trace)
     (located i (0 + length (nodes_in f.trace)) (Accessed a ∷ rest)) Here))
 
--- nothing that was done further to the right conflicts with the next access
+-- no access that was made further to the right conflicts with the next access
 no_conflict_right : (p : Pipeline) (s : State) (i : ℕ) (a : Cell_access) → IsWellFormed p → IsConsistent s
     → AllTraced p s.frames → HasLocatedAccesses s → AreBeginnings p s.frames
     → IsRaceFree (serial_columns p) (serial_accesses p) → (r : IsRunning s i)
@@ -83,7 +83,7 @@ no_conflict_right p s i a proper k t sp b free r next j g w l is made c =
       };
     })
 
--- an instance at which more is to be done leads nowhere yet
+-- no path leaves an instance that has more to do yet
 unfinished_has_no_path : (p : Pipeline) (s : State) (j : ℕ) (g : Frame) (m : ℕ) (y : NodeId) (w : Status)
     → IsConsistent s → IsTraced p j g → (b : IsBeginning p j g) → frame_at s.frames j ≡ Some g → g.status ≡ w
     → (a : Cell_access) → Among a (accesses_in b.rest) → length (nodes_in g.trace) ≤ m
@@ -102,7 +102,7 @@ unfinished_has_no_path p s j g m y (Pending kind n) k t b is e a made l path =
 unfinished_has_no_path p s j g m y (Completed d) k t b is e a made l path =
     none_among a (subst (λ (x : List Action). Among a (accesses_in x)) (completed_has_no_rest p j g d t e b) made)
 
--- nothing that is still to be done further to the left conflicts with the next access
+-- no access that is still to be made further to the left conflicts with the next access
 no_conflict_left : (p : Pipeline) (s : State) (i : ℕ) (a : Cell_access) → IsWellFormed p → IsConsistent s
     → AllTraced p s.frames → (b : AreBeginnings p s.frames) → IsRaceFree (serial_columns p) (serial_accesses p)
     → (r : IsRunning s i) → Among (next_access r.frame i a) (serial_accesses p)
@@ -139,7 +139,7 @@ no_conflict_left p s i a proper k t b free r next j g w l is made c =
       };
     })
 
--- a frame whose trace has nothing left that writes the cell
+-- a frame with the rest of its trace, which does not write the cell
 record IsWrittenOut (c : ℕ) (ts : List (List Action)) (j : ℕ) (g : Frame) : Type 0 where
   trace : List Action
   rest : List Action
@@ -167,7 +167,7 @@ written_by_left c (f ∷ fs) (t ∷ ts) h =
     record { trace = q.trace; rest = q.rest; is = q.is; begins = q.begins; none = q.none })))
     ∙ sym (written-append c (accesses_in t) (flat_map accesses_in (take (length fs) ts)))
 
--- the cell was written the same in the run as in the elision
+-- the writes to the cell are the same in the run as in the elision
 pub written_same : (p : Pipeline) (s : State) (i : ℕ) (a : Cell_access) → IsWellFormed p → IsConsistent s
     → AllTraced p s.frames → HasLocatedAccesses s → AgreesByColumn p s → (b : AreBeginnings p s.frames)
     → IsRaceFree (serial_columns p) (serial_accesses p) → (r : IsRunning s i)

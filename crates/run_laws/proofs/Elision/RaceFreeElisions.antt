@@ -1,4 +1,4 @@
--- Where the serial elision has no race, every run is a beginning of it, and has none.
+-- If the serial elision has no race, every run is a beginning of it, and has none.
 use Rattle.std.proofs.Common.{List, ℕ, ℤ, ◌≡◌, ◌∷◌, ap, sym, refl, [], ◌++◌, take, subst, ◌+◌, arith, ◌∙◌, append_assoc, Some, inl, inr}
 use Rattle.std.proofs.Common.{length, false, ◌<◌, append-nil, zero, suc, true}
 use Rattle.std.proofs.lemmas.Bool.{cases_Bool, cases_eq, false≢true}
@@ -33,7 +33,7 @@ use Rattle.run_laws.proofs.RunStates.RunInvariant.{IsConsistent, run_consistent}
 use Rattle.run_laws.proofs.Elision.RaceFreeRuns.{race_free_runs_are_serial}
 use Rattle.run_laws.specs.SerialLaws.{RaceFreeElisionsHaveRaceFreeRuns, RacesAreThoseOfTheElision}
 
--- an action that is offered with its reply is the elision's next
+-- an offered action that has its reply is the elision's next
 serial_trace_next : (p : Pipeline) (d : Behaviour) (m : List Cell_access) (x : Action) → Offers d x
     → ((c : ℕ) (go : ℤ → Behaviour) → d ≡ Reading c go → x ≡ Accessed (read_access c (value_after p.store m c)))
     → (rest : List Action) × (serial_trace p.store d m ≡ x ∷ rest)
@@ -51,11 +51,11 @@ serial_trace_next p (Writing c v d) m x o reply = (
 serial_trace_next p (Staging k n d) m x o reply = (serial_trace p.store d m, ap (λ y. y ∷ serial_trace p.store d m) (sym o))
 serial_trace_next p (Ending e) m x o reply = ([], ap (λ y. y ∷ []) (sym o))
 
--- the memory at the next action of iteration i
+-- the accesses before the next action of iteration i
 abbrev memory_at : Pipeline → ℕ → Frame → List Cell_access
 memory_at p i f = memory_of p.preamble (take i (serial_traces p)) ++ accesses_in f.trace
 
--- what is left of a trace is the serial trace from there
+-- the rest of a trace is the serial trace from there
 rest_is_serial : (p : Pipeline) (i : ℕ) (f : Frame) → IsTraced p i f → f.status ≡ Running → (b : IsBeginning p i f)
     → b.rest ≡ serial_trace p.store (behaviour_after_all (p.behaviour i) f.trace) (memory_at p i f)
 rest_is_serial p i f t runs b =
@@ -83,7 +83,7 @@ action_beginning p i f x w t runs b o reply =
           ∙ sym (append_assoc f.trace (x ∷ []) n.0);
     }
 
--- the frames stay beginnings where the one that an event changes does
+-- the frames stay beginnings if the one that an event changes does
 beginning_moved : (p : Pipeline) (fs : List Frame) (i : ℕ) (f : Frame) (u : Frame → Frame) → AreBeginnings p fs
     → frame_at fs i ≡ Some f → IsBeginning p i (u f) → AreBeginnings p (update_frame fs i u)
 beginning_moved p fs i f u all e t = λ j h c. elim (frame_at_moved fs i j f u h e c) [

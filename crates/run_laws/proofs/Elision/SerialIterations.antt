@@ -45,7 +45,7 @@ run_as {p} {limit} events more fs f accesses others e a r =
     subst (λ l. Run p limit l (state_with_last fs f others)) e
     (subst (λ l. Run p limit events (state_with_last fs f l)) a r)
 
--- an access, and then the rest
+-- one access, and then the rest
 accessed_first : (p : Pipeline) (limit : ℕ) (events : List Event) (fs : List Frame) (f : Frame)
     (accesses : List NodeAccess) (a : Cell_access) (actions : List Action)
     → HasRunOn p limit (events ++ Access (length fs) a ∷ []) fs (with_action (Accessed a) Running f)
@@ -87,7 +87,7 @@ staged_first p limit events fs f accesses k n actions l w =
           (ap (λ m. accesses ++ located (length fs) m actions) index) w.run;
     }
 
--- the memory after one access more
+-- the accesses after one more access
 memory-push : (before : List Cell_access) (accesses : List NodeAccess) (x : NodeAccess)
     → before ++ accesses_of (accesses ++ x ∷ []) ≡ (before ++ accesses_of accesses) ++ x.access ∷ []
 memory-push before accesses x =

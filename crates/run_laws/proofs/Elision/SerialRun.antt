@@ -75,7 +75,7 @@ runs_last p limit events fs accesses actions all w shut =
       };
     }
 
--- an iteration that does not, and those after it
+-- an iteration that does not close the loop, and those after it
 runs_more : (p : Pipeline) (limit : ℕ) (events : List Event) (fs : List Frame) (accesses : List NodeAccess)
     (actions : List Action) (traces : List (List Action))
     → (w : HasRunOn p limit (events ++ Begin (length fs) ∷ []) fs fresh_frame accesses actions)
@@ -110,7 +110,7 @@ runs_more p limit events fs accesses actions traces w h =
       shut = h.shut;
     }
 
--- after an iteration that does not close the loop it goes on
+-- the loop goes on after an iteration that does not close it
 continues_after : (p : Pipeline) (limit : ℕ) (events : List Event) (fs : List Frame) (accesses : List NodeAccess)
     (actions : List Action)
     → (w : HasRunOn p limit events fs fresh_frame accesses actions) → closes_loop actions ≡ false
@@ -124,7 +124,7 @@ continues_after p limit events fs accesses actions w free =
           omega (arith, wide, same))
     ])
 
--- the memory after an iteration more
+-- the accesses after one more iteration
 memory-located : (before : List Cell_access) (accesses : List NodeAccess) (i : ℕ) (actions : List Action)
     → before ++ accesses_of (accesses ++ located i 0 actions) ≡ (before ++ accesses_of accesses)
     ++ accesses_in actions
@@ -137,7 +137,7 @@ memory-located before accesses i actions =
 unless-same : {A : Type 0} (b c : Bool) (xs : List A) → b ≡ c → unless b xs ≡ unless c xs
 unless-same b c xs e = ap (λ t. unless t xs) e
 
--- the iterations from here on run as the elision has them
+-- the iterations from here on run as in the elision
 run_iterations : (p : Pipeline) (limit : ℕ) → IsWellFormed p → 0 < limit
     → (n : ℕ) (events : List Event) (fs : List Frame) (accesses : List NodeAccess)
     → Run p limit events (completed_state fs accesses) → AllCompleted fs → AllContinueLoop fs

@@ -25,7 +25,7 @@ use Rattle.run_laws.proofs.RunStates.Completed.{AllCompleted, completed_passes, 
 use Rattle.run_laws.proofs.RunStates.FrameMoves.{last_node, entered_frame, enter_pending_is}
 use Rattle.run_laws.proofs.RunStates.Frames.{frame_at_last, frame_at_within}
 
--- iterations that have ended, and one after them
+-- iterations that have ended, and one more
 abbrev pub state_with_last : List Frame → Frame → List NodeAccess → State
 state_with_last fs f accesses = record { frames = fs ++ f ∷ []; accesses = accesses; stopped = false }
 
@@ -47,7 +47,7 @@ abbrev running_last : (fs : List Frame) (f : Frame) (accesses : List NodeAccess)
     → IsRunning (state_with_last fs f accesses) (length fs)
 running_last fs f accesses e = record { frame = f; is = frame_at_last fs f; runs = e }
 
--- what its behaviour offers the program offers
+-- the program offers what its behaviour offers
 offered_last : (p : Pipeline) (fs : List Frame) (f : Frame) (accesses : List NodeAccess) (x : Action)
     → Offers (behaviour_after_all (p.behaviour (length fs)) f.trace) x
     → OffersAt p (state_with_last fs f accesses) (length fs) x
@@ -154,7 +154,7 @@ then_enter {p} fs f accesses k n r all e =
     (state_with_frames _ _ accesses (update_frame-last fs f (λ g. enter_pending g.status g)
     ∙ ap (λ (g : Frame). fs ++ g ∷ []) (enter_pending_is f k n e)))
 
--- iterations that have ended, and none after them
+-- iterations that have ended, and no others
 abbrev pub completed_state : List Frame → List NodeAccess → State
 completed_state fs accesses = record { frames = fs; accesses = accesses; stopped = false }
 
@@ -174,7 +174,7 @@ then_begin {p} {limit} fs accesses room r all on =
       program = tt;
     })
 
--- a frame is the last, or stands before it
+-- a frame is the last, or before the last
 pub frame_at_last_cases : (fs : List Frame) (f : Frame) (j : ℕ) (h : Frame) → frame_at (fs ++ f ∷ []) j ≡ Some h
     → (h ≡ f) ⊎ (frame_at fs j ≡ Some h)
 frame_at_last_cases fs f j h e = elim (cases_lt j (length fs)) [
@@ -188,7 +188,7 @@ frame_at_last_cases fs f j h e = elim (cases_lt j (length fs)) [
       inl (cc))
 ]
 
--- all have ended, also with one more that has
+-- all have ended, also with one more that has ended
 pub completed_push : (fs : List Frame) (f : Frame) (e : ColumnEnd) → AllCompleted fs → f.status ≡ Completed e
     → AllCompleted (fs ++ f ∷ [])
 completed_push fs f e all over = λ j h is. elim (frame_at_last_cases fs f j h is) [

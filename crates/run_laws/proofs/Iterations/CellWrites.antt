@@ -17,17 +17,17 @@ written-append c [] ys = refl
 written-append c (x ∷ xs) ys =
     ap (λ l. wrote c x ++ l) (written-append c xs ys) ∙ sym (append_assoc (wrote c x) (written c xs) (written c ys))
 
--- what one access more writes
+-- what one more access writes
 pub written-push : (c : ℕ) (xs : List Access) (y : Access) → written c (xs ++ y ∷ []) ≡ written c xs ++ wrote c y
 written-push c xs y = written-append c xs (y ∷ []) ∙ ap (λ l. written c xs ++ l) (append-nil (wrote c y))
 
--- no_conflict_writes_none, by the kind and by whether the cell is the same
+-- `no_conflict_writes_none`, by the kind and by whether the cell is the same
 no_conflict_writes_none_by : (k : AccessKind) (t : Bool) (v : ℤ) → (k ≡ Write → t ≡ true → ⊥) → wrote_as k t v ≡ []
 no_conflict_writes_none_by Read t v h = refl
 no_conflict_writes_none_by Write true v h = absurd (h refl refl)
 no_conflict_writes_none_by Write false v h = refl
 
--- what does not conflict with an access does not write its cell
+-- an access that does not conflict with another does not write its cell
 pub no_conflict_writes_none : (e b : Access) → (Conflict e b → ⊥) → wrote e.cell.0 b ≡ []
 no_conflict_writes_none e b h =
     no_conflict_writes_none_by b.kind (b.cell.0 == e.cell.0) b.value
@@ -54,7 +54,7 @@ replies_same p b d (x ∷ xs) same h = (
       h.1,
 )
 
--- an access that writes no cell that is read after it may come in between
+-- an access that writes no cell which is read after it may be inserted
 pub replies_insert : (p : Pipeline) (b front rest : List Access) (e : Access) → AllHaveReplies p b (front ++ rest)
     → HasReply p.store (b ++ front) e → ((x : Access) → Among x rest → x.kind ≡ Read → wrote x.cell.0 e ≡ [])
     → AllHaveReplies p b (front ++ e ∷ rest)
@@ -69,7 +69,7 @@ replies_insert p b (x ∷ front) rest e h reply free = (
       (subst (λ l. HasReply p.store l e) (sym (append_assoc b (x ∷ []) front)) reply) free,
 )
 
--- wrote_cases, by the kind and by whether the cell is the same
+-- `wrote_cases`, by the kind and by whether the cell is the same
 wrote_as_cases : (k : AccessKind) (t : Bool) (v : ℤ) → (wrote_as k t v ≡ []) ⊎ (t ≡ true)
 wrote_as_cases Read t v = inl refl
 wrote_as_cases Write true v = inr refl

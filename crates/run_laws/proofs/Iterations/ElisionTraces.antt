@@ -46,7 +46,7 @@ trace_is_serial p (suc n) i m (suc j) t e =
           (sym free)))
     ]
 
--- after a trace that does not close the loop comes another
+-- a trace that does not close the loop is followed by another
 pub next_trace_exists : (p : Pipeline) (n i : ℕ) (m : List Cell_access) (j : ℕ) (t : List Action)
     → trace_at (serial_traces_from p n i m) j ≡ Some t → closes_loop t ≡ false → suc j < n
     → (u : List Action) × (trace_at (serial_traces_from p n i m) (suc j) ≡ Some u)
@@ -84,7 +84,7 @@ nodes_at_trace [] i t e = absurd (cc)
 nodes_at_trace (u ∷ ts) zero t e = let same : u ≡ t = cc in ap column_of same
 nodes_at_trace (u ∷ ts) (suc i) t e = nodes_at_trace ts i t e
 
--- the elision has at most as many traces as iterations are allowed
+-- the elision has at most as many traces as the limit on iterations allows
 pub trace_within : (p : Pipeline) (n i : ℕ) (m : List Cell_access) (j : ℕ) (t : List Action)
     → trace_at (serial_traces_from p n i m) j ≡ Some t → j < n
 trace_within p zero i m j t e = absurd (cc)
@@ -103,12 +103,12 @@ trace_within p (suc n) i m (suc j) t e =
           omega (arith, l))
     ]
 
--- nothing, where the test is true
+-- the list is empty if the test is true
 pub unless_true : {A : Type 0} (b : Bool) (xs : List A) → b ≡ true → unless b xs ≡ []
 unless_true true xs e = refl
 unless_true false xs e = absurd (false≢true e)
 
--- the list, where the test is false
+-- the list is unchanged if the test is false
 pub unless_false : {A : Type 0} (b : Bool) (xs : List A) → b ≡ false → unless b xs ≡ xs
 unless_false true xs e = absurd (false≢true (sym e))
 unless_false false xs e = refl

@@ -1,4 +1,4 @@
--- What an interpreter does with an interaction tree is the serial trace of the tree's behaviour.
+-- The result of an interpreter of an interaction tree is the serial trace of the tree's behaviour.
 use Rattle.std.proofs.Common.{ℕ, ◌≡◌, zero, refl, suc, List, sym, ◌∙◌, [], ◌∷◌, ◌++◌, ap, append_assoc, append-nil}
 use Rattle.pipe_model.specs.Pipelines.Behaviour.{Accessed, read_access, write_access, Staged, Action, accesses_in}
 use Rattle.pipe_model.specs.Language.Interaction.{Interpreted, Progress, interpreted_bind, spend_step, Interaction, interpret, bind, Return, Raise, Step}
@@ -43,14 +43,14 @@ interpret-bind p base budget (Set c v d) f k =
 interpret-bind p base budget (Stage kind n d) f k =
     interpret-bind p base budget d f (record { actions = k.actions ++ Staged kind n ∷ []; left = budget })
 
--- one action more adds its access to the memory
+-- one more action adds its access to the accesses so far
 accesses_with_action : (base : List Access) (k : Progress) (i : Action)
     → base ++ accesses_in (k.actions ++ i ∷ []) ≡ (base ++ accesses_in k.actions) ++ accesses_in (i ∷ [])
 accesses_with_action base k i =
     ap (λ l. base ++ l) (accesses_in-append k.actions (i ∷ []))
     ∙ sym (append_assoc base (accesses_in k.actions) (accesses_in (i ∷ [])))
 
--- the law below, for a step
+-- `interpret_is_serial`, for a step
 interpret_step : (p : Pipeline) (base : List Access) (budget n : ℕ) (d : Interaction ColumnEnd) (k : Progress)
     → k.left ≡ n
     → ((j : Progress) → interpreted_actions (interpret p.store base budget d j) ≡ j.actions

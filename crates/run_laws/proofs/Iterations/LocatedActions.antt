@@ -10,7 +10,7 @@ use Rattle.pipe_model.specs.declared.access.Access.{Access as Cell_access}
 use Rattle.pipe_model.specs.declared.access.NodeAccess.{NodeAccess}
 use Rattle.pipe_model.proofs.Members.{among_left, among_right}
 
--- one access more is made by the last instance that the trace names
+-- a trace with one more access: the last instance that the trace names makes it
 pub located-accessed : (i k : ℕ) (xs : List Action) (a : Cell_access)
     → located i k (xs ++ Accessed a ∷ []) ≡ located i k xs
     ++ record { node = at i (k + length (nodes_in xs)); access = a } ∷ []
@@ -55,7 +55,7 @@ pub record IsLocatedFrom (i k : ℕ) (actions : List Action) (a : Cell_access) :
   pub from : k ≤ index
   pub made : Among (record { node = at i index; access = a }) (located i k actions)
 
--- is_located, for a trace that begins with an access
+-- `is_located`, for a trace that begins with an access
 is_located_accessed : (i k : ℕ) (xs : List Action) (a b : Cell_access) → Among a (b ∷ accesses_in xs)
     → (Among a (accesses_in xs) → IsLocatedFrom i k xs a) → IsLocatedFrom i k (Accessed b ∷ xs) a
 is_located_accessed i k xs a b Here h = record { index = k; from = omega arith; made = Here }
@@ -76,7 +76,7 @@ is_located i k (Ended e ∷ xs) a m =
     let h = is_located i k xs a m in
     record { index = h.index; from = h.from; made = h.made }
 
--- an access of one trace is an access of all
+-- an access of one trace is among the accesses of all
 pub among_located_from : (k : ℕ) (ts : List (List Action)) (i : ℕ) (t : List Action) (x : NodeAccess)
     → trace_at ts i ≡ Some t → Among x (located (k + i) 0 t) → Among x (located_from k ts)
 among_located_from k [] i t x e m = absurd (cc)

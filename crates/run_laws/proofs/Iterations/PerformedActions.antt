@@ -1,11 +1,11 @@
--- What a behaviour performs, told by replies and action by action.
+-- What a behaviour performs, by replies and action by action.
 use Rattle.std.proofs.Common.{List, ◌≡◌, ◌++◌, refl, [], ◌∷◌, sym, subst, ap, ℤ}
 use Rattle.pipe_model.specs.Pipelines.Behaviour.{Behaviour, Action, Performs, HasNoEnd, actions_with, Reading, Accessed, read_access, behaviour_after}
 use Rattle.pipe_model.specs.Pipelines.Behaviour.{Writing, write_access, Staging, Staged, Ending, Offers, behaviour_after_all}
 use Rattle.pipe_model.specs.Language.Interaction.{replies_in}
 use Rattle.run_laws.specs.BehaviourLaws.{BehavioursPerform}
 
--- what is performed is the beginning of the actions with the replies that stand in it
+-- a performed trace is a prefix of the actions with the replies that are in it
 actions_begin : (d : Behaviour) (xs : List Action) → Performs d xs → HasNoEnd xs
     → (rest : List Action) × (actions_with d (replies_in xs) ≡ xs ++ rest)
 actions_begin d [] h e = (actions_with d [], refl)
@@ -62,7 +62,7 @@ more_replies (Ending e) rs more = ([], refl)
 pub behaviours_perform : BehavioursPerform
 behaviours_perform d = record { performs = actions_perform d; begins = actions_begin d; grows = more_replies d }
 
--- one action more, that is offered after the others, is performed too
+-- one more action, which is offered after the others, is performed too
 pub performs_push : (d : Behaviour) (xs : List Action) (x : Action) → Performs d xs
     → Offers (behaviour_after_all d xs) x → Performs d (xs ++ x ∷ [])
 performs_push d [] x h o = (o, tt)
@@ -74,7 +74,7 @@ pub performs_offers : (d : Behaviour) (xs : List Action) (x : Action) (ys : List
 performs_offers d [] x ys h = h.0
 performs_offers d (z ∷ xs) x ys h = performs_offers (behaviour_after d z) xs x ys h.1
 
--- what is left after one action more
+-- what is left after one more action
 pub behaviour_after_all-push : (d : Behaviour) (xs : List Action) (x : Action)
     → behaviour_after_all d (xs ++ x ∷ []) ≡ behaviour_after (behaviour_after_all d xs) x
 behaviour_after_all-push d [] x = refl

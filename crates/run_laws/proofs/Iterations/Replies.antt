@@ -4,7 +4,7 @@ use Rattle.pipe_model.specs.declared.access.Access.{Access}
 use Rattle.pipe_model.specs.Pipelines.Pipeline.{Pipeline}
 use Rattle.pipe_model.specs.Pipelines.Store.{HasReply}
 
--- each read has the value that stands in its cell when it is made
+-- each read has the value of its cell at the time of the read
 abbrev pub AllHaveReplies : Pipeline → List Access → List Access → Type 0
 AllHaveReplies p before [] = Unit {0}
 AllHaveReplies p before (a ∷ rest) = HasReply p.store before a × AllHaveReplies p (before ++ a ∷ []) rest

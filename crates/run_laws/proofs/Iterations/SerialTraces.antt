@@ -14,7 +14,7 @@ use Rattle.pipe_model.specs.declared.node.Node.{Node}
 use Rattle.run_laws.proofs.Iterations.TraceParts.{EndsWith}
 use Rattle.run_laws.proofs.RunStates.FrameMoves.{last_node, rising_push, last_node-push}
 
--- a serial trace comes to an end
+-- a serial trace ends
 pub serial_trace_ends : (p : Pipeline) (d : Behaviour) (m : List Cell_access)
     → (e : ColumnEnd) × EndsWith (serial_trace p.store d m) e
 serial_trace_ends p (Reading c go) m =
@@ -23,7 +23,7 @@ serial_trace_ends p (Writing c v d) m = serial_trace_ends p d (m ++ write_access
 serial_trace_ends p (Staging k n d) m = serial_trace_ends p d m
 serial_trace_ends p (Ending e) m = (e, (refl, refl))
 
--- what follows a part of a serial trace is the serial trace of what is left
+-- the rest of a serial trace is the serial trace of what is left
 pub serial_trace_rest : (p : Pipeline) (d : Behaviour) (m : List Cell_access) (xs rest : List Action) → HasNoEnd xs
     → serial_trace p.store d m ≡ xs ++ rest → rest ≡ serial_trace p.store (behaviour_after_all d xs) (m ++ accesses_in xs)
 serial_trace_rest p d m [] rest h e = sym e ∙ ap (λ l. serial_trace p.store d l) (sym (append-nil m))
@@ -76,7 +76,7 @@ reply_is_value : (p : Pipeline) (before : List Cell_access) (c : ℕ) (v : ℤ) 
     → HasReply p.store before a → v ≡ value_after p.store before c
 reply_is_value p before c v a e h = (subst (λ (b : Cell_access). HasReply p.store before b) e h) refl
 
--- two actions that are one access are of one access
+-- if two actions are accesses and are equal, so are the accesses
 accessed_same : (a b : Cell_access) → Accessed a ≡ Accessed b → a ≡ b
 accessed_same a b e = cc
 

@@ -32,14 +32,14 @@ EndsWith (Accessed a ∷ is) e = EndsWith is e
 EndsWith (Staged k n ∷ is) e = EndsWith is e
 EndsWith (Ended d ∷ is) e = (is ≡ []) × (d ≡ e)
 
--- an access is no end
+-- an access is not an end
 pub no_end_accessed : (xs : List Action) (a : Cell_access) → HasNoEnd xs → HasNoEnd (xs ++ Accessed a ∷ [])
 no_end_accessed [] a h = tt
 no_end_accessed (Accessed b ∷ xs) a h = no_end_accessed xs a h
 no_end_accessed (Staged k n ∷ xs) a h = no_end_accessed xs a h
 no_end_accessed (Ended e ∷ xs) a h = absurd h
 
--- a next stage is no end
+-- a next stage is not an end
 pub no_end_staged : (xs : List Action) (k : _) (n : ℤ) → HasNoEnd xs → HasNoEnd (xs ++ Staged k n ∷ [])
 no_end_staged [] k n h = tt
 no_end_staged (Accessed b ∷ xs) k n h = no_end_staged xs k n h
@@ -53,7 +53,7 @@ ends_with_end (Accessed b ∷ xs) e h = ends_with_end xs e h
 ends_with_end (Staged j m ∷ xs) e h = ends_with_end xs e h
 ends_with_end (Ended d ∷ xs) e h = absurd h
 
--- the loop is closed by the end of instance 0 alone
+-- only the end of instance 0 closes the loop
 pub closes_loop_cases : (actions : List Action) (e : ColumnEnd) → EndsWith actions e
     → ((nodes_in actions ≡ []) × (closes_loop actions ≡ closes_at_once e))
     ⊎ ((1 < length (column_of actions)) × (closes_loop actions ≡ false))
@@ -62,7 +62,7 @@ closes_loop_cases (Accessed a ∷ xs) e h = closes_loop_cases xs e h
 closes_loop_cases (Staged k n ∷ xs) e h = inr (omega arith, refl)
 closes_loop_cases (Ended d ∷ xs) e h = inl (ap nodes_in h.0, ap closes_at_once h.1)
 
--- nothing comes after an end
+-- nothing follows an end
 pub nothing_after_end : (xs ys : List Action) (e d : ColumnEnd) → EndsWith xs e → EndsWith (xs ++ ys) d → ys ≡ []
 nothing_after_end [] ys e d h g = absurd h
 nothing_after_end (Accessed a ∷ xs) ys e d h g = nothing_after_end xs ys e d h g

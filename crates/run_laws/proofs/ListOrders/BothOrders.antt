@@ -1,4 +1,4 @@
--- An instance comes before another in both lists exactly where it precedes it.
+-- An instance is before another in both lists exactly when it precedes it.
 use Rattle.std.proofs.Common.{ℕ, ◌≡◌, ◌⊎◌, inl, inr, arith, List, length, ◌<◌, ap₂, ◌↔◌}
 use Rattle.std.proofs.lemmas.Bool.{cases_order, cases_lt}
 use Rattle.pipe_model.specs.Races.Columns.{AreColumns}
@@ -79,7 +79,7 @@ goes_cases reach i j k l = elim (cases_order i k) [
 
 module _ (columns : List (List Node)) (starts : List NodeId) (ok : AreColumns columns)
     (ord : AreStarts columns starts) where
-  -- what precedes comes before in both lists
+  -- an instance that precedes another is before it in both lists
   precedes_in_both : (x y : NodeId) → IsStarted starts x → IsStarted starts y → Precedes columns x y
       → IsBeforeInBoth columns starts x y
   precedes_in_both x y w v p = let b = below_path ok p in let c = b.column in record {
@@ -92,7 +92,7 @@ module _ (columns : List (List Node)) (starts : List NodeId) (ok : AreColumns co
     });
   }
 
-  -- what comes before in down-first is before in column order
+  -- an instance that is before another in down-first is before it in column order
   falls_from : (i j k l : ℕ) → start_number starts i j < length starts → start_number starts k l < length starts
       → place (down_first_taken (start_number starts) i j) (list_of_log (down_first_log starts)) < place
       (down_first_taken (start_number starts) k l) (list_of_log (down_first_log starts)) → FallsBefore i j k l
@@ -109,7 +109,7 @@ module _ (columns : List (List Node)) (starts : List NodeId) (ok : AreColumns co
     ]
   ]
 
-  -- what comes before in right-first goes before
+  -- an instance that is before another in right-first is before it in the order of right-first
   goes_from : (i j k l : ℕ) → start_number starts i j < length starts → start_number starts k l < length starts
       → place (right_first_taken columns (start_number starts) i j)
       (list_of_log (right_first_log columns starts)) < place (right_first_taken columns (start_number starts) k l)
@@ -129,7 +129,7 @@ module _ (columns : List (List Node)) (starts : List NodeId) (ok : AreColumns co
     ]
   ]
 
-  -- what comes before in both lists precedes
+  -- an instance that is before another in both lists precedes it
   both_precede : (x y : NodeId) → IsStarted starts x → IsStarted starts y → IsBeforeInBoth columns starts x y
       → Precedes columns x y
   both_precede x y w v b =
@@ -139,7 +139,7 @@ module _ (columns : List (List Node)) (starts : List NodeId) (ok : AreColumns co
       path_below columns ok x.iteration x.index y.iteration y.index
       (record { column = f.column; place = f.place; within = g.left }) z.0 z.1
 
-  -- before in both lists is exactly precedes
+  -- x is before y in both lists exactly when x precedes y
   pub both_is_precedes : (x y : NodeId) → IsStarted starts x → IsStarted starts y
       → IsBeforeInBoth columns starts x y ↔ Precedes columns x y
   both_is_precedes x y w v = (both_precede x y w v, precedes_in_both x y w v)

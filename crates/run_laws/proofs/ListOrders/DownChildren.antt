@@ -4,7 +4,7 @@ use Rattle.std.proofs.lemmas.Bool.{cases_lt, cases_eq}
 use Rattle.run_laws.proofs.ListOrders.DownFirst.{IsDownFirst, TakesDownPlace}
 use Rattle.run_laws.proofs.ListOrders.StartPlaces.{IsCounted, at_newest, Apart}
 
--- what the start of number m is, an instance at (x, y) that takes t
+-- start number m, an instance at (x, y) that takes t
 pub record NewestDown (number element : ℕ → ℕ → ℕ) (m x y t : ℕ) : Type 0 where
   pub at : number x y ≡ m
   pub takes : element x y ≡ t
@@ -52,11 +52,11 @@ module _ (number element : ℕ → ℕ → ℕ) (m x y : ℕ)
     (pos : ℕ → ℕ) (counted : IsCounted number element (suc m)) (apart : Apart m pos)
     (inv : IsDownFirst number element m pos) (new : NewestDown number element m x (suc y) (1 + 2 * number x y))
     (parent : number x y < m) where
-  -- the placeholder stands beside the instance above
+  -- the placeholder is right after the instance above
   beside_up : pos (1 + 2 * number x y) ≡ pos (element x y) + 1
   beside_up = let at = new.at in inv.beside x y parent (omega arith)
 
-  -- what precedes the new instance stands before it
+  -- each instance that precedes the new one is before it
   before_below : (c d : ℕ) → number c d < m → c ≤ x → pos (element c d) < pos (1 + 2 * number x y)
   before_below c d w l = let p = beside_up in elim (cases_eq c x) [
     | inl same ↦ (
@@ -74,7 +74,7 @@ module _ (number element : ℕ → ℕ → ℕ) (m x y : ℕ)
         omega (arith, p, q))
   ]
 
-  -- the instances of later columns stand after it
+  -- the instances of later columns are after it
   after_below : (c d : ℕ) → number c d < m → x < c → pos (1 + 2 * number x y) < pos (element c d)
   after_below c d w l =
       let p = beside_up in
@@ -89,7 +89,7 @@ module _ (number element : ℕ → ℕ → ℕ) (m x y : ℕ)
       λ z. not_it (apart.apart (element c d) (1 + 2 * number x y) (omega arith) (omega arith) z) in
       omega (arith, p, q, far)
 
-  -- the placeholder at the end stands after the new instance
+  -- the placeholder at the end is after the new instance
   end_below : (k : ℕ) → number k 0 < m → suc m ≤ number (suc k) 0
       → pos (1 + 2 * number x y) < pos (2 + 2 * number k 0)
   end_below k w u =

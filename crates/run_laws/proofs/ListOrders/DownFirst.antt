@@ -1,5 +1,5 @@
--- The down-first list: what one start keeps of it, over numbers alone. Start m puts its down placeholder 1 + 2 m and
--- its right placeholder 2 + 2 m right after the element that it takes.
+-- The down-first list: what one start keeps of it, as a statement about numbers alone. Start m inserts its down placeholder
+-- 1 + 2 m and its right placeholder 2 + 2 m right after the element that it takes.
 use Rattle.std.proofs.Common.{ℕ, ◌≤◌, ◌≡◌, ◌<◌, suc, ◌+◌, ◌*◌, arith, inl, inr, sym}
 use Rattle.std.proofs.lemmas.Bool.{cases_lt, cases_eq}
 use Rattle.run_laws.proofs.ListOrders.ListPlaces.{MovesPlaces}
@@ -14,13 +14,13 @@ pub record FallsBefore (i j k l : ℕ) : Type 0 where
 pub record IsDownFirst (number element : ℕ → ℕ → ℕ) (m : ℕ) (pos : ℕ → ℕ) : Type 0 where
   pub order : (i j k l : ℕ) → number i j < m → number k l < m → FallsBefore i j k l
       → pos (element i j) < pos (element k l)
-  -- the down placeholder of a column's last instance stands right beside it
+  -- the down placeholder of a column's last instance is right after it
   pub beside : (i j : ℕ) → number i j < m → m ≤ number i (suc j) → pos (1 + 2 * number i j) ≡ pos (element i j) + 1
-  -- the right placeholder of the head of the last column stands after all instances
+  -- the right placeholder of the head of the last column is after all instances
   pub end : (i j k : ℕ) → number i j < m → number k 0 < m → m ≤ number (suc k) 0
       → pos (element i j) < pos (2 + 2 * number k 0)
 
--- how the element t, which start number m takes, stands among the others
+-- where the element t, which start number m takes, is among the others
 pub record TakesDownPlace (number element : ℕ → ℕ → ℕ) (m t : ℕ) (pos : ℕ → ℕ) : Type 0 where
   pub some : (i : ℕ) × (j : ℕ) × (number i j ≡ m)
   pub here : (i j : ℕ) → number i j ≡ m → element i j ≡ t
@@ -32,7 +32,7 @@ pub record TakesDownPlace (number element : ℕ → ℕ → ℕ) (m t : ℕ) (po
 module _ (number element : ℕ → ℕ → ℕ) (m t : ℕ) (pos pos' : ℕ → ℕ)
     (counted : IsCounted number element (suc m)) (around : TakesDownPlace number element m t pos)
     (moves : MovesPlaces pos pos' t m) (inv : IsDownFirst number element m pos) where
-  -- the places of instances and placeholders after the start
+  -- the indices of instances and placeholders after the start
   moved : MovesInstances number element m t pos pos'
   moved = moves_instances number element m t pos pos' counted around.some around.here moves
 
@@ -76,7 +76,7 @@ module _ (number element : ℕ → ℕ → ℕ) (m t : ℕ) (pos pos' : ℕ → 
         ])
   ]
 
-  -- a column's last instance keeps its down placeholder beside it
+  -- the down placeholder of a column's last instance stays right after it
   beside_next : (i j : ℕ) → number i j < suc m → suc m ≤ number i (suc j)
       → pos' (1 + 2 * number i j) ≡ pos' (element i j) + 1
   beside_next i j a last = elim (cases_lt (number i j) m) [
@@ -93,7 +93,7 @@ module _ (number element : ℕ → ℕ → ℕ) (m t : ℕ) (pos pos' : ℕ → 
         omega (arith, q, r))
   ]
 
-  -- nothing stands in a column past the newest
+  -- no column past the newest has an instance
   in_column : (i j k : ℕ) → number i j < m → suc m ≤ number (suc k) 0 → i ≤ k
   in_column i j k x u = elim (cases_lt k i) [
     | inl less ↦ (
@@ -103,7 +103,7 @@ module _ (number element : ℕ → ℕ → ℕ) (m t : ℕ) (pos pos' : ℕ → 
     | inr ge ↦ ge
   ]
 
-  -- the last head keeps its right placeholder after all instances
+  -- the right placeholder of the last head stays after all instances
   end_next : (i j k : ℕ) → number i j < suc m → number k 0 < suc m → suc m ≤ number (suc k) 0
       → pos' (element i j) < pos' (2 + 2 * number k 0)
   end_next i j k a b u = elim (cases_lt (number i j) m) [
@@ -129,6 +129,6 @@ module _ (number element : ℕ → ℕ → ℕ) (m t : ℕ) (pos pos' : ℕ → 
         ])
   ]
 
-  -- one start more keeps the list down-first
+  -- one more start keeps the list down-first
   pub down_first_kept : IsDownFirst number element (suc m) pos'
   down_first_kept = record { order = order_next; beside = beside_next; end = end_next }

@@ -1,4 +1,4 @@
--- Starts after a column got one instance more.
+-- Starts after a column has grown by one instance.
 use Rattle.std.proofs.Common.{List, ℕ, ◌≡◌, [], ◌∷◌, ◌++◌, ◌≢◌, length, ◌≤◌, ◌<◌, suc, ap, length-append, arith, ◌+◌, ◌∙◌, ◌⊎◌, inl, inr}
 use Rattle.std.proofs.Common.{refl, ap₂, ◌<ℤ◌, subst, sym}
 use Rattle.std.proofs.lemmas.Bool.{cases_eq, cases_lt}
@@ -14,7 +14,7 @@ use Rattle.run_laws.proofs.ListOrders.OneMoreStart.{GrowsBy, start_old, start_ne
 use Rattle.run_laws.proofs.ListOrders.StableLeftParents.{last_up_to-push, left_same, joined_same}
 use Rattle.run_laws.proofs.RunStates.LaterEdges.{ExtendsColumns, old_edge}
 
--- column i has one instance more
+-- column i has one more instance
 pub record AddsNode (columns columns' : List (List Node)) (i : ℕ) (new : Node) : Type 0 where
   pub here : nodes_at columns' i ≡ nodes_at columns i ++ new ∷ []
   pub other : (j : ℕ) → j ≢ i → nodes_at columns' j ≡ nodes_at columns j
@@ -30,13 +30,13 @@ module _ (columns columns' : List (List Node)) (starts : List NodeId) (i : ℕ) 
     (a : AddsNode columns columns' i new) (x : ExtendsColumns columns columns')
     (ordered : AreStarts columns starts) (all : (c k : ℕ) → k < length (nodes_at columns c)
     → start_number starts c k < length starts) where
-  -- the column is one longer
+  -- the column is longer by one
   long_here : length (nodes_at columns' i) ≡ suc (length (nodes_at columns i))
   long_here = ap length a.here ∙ (length-append (nodes_at columns i) (new ∷ []) ∙ (
       let e : length (nodes_at columns i) + 1 ≡ suc (length (nodes_at columns i)) = omega arith in
       e))
 
-  -- a place of the grown columns is an old one, or the new one
+  -- an index of the grown columns is an old one, or the new one
   old_or_new : (c k : ℕ) → k < length (nodes_at columns' c)
       → (k < length (nodes_at columns c)) ⊎ ((c ≡ i) × (k ≡ length (nodes_at columns i)))
   old_or_new c k l = elim (cases_eq c i) [
@@ -53,7 +53,7 @@ module _ (columns columns' : List (List Node)) (starts : List NodeId) (i : ℕ) 
     | inr n ↦ (let e = ap length (a.other c n) in inl (omega (arith, e)))
   ]
 
-  -- what has an edge to the new instance has started
+  -- each instance with an edge to the new one has started
   edge_into : {y z : NodeId} → Edge columns' y z → z ≡ at i (length (nodes_at columns i)) → IsStarted starts y
   edge_into (DownEdge c k w) e =
       let p : c ≡ i = ap (λ (m : NodeId). m.iteration) e in
@@ -111,7 +111,7 @@ module _ (columns columns' : List (List Node)) (starts : List NodeId) (i : ℕ) 
   pub ordered_grown : AreStarts columns' (starts ++ at i (length (nodes_at columns i)) ∷ [])
   ordered_grown = starts_grown columns columns' starts (at i (length (nodes_at columns i))) ordered grows
 
-  -- the new number is above all that the next column waits for
+  -- the new number is greater than all that the next column waits for
   pub above_awaited : (k : ℕ) → k < length (nodes_at columns (suc i))
       → (node_at (nodes_at columns (suc i)) k).kind ≡ Wait
       → (node_at (nodes_at columns (suc i)) k).number <ℤ new.number
@@ -127,7 +127,7 @@ module _ (columns columns' : List (List Node)) (starts : List NodeId) (i : ℕ) 
       (λ l' w'. x.beyond i (length (nodes_at columns i)) k (omega arith) (omega (arith, long)) l' w') l w in
       subst (λ (m : Node). (node_at (nodes_at columns (suc i)) k).number <ℤ m.number) there up
 
-  -- what the next column waits for stays
+  -- the indices that the next column waits for stay the same
   last_up_to_stays : (c k : ℕ) → k < length (nodes_at columns (suc c))
       → (node_at (nodes_at columns (suc c)) k).kind ≡ Wait
       → last_up_to (nodes_at columns' c) (node_at (nodes_at columns (suc c)) k).number
@@ -142,10 +142,10 @@ module _ (columns columns' : List (List Node)) (starts : List NodeId) (i : ℕ) 
     | inr o ↦ ap (λ ns. last_up_to ns (node_at (nodes_at columns (suc c)) k).number) (a.other c o)
   ]
 
-  -- the left parents of the instances that stood stay
+  -- the left parents of the old instances stay the same
   pub lefts_stay : (c k : ℕ) → k < length (nodes_at columns c) → left_parent columns' c k ≡ left_parent columns c k
   lefts_stay c k l = left_same columns columns' (λ d q w. x.same (suc d) q w) last_up_to_stays c k l
 
-  -- and so do their joined places
+  -- and so do their joined indices
   pub joins_stay : (d k : ℕ) → k < length (nodes_at columns (suc d)) → joined_at columns' d k ≡ joined_at columns d k
   joins_stay d k l = joined_same columns columns' (λ e q w. x.same (suc e) q w) last_up_to_stays d k l

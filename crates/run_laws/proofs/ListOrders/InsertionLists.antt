@@ -6,7 +6,7 @@ use native.Mathlib.Decide.{ℕ_discrete}
 use Rattle.pipe_model.specs.Orders.OrderList.{inserted, insert_after, has, IsLog, list_of_log, StandsBefore, place}
 use Rattle.run_laws.specs.OrderLaws.{EntriesInsertElements}
 
--- the list after one entry more
+-- the list after one more entry
 inserted-push : (xs : List ℕ) (e : ℕ) (log : List ℕ) (x : ℕ)
     → inserted xs e (log ++ x ∷ []) ≡ insert_after x (e + length log) (inserted xs e log)
 inserted-push xs e [] x = ap (λ (k : ℕ). insert_after x k xs) (omega arith)
@@ -14,7 +14,7 @@ inserted-push xs e (y ∷ log) x =
     inserted-push (insert_after y e xs) (e + 1) log x
     ∙ ap (λ (k : ℕ). insert_after x k (inserted (insert_after y e xs) (e + 1) log)) (omega arith)
 
--- what is in a list after an insertion
+-- the elements of a list after an insertion
 has-insert_after : (xs : List ℕ) (x e y : ℕ) → has x xs ≡ true
     → has y (insert_after x e xs) ≡ cond (eqb e y) true (has y xs)
 has-insert_after [] x e y h = cc
@@ -30,7 +30,7 @@ has-insert_after (z ∷ zs) x e y h = dite (ℕ_discrete z x)
     by_both true = refl
     by_both false = refl
 
--- what was there stays
+-- the old elements stay
 pub has_old : (xs : List ℕ) (x e y : ℕ) → has x xs ≡ true → has y xs ≡ true → has y (insert_after x e xs) ≡ true
 has_old xs x e y h k = has-insert_after xs x e y h ∙ (rw k (both (eqb e y)))
   where
@@ -38,11 +38,11 @@ has_old xs x e y h k = has-insert_after xs x e y h ∙ (rw k (both (eqb e y)))
     both true = refl
     both false = refl
 
--- the new element is there
+-- the new element is in the list
 has_new : (xs : List ℕ) (x e : ℕ) → has x xs ≡ true → has e (insert_after x e xs) ≡ true
 has_new xs x e h = has-insert_after xs x e e h ∙ rw (eq-eqb e e refl) refl
 
--- what is there and is not new was there
+-- an element that is not new was there before
 has_back : (xs : List ℕ) (x e y : ℕ) → has x xs ≡ true → e ≢ y → has y (insert_after x e xs) ≡ true → has y xs ≡ true
 has_back xs x e y h n k = let q = has-insert_after xs x e y h in (rw (ne_eqb e y n) at (sym q)) ∙ k
 
@@ -87,12 +87,12 @@ pub list_has_below : (log : List ℕ) → IsLog 1 log → HasBelow (length log +
 list_has_below log ok =
     subst (λ (k : ℕ). HasBelow k (list_of_log log)) (omega arith) (has_below-inserted 1 (0 ∷ []) log ok first_list)
 
--- a log with one entry more
+-- a log with one more entry
 IsLog-push : (e : ℕ) (log : List ℕ) (x : ℕ) → IsLog e log → x < e + length log → IsLog e (log ++ x ∷ [])
 IsLog-push e [] x ok l = (omega arith, tt)
 IsLog-push e (y ∷ log) x ok l = (ok.0, IsLog-push (e + 1) log x ok.1 (omega arith))
 
--- an insertion changes the order of no two elements that stood there
+-- an insertion keeps the order of the elements that were there
 pub order_kept : (xs : List ℕ) (z e x y : ℕ) → e ≢ x → e ≢ y
     → StandsBefore (insert_after z e xs) x y ↔ StandsBefore xs x y
 order_kept [] z e x y n m = ((λ l. l), (λ l. l))

@@ -1,4 +1,4 @@
--- The last places to the left that precede an instance, column by column.
+-- The last indices to the left that precede an instance, column by column.
 use Rattle.std.proofs.Common.{ℤ, true, ◌≡◌, ◌≤ℤ◌, arith, false, ◌<ℤ◌, List, ℕ, length, ◌<◌, refl, [], ap₂, suc, ◌∷◌, zero, ap, ◌∙◌, Bool}
 use Rattle.std.proofs.Common.{◌+◌, subst, ◌≤◌, inl, inr, sym}
 use Rattle.std.proofs.lemmas.Bool.{cases_lt, lt-leb, le-leb}
@@ -30,7 +30,7 @@ from_int_le a b h = grind (arith, ints)
 from_not_int_le : (a b : ℤ) → int_le b a ≡ false → a <ℤ b
 from_not_int_le a b h = grind (arith, ints)
 
--- none is found where all numbers are greater
+-- none is found if all numbers are greater
 last_up_to_none : (nodes : List Node) (s : ℤ) → ((k : ℕ) → k < length nodes → s <ℤ (node_at nodes k).number)
     → last_up_to nodes s ≡ None
 last_up_to_none [] s h = refl
@@ -38,7 +38,7 @@ last_up_to_none (n ∷ ns) s h =
     ap₂ before_rest (last_up_to_none ns s (λ k l. h (suc k) (omega arith)))
     (int_le_false s n.number (h 0 (omega arith)))
 
--- the last place whose number is at most s is found
+-- the last index whose number is at most s is found
 pub last_up_to_is : (nodes : List Node) (s : ℤ) (j : ℕ) → IsLastUpTo nodes j s → last_up_to nodes s ≡ Some j
 last_up_to_is [] s j h = absurd (let w = h.within in omega (arith, w))
 last_up_to_is (n ∷ ns) s zero h =
@@ -50,12 +50,12 @@ last_up_to_is (n ∷ ns) s (suc j) h = ap (λ f. before_rest f (int_le n.number 
   last = λ k l m. h.last (suc k) (omega arith) (omega arith);
 }) ∙ ap Some (omega arith)
 
--- what is found is that place, or there is none
+-- the result of the search is that index, or there is none
 pub record IsFoundLast (nodes : List Node) (s : ℤ) (found : Option ℕ) : Type 0 where
   pub none : found ≡ None → (k : ℕ) → k < length nodes → s <ℤ (node_at nodes k).number
   pub some : (j : ℕ) → found ≡ Some j → IsLastUpTo nodes j s
 
--- what is found is right with one instance more in front
+-- the result is right with one more instance at the front
 found_before : (n : Node) (ns : List Node) (s : ℤ) (found : Option ℕ) (b : Bool) → int_le n.number s ≡ b
     → IsFoundLast ns s found → IsFoundLast (n ∷ ns) s (before_rest found b)
 found_before n ns s (Some k) b e f = let it = f.some k refl in record {
@@ -98,7 +98,7 @@ found_before n ns s None false e f = record {
     each zero l = from_not_int_le s n.number e
     each (suc k) l = f.none refl k (omega arith)
 
--- what is found is right
+-- the result of the search is right
 pub last_up_to_found : (nodes : List Node) (s : ℤ) → IsFoundLast nodes s (last_up_to nodes s)
 last_up_to_found [] s = record {
   none = λ q k l. absurd (omega arith);
@@ -113,13 +113,13 @@ joined_by_rises Continue k found = omega arith
 joined_by_rises Wait k None = omega arith
 joined_by_rises Wait k (Some j) = omega arith
 
--- the joined place of an instance is at least that of the one above it
+-- the joined index of an instance is at least that of the one above it
 joined_next : (left right : List Node) (k : ℕ) → joined left right k ≤ joined left right (suc k)
 joined_next left right k =
     joined_by_rises (node_at right (suc k)).kind (joined left right k)
     (last_up_to left (node_at right (suc k)).number)
 
--- joined places rise down a column
+-- joined indices rise down a column
 pub joined_rises : (left right : List Node) (k n : ℕ) → k ≤ n → joined left right k ≤ joined left right n
 joined_rises left right k zero l =
     let e : k ≡ 0 = omega arith in
@@ -133,7 +133,7 @@ joined_rises left right k (suc n) l = elim (cases_lt n k) [
   | inr le ↦ (let p = joined_rises left right k n le in let q = joined_next left right n in omega (arith, p, q))
 ]
 
--- reach in the own column
+-- reach in the instance's own column
 pub reach_here : (columns : List (List Node)) (i k : ℕ) → reach columns i k i ≡ k
 reach_here columns zero k = refl
 reach_here columns (suc i) k = rw (lt-leb (suc i) i (omega arith)) refl
@@ -143,7 +143,7 @@ pub reach_left : (columns : List (List Node)) (i k a : ℕ) → a ≤ i
     → reach columns (suc i) k a ≡ reach columns i (joined_at columns i k) a
 reach_left columns i k a l = rw (le-leb a i l) refl
 
--- reach by the column to the right of the place
+-- reach by the column to the right of the index
 pub reach_right : (columns : List (List Node)) (i k a : ℕ) → a < i
     → reach columns i k a ≡ joined_at columns a (reach columns i k (a + 1))
 reach_right columns zero k a l = absurd (omega arith)

@@ -1,4 +1,4 @@
--- The left parent is the source of the left edge, where it does not precede the instance above.
+-- The left parent is the source of the left edge, if that does not precede the instance above.
 use Rattle.std.proofs.Common.{List, ℕ, length, suc, ◌+◌, ◌<◌, ◌≡◌, arith, ap, ◌∙◌, refl, subst, inl, cond, inr, ◌↔◌}
 use Rattle.std.proofs.lemmas.Bool.{cases_lt, lt-ltb}
 use Rattle.std.specs.declared.option.Option.{Option}
@@ -17,7 +17,7 @@ use Rattle.run_laws.proofs.ListOrders.StableLeftParents.{left_wait}
 
 module _ (columns : List (List Node)) (ok : AreColumns columns) (i k : ℕ) (l : i + 1 < length columns)
     (w : suc k < length (nodes_at columns (i + 1))) where
-  -- what made the joined place grow is an edge
+  -- if the joined index grows, there is an edge from it
   joined_by_edge : (kind : Kind) (found : Option ℕ) (j : ℕ) → (node_at (nodes_at columns (i + 1)) (suc k)).kind ≡ kind
       → last_up_to (nodes_at columns i) (node_at (nodes_at columns (i + 1)) (suc k)).number ≡ found
       → joined_by kind (joined_at columns i k) found ≡ j → joined_at columns i k < j
@@ -77,7 +77,7 @@ module _ (columns : List (List Node)) (ok : AreColumns columns) (i k : ℕ) (l :
             (omega arith) (let z = ap length column_same in omega (arith, w, z))))
       ]
 
-  -- the left parent in these words
+  -- the left parent in the words of the law
   pub left_parent_means : (j : ℕ)
       → (left_parent columns (suc i) (suc k) ≡ Some j)
       ↔ (CrossEdge (nodes_at columns i) (nodes_at columns (i + 1)) j (suc k)

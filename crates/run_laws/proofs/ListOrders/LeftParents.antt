@@ -1,4 +1,4 @@
--- What the left parent is by joined places, and which element each start takes.
+-- The left parent by joined indices, and which element each start takes.
 use Rattle.std.proofs.Common.{List, ℕ, ◌≡◌, ◌<◌, Bool, ltb, suc, cond, true, arith, ◌+◌, false, zero, refl, ◌≤◌, ◌*◌}
 use Rattle.std.proofs.lemmas.Bool.{ltb-true, ltb-false}
 use Rattle.std.specs.declared.option.Option.{Option}
@@ -9,12 +9,12 @@ use Rattle.pipe_model.specs.Orders.TwoOrders.{right_taken_from, right_first_take
 use Rattle.pipe_model.specs.declared.node.Node.{Node}
 use Rattle.run_laws.proofs.ListOrders.JoinedPlaces.{joined_rises}
 
--- the instance is the first in its column that is joined with place b
+-- the instance is the first in its column with the joined index b
 pub record IsLeftAt (columns : List (List Node)) (a j b : ℕ) : Type 0 where
   pub joins : joined_at columns a j ≡ b
   pub nearest : (d : ℕ) → d < j → joined_at columns a d < b
 
--- left_is, by the test
+-- `left_is`, by the test
 left_is_by : (columns : List (List Node)) (a k b : ℕ) (t : Bool)
     → ltb (joined_at columns a k) (joined_at columns a (suc k)) ≡ t
     → cond t (Some (joined_at columns a (suc k))) None ≡ Some b → IsLeftAt columns a (suc k) b
@@ -29,7 +29,7 @@ left_is_by columns a k b true e f =
     }
 left_is_by columns a k b false e f = absurd (let r : None ≡ Some b = f in cc)
 
--- the instance of a left parent is the first that is joined with it
+-- the instance of a left parent is the first with that joined index
 pub left_is : (columns : List (List Node)) (a j b : ℕ) → left_parent columns (suc a) j ≡ Some b
     → IsLeftAt columns a j b
 left_is columns a zero b e = record {
@@ -39,12 +39,12 @@ left_is columns a zero b e = record {
 left_is columns a (suc k) b e =
     left_is_by columns a k b (ltb (joined_at columns a k) (joined_at columns a (suc k))) refl e
 
--- left_none, by the test
+-- `left_none`, by the test
 left_none_by : (x y : ℕ) (t : Bool) → ltb x y ≡ t → cond t (Some y) None ≡ None → y ≤ x
 left_none_by x y true e f = absurd (let r : Some y ≡ None = f in cc)
 left_none_by x y false e f = ltb-false x y e
 
--- without a left parent the joined place is that of the instance above
+-- without a left parent the joined index is that of the instance above
 pub left_none : (columns : List (List Node)) (a k : ℕ) → left_parent columns (suc a) (suc k) ≡ None
     → joined_at columns a (suc k) ≡ joined_at columns a k
 left_none columns a k e =
@@ -60,7 +60,7 @@ pub data TakesRight (columns : List (List Node)) (number : ℕ → ℕ → ℕ) 
   RightBelow : (i j : ℕ) → left_parent columns i (suc j) ≡ None
       → TakesRight columns number i (suc j) (2 + 2 * number i j)
 
--- takes_right, by the left parent
+-- `takes_right`, by the left parent
 takes_right_by : (columns : List (List Node)) (number : ℕ → ℕ → ℕ) (i j : ℕ) (found : Option ℕ)
     → left_parent columns i j ≡ found → TakesRight columns number i j (right_taken_from number i j found)
 takes_right_by columns number zero zero found e = RightRoot

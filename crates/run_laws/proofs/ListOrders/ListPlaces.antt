@@ -1,11 +1,11 @@
--- Where the elements stand after each start.
+-- The indices of the elements after each start.
 use Rattle.std.proofs.Common.{List, ℕ, true, ◌≡◌, [], ◌∷◌, inl, sym, ◌∙◌, inr, eq-eqb, ne_eqb, arith, ◌+◌, refl, ◌≢◌, ◌≤◌, ◌<◌, ◌*◌, ◌⊎◌}
 use Rattle.std.proofs.Common.{zero, suc, subst}
 use Rattle.std.proofs.lemmas.Bool.{cases_eq, cases_lt}
 use Rattle.pipe_model.specs.Orders.OrderList.{has, place, insert_after}
 use Rattle.run_laws.proofs.ListOrders.InsertionLists.{first_list, HasBelow, has_below-insert_after}
 
--- two elements of a list that stand at one place are one
+-- two elements of a list with the same index are equal
 place_apart : (xs : List ℕ) (a b : ℕ) → has a xs ≡ true → has b xs ≡ true → place a xs ≡ place b xs → a ≡ b
 place_apart [] a b h k e = cc
 place_apart (z ∷ zs) a b h k e = elim (cases_eq z a) [
@@ -21,7 +21,7 @@ place_apart (z ∷ zs) a b h k e = elim (cases_eq z a) [
   ]
 ]
 
--- a new element stands right after x
+-- a new element is right after x
 place_new : (xs : List ℕ) (x e : ℕ) → has x xs ≡ true → (has e xs ≡ true → ⊥)
     → place e (insert_after x e xs) ≡ place x xs + 1
 place_new [] x e h n = cc
@@ -35,7 +35,7 @@ place_new (z ∷ zs) x e h n = elim (cases_eq z e) [
   ]
 ]
 
--- what stood at x or before stays
+-- the elements up to x keep their indices
 place_before : (xs : List ℕ) (x e y : ℕ) → e ≢ y → place y xs ≤ place x xs
     → place y (insert_after x e xs) ≡ place y xs
 place_before [] x e y n l = refl
@@ -53,7 +53,7 @@ place_before (z ∷ zs) x e y n l = elim (cases_eq z x) [
   ]
 ]
 
--- what stood after x stands one later
+-- the indices of the elements after x grow by one
 place_after : (xs : List ℕ) (x e y : ℕ) → e ≢ y → place x xs < place y xs
     → place y (insert_after x e xs) ≡ place y xs + 1
 place_after [] x e y n l = absurd (omega (arith, l))
@@ -68,7 +68,7 @@ place_after (z ∷ zs) x e y n l = elim (cases_eq z y) [
   ]
 ]
 
--- what an insertion of two elements at t changes of the places
+-- how an insertion of two elements at t changes the indices
 pub record MovesPlaces (pos pos' : ℕ → ℕ) (t m : ℕ) : Type 0 where
   pub old : t < 1 + 2 * m
   pub each : (z : ℕ) → z < 1 + 2 * m → ((pos z ≤ pos t) × (pos' z ≡ pos z)) ⊎ ((pos t < pos z) × (pos' z ≡ pos z + 2))
@@ -76,7 +76,7 @@ pub record MovesPlaces (pos pos' : ℕ → ℕ) (t m : ℕ) : Type 0 where
   pub at_two : pos' (2 + 2 * m) ≡ pos t + 2
   pub apart : (a b : ℕ) → a < 1 + 2 * m → b < 1 + 2 * m → pos a ≡ pos b → a ≡ b
 
--- two insertions do so
+-- two insertions change them so
 insert_twice : (xs : List ℕ) (t m : ℕ) → t < 1 + 2 * m → HasBelow (1 + 2 * m) xs
     → MovesPlaces (λ z. place z xs) (λ z. place z
     (insert_after (1 + 2 * m) (2 + 2 * m) (insert_after t (1 + 2 * m) xs))) t m
@@ -140,7 +140,7 @@ list_after_has_below taken n ok (suc m) l =
     (has_below-insert_after (2 + 2 * m) (insert_after (taken m) (1 + 2 * m) (list_after taken m)) (1 + 2 * m)
     (omega arith) at_two)
 
--- each start moves places so
+-- each start changes indices so
 pub start_moves : (taken : ℕ → ℕ) (n : ℕ) → ((m : ℕ) → m < n → taken m < 1 + 2 * m) → (m : ℕ) → m < n
     → MovesPlaces (λ z. place z (list_after taken m)) (λ z. place z (list_after taken (suc m))) (taken m) m
 start_moves taken n ok m l =

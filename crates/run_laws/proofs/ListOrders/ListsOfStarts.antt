@@ -81,7 +81,7 @@ module _ (columns : List (List Node)) (starts : List NodeId) (ok : AreColumns co
       let q = heads_rise columns starts ok ord 0 i (omega arith) (omega arith) in
       omega (arith, z', p, q, e)
 
-  -- what has started in the column of a new instance stands above it
+  -- a started instance in the column of a new one is above it
   pub in_column : (m x y : ℕ) → m < length starts → start_number starts x y ≡ m → (c d : ℕ)
       → start_number starts c d < m → c ≡ x → d < y
   in_column m x y w at c d l s = elim (cases_lt d y) [
@@ -92,7 +92,7 @@ module _ (columns : List (List Node)) (starts : List NodeId) (ok : AreColumns co
         absurd (omega (arith, e, p, at, l)))
   ]
 
-  -- what has started does not come after a new instance
+  -- no started instance is after a new one
   not_after : (m x y : ℕ) → m < length starts → start_number starts x y ≡ m → (c d : ℕ) → start_number starts c d < m
       → x < c → reach columns c d x < y
   not_after m x y w at c d l s = elim (cases_lt (reach columns c d x) y) [
@@ -151,7 +151,7 @@ module _ (columns : List (List Node)) (starts : List NodeId) (ok : AreColumns co
         omega (arith, p, near));
   }
 
-  -- reach without a left parent is that of the instance above
+  -- without a left parent, reach is that of the instance above
   down_via : (x y k : ℕ) → left_parent columns x (suc y) ≡ None → k < x
       → reach columns x (suc y) k ≡ reach columns x y k
   down_via zero y k e l = absurd (omega arith)
@@ -174,7 +174,7 @@ module _ (columns : List (List Node)) (starts : List NodeId) (ok : AreColumns co
     via = λ k l. down_via x y k e l;
   }
 
-  -- each start takes a right place, by what it takes
+  -- each start takes a right place, by the element that it takes
   pub takes_right_place_by : {i j t : ℕ} → TakesRight columns (start_number starts) i j t → (m : ℕ) (pos : ℕ → ℕ)
       → m < length starts → start_number starts i j ≡ m → right_first_taken columns (start_number starts) i j ≡ t
       → Apart m pos → IsRightFirst (start_number starts) (right_first_taken columns (start_number starts))
@@ -193,7 +193,7 @@ module _ (columns : List (List Node)) (starts : List NodeId) (ok : AreColumns co
       pos (counted_fewer _ _ (suc m) (length starts) w (counted_right columns starts ok ord)) inv
       (newest m x (suc y) (2 + 2 * start_number starts x y) w at takes) (down_child m x y w at e)
 
-  -- each start takes a down place, by what it takes
+  -- each start takes a down place, by the element that it takes
   pub takes_down_place_by : {i j t : ℕ} → TakesDown (start_number starts) i j t → (m : ℕ) (pos : ℕ → ℕ)
       → m < length starts → start_number starts i j ≡ m → down_first_taken (start_number starts) i j ≡ t
       → Apart m pos → IsDownFirst (start_number starts) (down_first_taken (start_number starts)) m pos
@@ -224,14 +224,14 @@ module _ (columns : List (List Node)) (starts : List NodeId) (ok : AreColumns co
       }) (omega arith) in
       omega (arith, p, at))
 
-  -- each start takes an element that stands already, in right-first
+  -- each start takes an element that is already in the list, in right-first
   old_right : (m : ℕ) → m < length starts
       → taken_at (right_first_taken columns (start_number starts)) starts m < 1 + 2 * m
   old_right m w = let at = ord.once m w in let c = counted_right columns starts ok ord in
       let b = c.below (start_at starts m).iteration (start_at starts m).index (omega (arith, at)) in
       omega (arith, at, b)
 
-  -- each start takes an element that stands already, in down-first
+  -- each start takes an element that is already in the list, in down-first
   old_down : (m : ℕ) → m < length starts → taken_at (down_first_taken (start_number starts)) starts m < 1 + 2 * m
   old_down m w = let at = ord.once m w in let c = counted_down columns starts ok ord in
       let b = c.below (start_at starts m).iteration (start_at starts m).index (omega (arith, at)) in

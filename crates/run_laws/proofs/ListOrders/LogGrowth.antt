@@ -15,7 +15,7 @@ use Rattle.run_laws.proofs.ListOrders.ListsOfStarts.{taken_at}
 use Rattle.run_laws.proofs.ListOrders.OneMoreStart.{GrowsBy, starts_grown, start_either, start_old, start_new}
 use Rattle.run_laws.proofs.ListOrders.StartNumbers.{up_ordered, head_ordered, left_ordered}
 
--- the entries of one start more
+-- the entries of one more start
 log_entries-push : (taken : ℕ → ℕ → ℕ) (m : ℕ) (xs : List NodeId) (x : NodeId)
     → log_entries taken m (xs ++ x ∷ []) ≡ log_entries taken m xs ++ taken x.iteration x.index
     ∷ first_placeholder (m + length xs) ∷ []
@@ -43,7 +43,7 @@ module _ (columns columns' : List (List Node)) (starts : List NodeId) (x : NodeI
   starts_after : AreStarts columns' (starts ++ x ∷ [])
   starts_after = starts_grown columns columns' starts x h g
 
-  -- a parent of what has started has the number that it had before
+  -- a parent of a started instance has the number that it had before
   parent_same : (i j k l : ℕ) → start_number (starts ++ x ∷ []) i j < start_number (starts ++ x ∷ []) k l
       → start_number (starts ++ x ∷ []) k l < length (starts ++ x ∷ [])
       → start_number (starts ++ x ∷ []) i j ≡ start_number starts i j
@@ -62,7 +62,7 @@ module _ (columns columns' : List (List Node)) (starts : List NodeId) (x : NodeI
         ])
   ]
 
-  -- what is taken in down-first stays
+  -- the element that an instance takes in down-first stays the same
   pub down_same : (i j : ℕ) → start_number (starts ++ x ∷ []) i j < length (starts ++ x ∷ [])
       → down_first_taken (start_number (starts ++ x ∷ [])) i j ≡ down_first_taken (start_number starts) i j
   down_same i (suc j) w =
@@ -73,7 +73,7 @@ module _ (columns columns' : List (List Node)) (starts : List NodeId) (x : NodeI
       w)
   down_same zero zero w = refl
 
-  -- what is taken without a left parent stays
+  -- the element that an instance takes without a left parent stays the same
   up_same : (i j : ℕ) → start_number (starts ++ x ∷ []) i j < length (starts ++ x ∷ [])
       → up_taken (start_number (starts ++ x ∷ [])) i j ≡ up_taken (start_number starts) i j
   up_same i zero w = refl
@@ -81,7 +81,7 @@ module _ (columns columns' : List (List Node)) (starts : List NodeId) (x : NodeI
       ap second_placeholder (parent_same i j i (suc j) (up_ordered columns' (starts ++ x ∷ []) ok starts_after i j w)
       w)
 
-  -- what is taken in right-first stays, by the left parent
+  -- the element that an instance takes in right-first stays the same, by the left parent
   from_same : (i j : ℕ) (found : Option ℕ) → left_parent columns' i j ≡ found
       → start_number (starts ++ x ∷ []) i j < length (starts ++ x ∷ [])
       → right_taken_from (start_number (starts ++ x ∷ [])) i j found
@@ -92,13 +92,13 @@ module _ (columns columns' : List (List Node)) (starts : List NodeId) (x : NodeI
       (left_ordered columns' (starts ++ x ∷ []) ok starts_after i j b (left_is columns' i j b e) w) w)
   from_same (suc i) j None e w = up_same (suc i) j w
 
-  -- what is taken in right-first stays
+  -- the element that an instance takes in right-first stays the same
   pub right_same : (i j : ℕ) → start_number (starts ++ x ∷ []) i j < length (starts ++ x ∷ [])
       → right_first_taken columns' (start_number (starts ++ x ∷ [])) i j
       ≡ right_first_taken columns' (start_number starts) i j
   right_same i j w = from_same i j (left_parent columns' i j) refl w
 
-  -- what has started has started in the longer list
+  -- an instance that has started has started in the longer list
   started_longer : (i j : ℕ) → start_number starts i j < length starts
       → start_number (starts ++ x ∷ []) i j < length (starts ++ x ∷ [])
   started_longer i j w =
@@ -111,12 +111,12 @@ module _ (columns columns' : List (List Node)) (starts : List NodeId) (x : NodeI
       → start_number starts (start_at starts t).iteration (start_at starts t).index < length starts
   started_at t l = let o = h.once t l in omega (arith, o, l)
 
-  -- the element of each started instance stays, in down-first
+  -- the element of each started instance stays the same, in down-first
   pub down_stays : (i j : ℕ) → start_number starts i j < length starts
       → down_first_taken (start_number (starts ++ x ∷ [])) i j ≡ down_first_taken (start_number starts) i j
   down_stays i j w = down_same i j (started_longer i j w)
 
-  -- the element of each started instance stays, in right-first
+  -- the element of each started instance stays the same, in right-first
   pub right_stays : (i j : ℕ) → start_number starts i j < length starts
       → right_first_taken columns' (start_number (starts ++ x ∷ [])) i j
       ≡ right_first_taken columns (start_number starts) i j

@@ -1,4 +1,4 @@
--- A longer log changes the order of no two elements that were there; the logs of a run are logs.
+-- A longer log keeps the order of the elements that were there; the logs of a run are logs.
 use Rattle.std.proofs.Common.{ℕ, List, true, ◌≡◌, ◌↔◌, [], ◌∷◌, ◌+◌, arith, length, ◌++◌, ap, suc, ◌∙◌, subst, sym, ◌*◌, ◌<◌}
 use Rattle.pipe_model.specs.Orders.OrderList.{IsLog, has, StandsBefore, inserted, insert_after, list_of_log}
 use Rattle.pipe_model.specs.Orders.Starts.{start_at, AreStarts, start_number, starts_of}
@@ -70,7 +70,7 @@ log_entries_are_log taken m (x ∷ xs) h =
       ),
     )
 
--- the entries are a log where each start takes an element of an earlier one
+-- the entries are a log if each start takes an element of an earlier one
 counted_is_log : (columns : List (List Node)) (starts : List NodeId) (taken : ℕ → ℕ → ℕ) → AreStarts columns starts
     → IsCounted (start_number starts) taken (length starts) → IsLog 1 (log_entries taken 0 starts)
 counted_is_log columns starts taken ord c = log_entries_are_log taken 0 starts (λ t l.

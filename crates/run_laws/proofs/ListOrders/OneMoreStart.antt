@@ -1,4 +1,4 @@
--- A list of starts with one start more.
+-- A list of starts with one more start.
 use Rattle.std.proofs.Common.{List, ℕ, Bool, eqb, ◌≡◌, ◌&&◌, length, ◌<◌, [], ◌∷◌, ◌++◌, true, refl, false, suc, ap, arith, ◌≤◌, eq-eqb}
 use Rattle.std.proofs.Common.{◌⊎◌, inl, inr, ap₂, length-append, ◌+◌, ◌∙◌, subst, sym}
 use Rattle.std.proofs.lemmas.Bool.{and_from, and_parts, eqb-true, cases_lt}
@@ -9,7 +9,7 @@ use Rattle.pipe_model.specs.Orders.Starts.{start_number, IsStarted, AreStarts, s
 use Rattle.pipe_model.specs.declared.node.Node.{Node}
 use Rattle.pipe_model.specs.declared.node.NodeId.{NodeId}
 
--- start_old, by the test
+-- `start_old`, by the test
 start_old_by : (x : NodeId) (xs : List NodeId) (y : NodeId) (i k : ℕ) (t : Bool)
     → (eqb x.iteration i && eqb x.index k) ≡ t
     → (start_number xs i k < length xs → start_number (xs ++ y ∷ []) i k ≡ start_number xs i k)
@@ -26,7 +26,7 @@ pub start_old : (starts : List NodeId) (y : NodeId) (i k : ℕ) → start_number
 start_old [] y i k l = absurd (omega arith)
 start_old (x ∷ xs) y i k l = start_old_by x xs y i k (eqb x.iteration i && eqb x.index k) refl (start_old xs y i k) l
 
--- start_new, by the test
+-- `start_new`, by the test
 start_new_by : (x : NodeId) (xs : List NodeId) (y : NodeId) (t : Bool)
     → (eqb x.iteration y.iteration && eqb x.index y.index) ≡ t
     → (length xs ≤ start_number xs y.iteration y.index → start_number (xs ++ y ∷ []) y.iteration y.index ≡ length xs)
@@ -47,7 +47,7 @@ start_new [] y l =
 start_new (x ∷ xs) y l =
     start_new_by x xs y (eqb x.iteration y.iteration && eqb x.index y.index) refl (start_new xs y) l
 
--- start_either, by the test
+-- `start_either`, by the test
 start_either_by : (x : NodeId) (xs : List NodeId) (y : NodeId) (i k : ℕ) (t : Bool)
     → (eqb x.iteration i && eqb x.index k) ≡ t
     → (start_number (xs ++ y ∷ []) i k < length (xs ++ y ∷ []) → (start_number xs i k < length xs) ⊎ (y ≡ at i k))
@@ -61,7 +61,7 @@ start_either_by x xs y i k false e ih l =
       | inr same ↦ inr same
     ]
 
--- what has started had started, or is the new one
+-- an instance that has started had started before, or is the new one
 pub start_either : (starts : List NodeId) (y : NodeId) (i k : ℕ)
     → start_number (starts ++ y ∷ []) i k < length (starts ++ y ∷ [])
     → (start_number starts i k < length starts) ⊎ (y ≡ at i k)
@@ -75,7 +75,7 @@ start_either [] y i k l = go (eqb y.iteration i && eqb y.index k) refl
 start_either (x ∷ xs) y i k l =
     start_either_by x xs y i k (eqb x.iteration i && eqb x.index k) refl (start_either xs y i k) l
 
--- one start more, in columns that may have grown by it
+-- one more start, in columns that may have grown by it
 pub record GrowsBy (columns columns' : List (List Node)) (starts : List NodeId) (x : NodeId) : Type 0 where
   pub new : length starts ≤ start_number starts x.iteration x.index
   pub inside : (x.iteration < length columns') × (x.index < length (nodes_at columns' x.iteration))
@@ -86,7 +86,7 @@ pub record GrowsBy (columns columns' : List (List Node)) (starts : List NodeId) 
 
 module _ (columns columns' : List (List Node)) (starts : List NodeId) (x : NodeId) (h : AreStarts columns starts)
     (g : GrowsBy columns columns' starts x) where
-  -- the starts are one more
+  -- the list has one more start
   length_grown : length (starts ++ x ∷ []) ≡ suc (length starts)
   length_grown = length-append starts (x ∷ []) ∙ (let e : length starts + 1 ≡ suc (length starts) = omega arith in e)
 
@@ -107,7 +107,7 @@ module _ (columns columns' : List (List Node)) (starts : List NodeId) (x : NodeI
         ap (λ (y : NodeId). start_number (starts ++ x ∷ []) y.iteration y.index) e ∙ (start_new starts x g.new ∙ z))
   ]
 
-  -- what has started is an instance of the grown columns
+  -- an instance that has started is one of the grown columns
   inside_grown : (y : NodeId) → IsStarted (starts ++ x ∷ []) y
       → (y.iteration < length columns') × (y.index < length (nodes_at columns' y.iteration))
   inside_grown y w = elim (start_either starts x y.iteration y.index w) [

@@ -1,4 +1,4 @@
--- A path leads from one instance to another exactly where `reach` says so.
+-- A path leads from one instance to another exactly when `reach` says so.
 use Rattle.std.proofs.Common.{List, ℕ, ◌≤◌, ◌≡◌, ◌<◌, length, zero, sym, ◌∙◌, suc, max, ap₂, arith, ◌+◌, ap, ◌⊎◌, inl, inr, refl, subst}
 use Rattle.std.proofs.lemmas.Bool.{cases_lt}
 use Rattle.std.specs.declared.option.Option.{Option}
@@ -19,7 +19,7 @@ pub record IsBelow (columns : List (List Node)) (i j k l : ℕ) : Type 0 where
   pub place : i ≡ k → j < l
   pub within : i < k → j ≤ reach columns k l i
 
--- the source of a wait edge is at most the joined place
+-- the source of a wait edge is at most the joined index
 waits_joined : (left right : List Node) (j k : ℕ) → (node_at right 0).kind ≡ Zero → k < length right
     → (node_at right k).kind ≡ Wait → IsLastUpTo left j (node_at right k).number → j ≤ joined left right k
 waits_joined left right j zero z l w h = absurd (let e : Zero ≡ Wait = sym z ∙ w in cc)
@@ -29,7 +29,7 @@ waits_joined left right j (suc k) z l w h =
     (last_up_to_is left (node_at right (suc k)).number j h) in
     omega (arith, e)
 
--- the source of every edge across is
+-- the source of every edge across is at most the joined index
 crosses_joined : {left right : List Node} {j k : ℕ} → (node_at right 0).kind ≡ Zero → CrossEdge left right j k
     → j ≤ joined left right k
 crosses_joined z (HeadCross a b) = omega arith
@@ -42,7 +42,7 @@ reach_next columns i k a l =
     let e : i + 1 ≡ suc i = omega arith in
     ap (λ c. reach columns c k a) e ∙ reach_left columns i k a l
 
--- an edge from an instance that it is below, or from itself, keeps an instance below
+-- if y has an edge to z, and `IsBelow` holds of (i, j) and y or (i, j) is y, it holds of (i, j) and z
 below_edge : {columns : List (List Node)} {y z : NodeId} → AreColumns columns → (i j : ℕ)
     → (IsBelow columns i j y.iteration y.index) ⊎ ((i ≡ y.iteration) × (j ≡ y.index)) → Edge columns y z
     → IsBelow columns i j z.iteration z.index
@@ -99,7 +99,7 @@ below_edge {columns} ok i j before (AcrossEdge k l n c) =
       }
     ]
 
--- a path leads to instances that the first is below alone
+-- if x precedes z, `IsBelow` holds of x and z
 pub below_path : {columns : List (List Node)} {x z : NodeId} → AreColumns columns → Precedes columns x z
     → IsBelow columns x.iteration x.index z.iteration z.index
 below_path {columns} {x} ok (ByEdge e) = below_edge ok x.iteration x.index (inr (refl, refl)) e
@@ -123,9 +123,9 @@ down_path columns i j (suc l) a w =
       | inr ge ↦ subst (λ k. Precedes columns (at i k) (at i (suc l))) (let s : l ≡ j = omega arith in s) (ByEdge e)
     ]
 
--- each instance of the next column comes after the place that it is joined with
+-- each instance of the next column is after the instance that it is joined with
 module _ (columns : List (List Node)) (i : ℕ) (some : 0 < length (nodes_at columns i)) where
-  -- joined_path, by the kind of the instance
+  -- `joined_path`, by the kind of the instance
   joined_path_by : (k : ℕ) (kind : Kind) (found : Option ℕ) → suc k < length (nodes_at columns (i + 1))
       → (node_at (nodes_at columns (i + 1)) (suc k)).kind ≡ kind
       → last_up_to (nodes_at columns i) (node_at (nodes_at columns (i + 1)) (suc k)).number ≡ found
@@ -155,7 +155,7 @@ module _ (columns : List (List Node)) (i : ℕ) (some : 0 < length (nodes_at col
             ))
       ]
 
-  -- each instance of the next column comes after the place that it is joined with
+  -- each instance of the next column is after the instance that it is joined with
   joined_path : (k : ℕ) → k < length (nodes_at columns (i + 1))
       → (joined_at columns i k < length (nodes_at columns i))
       × Precedes columns (at i (joined_at columns i k)) (at (i + 1) k)

@@ -4,14 +4,14 @@ use Rattle.std.proofs.lemmas.Bool.{cases_eq, cases_lt}
 use Rattle.run_laws.proofs.ListOrders.RightFirst.{IsRightFirst, TakesRightPlace}
 use Rattle.run_laws.proofs.ListOrders.StartPlaces.{IsCounted, Apart, at_newest}
 
--- what the start of number m is, an instance at (x, y) that takes t
+-- start number m, an instance at (x, y) that takes t
 pub record Newest (number element : ℕ → ℕ → ℕ) (reach : ℕ → ℕ → ℕ → ℕ) (m x y t : ℕ) : Type 0 where
   pub at : number x y ≡ m
   pub takes : element x y ≡ t
   pub column : (c d : ℕ) → number c d < m → c ≡ x → d < y
   pub later : (c d : ℕ) → number c d < m → x < c → reach c d x < y
 
--- what (a, b) has as its right child: the nearest to it of all that it does not precede
+-- the right child of (a, b): the nearest to it of all that it does not precede
 pub record IsRightChild (number element : ℕ → ℕ → ℕ) (reach : ℕ → ℕ → ℕ → ℕ) (m a b y : ℕ) : Type 0 where
   pub parent : number a b < m
   pub via : (k : ℕ) → k ≤ a → reach (suc a) y k ≡ reach a b k
@@ -23,7 +23,7 @@ module _ (number element : ℕ → ℕ → ℕ) (reach : ℕ → ℕ → ℕ →
     (inv : IsRightFirst number element reach m pos)
     (new : Newest number element reach m (suc a) y (1 + 2 * number a b))
     (child : IsRightChild number element reach m a b y) where
-  -- nobody has taken the placeholder yet
+  -- no start has taken the placeholder yet
   free : (k l : ℕ) → number k l < m → element k l ≢ 1 + 2 * number a b
   free k l w q =
       let at = new.at in
@@ -31,11 +31,11 @@ module _ (number element : ℕ → ℕ → ℕ) (reach : ℕ → ℕ → ℕ →
       let e : number k l ≡ number (suc a) y = ap₂ number s.0 s.1 in
       omega (arith, e)
 
-  -- an untaken placeholder stands beside the left parent
+  -- an untaken placeholder is right after the left parent
   beside_parent : pos (1 + 2 * number a b) ≡ pos (element a b) + 1
   beside_parent = inv.beside a b child.parent free
 
-  -- what precedes the new instance stands before it
+  -- each instance that precedes the new one is before it
   before_right : (c d : ℕ) → number c d < m → (c < suc a → d ≤ reach (suc a) y c)
       → pos (element c d) < pos (1 + 2 * number a b)
   before_right c d w g = let p = beside_parent in elim (cases_eq c a) [
@@ -77,7 +77,7 @@ module _ (number element : ℕ → ℕ → ℕ) (reach : ℕ → ℕ → ℕ →
     ]
   ]
 
-  -- what is parallel in earlier columns stands after it
+  -- each parallel instance in an earlier column is after it
   after_right : (c d : ℕ) → number c d < m → c < suc a → reach (suc a) y c < d
       → pos (1 + 2 * number a b) < pos (element c d)
   after_right c d w l g =
@@ -96,7 +96,7 @@ module _ (number element : ℕ → ℕ → ℕ) (reach : ℕ → ℕ → ℕ →
       λ z. free c d w (apart.apart (element c d) (1 + 2 * number a b) (omega arith) (omega arith) z) in
       omega (arith, p, q, far)
 
-  -- the last placeholders of earlier columns stand after it
+  -- the last placeholders of earlier columns are after it
   lefts_right : (k l : ℕ) → number k l < m → m ≤ number k (suc l) → k < suc a
       → pos (1 + 2 * number a b) < pos (2 + 2 * number k l)
   lefts_right k l w u g =
@@ -108,7 +108,7 @@ module _ (number element : ℕ → ℕ → ℕ) (reach : ℕ → ℕ → ℕ →
       omega (arith, e)) in
       omega (arith, p, q, far)
 
-  -- those of later columns stand before it
+  -- the last placeholders of later columns are before it
   rights_right : (k l : ℕ) → number k l < m → m ≤ number k (suc l) → suc a < k
       → pos (2 + 2 * number k l) < pos (1 + 2 * number a b)
   rights_right k l w u g =
@@ -133,7 +133,7 @@ module _ (number element : ℕ → ℕ → ℕ) (reach : ℕ → ℕ → ℕ →
         → pos (2 + 2 * number k l) < pos (1 + 2 * number a b)) (rights_right k l w u) i j e;
   }
 
--- what has no left parent takes the down placeholder of the instance before it in its column
+-- an instance without a left parent takes the down placeholder of the instance before it in its column
 pub record IsDownChild (number element : ℕ → ℕ → ℕ) (reach : ℕ → ℕ → ℕ → ℕ) (m x y : ℕ) : Type 0 where
   pub parent : number x y < m
   pub via : (k : ℕ) → k < x → reach x (suc y) k ≡ reach x y k

@@ -1,11 +1,11 @@
--- The right-first list: what one start keeps of it, over numbers alone. Start m puts its right placeholder 1 + 2 m and
--- its down placeholder 2 + 2 m right after the element that it takes.
+-- The right-first list: what one start keeps of it, as a statement about numbers alone. Start m inserts its right placeholder
+-- 1 + 2 m and its down placeholder 2 + 2 m right after the element that it takes.
 use Rattle.std.proofs.Common.{ℕ, ◌<◌, ◌≤◌, ◌≡◌, ◌≢◌, ◌+◌, ◌*◌, suc, ap, arith, ◌∙◌, inl, sym, inr}
 use Rattle.std.proofs.lemmas.Bool.{cases_order, cases_lt, cases_eq}
 use Rattle.run_laws.proofs.ListOrders.ListPlaces.{MovesPlaces}
 use Rattle.run_laws.proofs.ListOrders.StartPlaces.{IsCounted, MovesInstances, moves_instances}
 
--- (i, j) comes before (k, l) in right-first; reach k l i is the last place of column i that precedes (k, l)
+-- (i, j) is before (k, l) in right-first; reach k l i is the last index of column i that precedes (k, l)
 pub record GoesBefore (reach : ℕ → ℕ → ℕ → ℕ) (i j k l : ℕ) : Type 0 where
   pub left : i < k → j ≤ reach k l i
   pub same : i ≡ k → j < l
@@ -15,10 +15,10 @@ pub record GoesBefore (reach : ℕ → ℕ → ℕ → ℕ) (i j k l : ℕ) : Ty
 pub record IsRightFirst (number element : ℕ → ℕ → ℕ) (reach : ℕ → ℕ → ℕ → ℕ) (m : ℕ) (pos : ℕ → ℕ) : Type 0 where
   pub order : (i j k l : ℕ) → number i j < m → number k l < m → GoesBefore reach i j k l
       → pos (element i j) < pos (element k l)
-  -- an untaken right placeholder stands right beside its instance
+  -- an untaken right placeholder is right after its instance
   pub beside : (i j : ℕ) → number i j < m → ((k l : ℕ) → number k l < m → element k l ≢ 1 + 2 * number i j)
       → pos (1 + 2 * number i j) ≡ pos (element i j) + 1
-  -- the down placeholder of a column's last instance stands after the instances that precede it and those of later
+  -- the down placeholder of a column's last instance is after the instances that precede it and those of later
   -- columns
   pub before : (i j k l : ℕ) → number i j < m → number k l < m → m ≤ number k (suc l) → (i < k → j ≤ reach k l i)
       → pos (element i j) < pos (2 + 2 * number k l)
@@ -27,7 +27,7 @@ pub record IsRightFirst (number element : ℕ → ℕ → ℕ) (reach : ℕ → 
   pub downs : (i j k l : ℕ) → number i j < m → m ≤ number i (suc j) → number k l < m → m ≤ number k (suc l) → k < i
       → pos (2 + 2 * number i j) < pos (2 + 2 * number k l)
 
--- how the element t, which start number m takes, stands among the others
+-- where the element t, which start number m takes, is among the others
 pub record TakesRightPlace (number element : ℕ → ℕ → ℕ) (reach : ℕ → ℕ → ℕ → ℕ) (m t : ℕ) (pos : ℕ → ℕ) : Type 0 where
   pub some : (i : ℕ) × (j : ℕ) × (number i j ≡ m)
   pub here : (i j : ℕ) → number i j ≡ m → element i j ≡ t
@@ -42,11 +42,11 @@ pub record TakesRightPlace (number element : ℕ → ℕ → ℕ) (reach : ℕ �
 module _ (number element : ℕ → ℕ → ℕ) (reach : ℕ → ℕ → ℕ → ℕ) (m t : ℕ) (pos pos' : ℕ → ℕ)
     (counted : IsCounted number element (suc m)) (around : TakesRightPlace number element reach m t pos)
     (moves : MovesPlaces pos pos' t m) (inv : IsRightFirst number element reach m pos) where
-  -- the places of instances and placeholders after the start
+  -- the indices of instances and placeholders after the start
   moved : MovesInstances number element m t pos pos'
   moved = moves_instances number element m t pos pos' counted around.some around.here moves
 
-  -- what the new instance comes before stands in an earlier column
+  -- an instance that the new one is before is in an earlier column
   older : (i j k l : ℕ) → GoesBefore reach i j k l → (k ≡ i → l < j) × (i < k → reach k l i < j) → k < i
   older i j k l g n = elim (cases_order k i) [
     | inl same ↦ (let p = n.0 same in let q = g.same (sym same) in absurd (omega (arith, p, q)))
@@ -87,7 +87,7 @@ module _ (number element : ℕ → ℕ → ℕ) (reach : ℕ → ℕ → ℕ →
         ])
   ]
 
-  -- an untaken right placeholder stays beside its instance
+  -- an untaken right placeholder stays right after its instance
   beside_next : (i j : ℕ) → number i j < suc m → ((k l : ℕ) → number k l < suc m → element k l ≢ 1 + 2 * number i j)
       → pos' (1 + 2 * number i j) ≡ pos' (element i j) + 1
   beside_next i j a free = elim (cases_lt (number i j) m) [
@@ -107,7 +107,7 @@ module _ (number element : ℕ → ℕ → ℕ) (reach : ℕ → ℕ → ℕ →
         omega (arith, q, r))
   ]
 
-  -- what comes before the down placeholder of a column's last instance
+  -- the instances before the down placeholder of a column's last instance
   before_next : (i j k l : ℕ) → number i j < suc m → number k l < suc m → suc m ≤ number k (suc l)
       → (i < k → j ≤ reach k l i) → pos' (element i j) < pos' (2 + 2 * number k l)
   before_next i j k l a b u g = elim (cases_lt (number i j) m) [
@@ -153,7 +153,7 @@ module _ (number element : ℕ → ℕ → ℕ) (reach : ℕ → ℕ → ℕ →
         | inr other ↦ (let p = g (omega arith) in let q = n.1 (omega arith) in omega (arith, p, q))
       ]
 
-  -- what comes after the down placeholder of a column's last instance
+  -- the instances after the down placeholder of a column's last instance
   after_next : (i j k l : ℕ) → number i j < suc m → number k l < suc m → suc m ≤ number k (suc l) → i < k
       → reach k l i < j → pos' (2 + 2 * number k l) < pos' (element i j)
   after_next i j k l a b u g h = elim (cases_lt (number i j) m) [
@@ -211,7 +211,7 @@ module _ (number element : ℕ → ℕ → ℕ) (reach : ℕ → ℕ → ℕ →
         ])
   ]
 
-  -- one start more keeps the list right-first
+  -- one more start keeps the list right-first
   pub right_first_kept : IsRightFirst number element reach (suc m) pos'
   right_first_kept = record {
     order = order_next;

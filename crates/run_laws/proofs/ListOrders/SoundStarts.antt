@@ -10,12 +10,12 @@ use Rattle.run_laws.proofs.LogMerge.ControlStates.{control_state_is}
 use Rattle.run_laws.proofs.RunStates.FrontAndBack.{run_state_is}
 use Rattle.run_laws.specs.EachRun.{OfEachRun}
 
--- the events make the state, and its frames and their starts are sound
+-- the events lead to the state, and its frames and their starts are sound
 pub record HasSoundStarts (events : List Event) (s : State) : Type 0 where
   pub state : s ≡ state_from initial_state events
   pub sound : IsStartSound s.frames (starts_of events)
 
--- the starts of one event more
+-- the starts with one more event
 pub starts_after : (events : List Event) (s : State) → s ≡ state_from initial_state events → (e : Event)
     → starts_of (events ++ e ∷ []) ≡ starts_of events ++ started_by s e
 starts_after events s same e =

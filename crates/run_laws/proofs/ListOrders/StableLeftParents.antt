@@ -23,14 +23,14 @@ pub last_up_to-push : (nodes : List Node) (new : Node) (s : ℤ) → s <ℤ new.
 last_up_to-push [] new s l = ap (before_rest None) (above s new.number l)
 last_up_to-push (n ∷ ns) new s l = ap (λ f. before_rest f (int_le n.number s)) (last_up_to-push ns new s l)
 
--- equal parts give equal joined places
+-- equal parts have equal joined indices
 joined_by_same : (kind : Kind) (k k' : ℕ) (f f' : Option ℕ) → k ≡ k' → (kind ≡ Wait → f ≡ f')
     → joined_by kind k f ≡ joined_by kind k' f'
 joined_by_same Zero k k' f f' e h = e
 joined_by_same Continue k k' f f' e h = e
 joined_by_same Wait k k' f f' e h = ap₂ later_place e (h refl)
 
--- columns that agree up to a place have its joined place
+-- columns that agree up to an index have its joined index
 pub joined_same_lists : (left left' right right' : List Node) (k : ℕ)
     → ((q : ℕ) → q ≤ k → node_at right' q ≡ node_at right q)
     → ((q : ℕ) → q ≤ k → (node_at right q).kind ≡ Wait
@@ -50,7 +50,7 @@ module _ (columns columns' : List (List Node)) (nodes : (a q : ℕ) → q < leng
     (finds : (a q : ℕ) → q < length (nodes_at columns (suc a)) → (node_at (nodes_at columns (suc a)) q).kind ≡ Wait
     → last_up_to (nodes_at columns' a) (node_at (nodes_at columns (suc a)) q).number
     ≡ last_up_to (nodes_at columns a) (node_at (nodes_at columns (suc a)) q).number) where
-  -- joined places stay
+  -- joined indices stay the same
   pub joined_same : (a k : ℕ) → k < length (nodes_at columns (suc a)) → joined_at columns' a k ≡ joined_at columns a k
   joined_same a k l =
       let e : suc a ≡ a + 1 = omega arith in
@@ -59,14 +59,14 @@ module _ (columns columns' : List (List Node)) (nodes : (a q : ℕ) → q < leng
       (joined_same_lists (nodes_at columns a) (nodes_at columns' a) (nodes_at columns (suc a))
       (nodes_at columns' (suc a)) k (λ q w. nodes a q (omega arith)) (λ q w. finds a q (omega arith)))
 
-  -- left parents stay
+  -- left parents stay the same
   pub left_same : (c k : ℕ) → k < length (nodes_at columns c) → left_parent columns' c k ≡ left_parent columns c k
   left_same zero k l = refl
   left_same (suc a) zero l = refl
   left_same (suc a) (suc k) l =
       ap₂ (λ x y. cond (ltb x y) (Some y) None) (joined_same a k (omega arith)) (joined_same a (suc k) l)
 
--- left_wait, by the joined place
+-- `left_wait`, by the joined index
 left_wait_by : (x j : ℕ)
     → cond (ltb x (later_place x (Some j))) (Some (later_place x (Some j))) None ≡ cond (ltb x j) (Some j) None
 left_wait_by x j = elim (cases_lt x j) [
@@ -78,7 +78,7 @@ left_wait_by x j = elim (cases_lt x j) [
       ∙ ap (λ b. cond b (Some j) None) (sym (le-ltb x j ge))))
 ]
 
--- a search of the left column tells the left parent: none where the last place is at most the one joined so far
+-- the left parent by a search of the left column: none if the index that is found is at most the one joined so far
 pub left_wait : (columns : List (List Node)) (a k j : ℕ) → (node_at (nodes_at columns (a + 1)) (suc k)).kind ≡ Wait
     → last_up_to (nodes_at columns a) (node_at (nodes_at columns (a + 1)) (suc k)).number ≡ Some j
     → left_parent columns (suc a) (suc k) ≡ cond (ltb (joined_at columns a k) j) (Some j) None
@@ -87,7 +87,7 @@ left_wait columns a k j w f =
     ap₂ (λ kind found. joined_by kind (joined_at columns a k) found) w f in
     ap (λ y. cond (ltb (joined_at columns a k) y) (Some y) None) e ∙ left_wait_by (joined_at columns a k) j
 
--- an instance with the joined place of the instance above has no left parent
+-- an instance with the joined index of the instance above has no left parent
 pub left_without_growth : (columns : List (List Node)) (a k : ℕ) → joined_at columns a (suc k) ≡ joined_at columns a k
     → left_parent columns (suc a) (suc k) ≡ None
 left_without_growth columns a k e =

@@ -15,7 +15,7 @@ use Rattle.run_laws.proofs.ListOrders.LeftParents.{takes_right, takes_down}
 use Rattle.run_laws.proofs.ListOrders.PrecedingPlaces.{IsBelow, path_below}
 use Rattle.run_laws.proofs.ListOrders.StartPlaces.{IsCounted}
 
--- start_found, past another start
+-- `start_found`, with one more start before it
 start_found_later : (x : NodeId) (xs : List NodeId) (i k : ℕ) → (eqb x.iteration i && eqb x.index k) ≡ false
     → start_number (x ∷ xs) i k < length (x ∷ xs)
     → (start_number xs i k < length xs → start_at xs (start_number xs i k) ≡ at i k)
@@ -24,7 +24,7 @@ start_found_later x xs i k f l found =
     let l' : suc (start_number xs i k) < suc (length xs) = rw f at l in
     rw f (found (omega (arith, l')))
 
--- an instance that has started stands at its number
+-- an instance that has started has the index of its number
 start_found : (starts : List NodeId) (i k : ℕ) → start_number starts i k < length starts
     → start_at starts (start_number starts i k) ≡ at i k
 start_found [] i k l = absurd (omega arith)
@@ -45,7 +45,7 @@ start_found (x ∷ xs) i k l = elim (cases_eq x.iteration i) [
 at_same : {i j k l : ℕ} → at i j ≡ at k l → (i ≡ k) × (j ≡ l)
 at_same e = (ap (λ (n : NodeId). n.iteration) e, ap (λ (n : NodeId). n.index) e)
 
--- instances with one number are one
+-- instances with the same number are equal
 start_same : (starts : List NodeId) (i j k l : ℕ) → start_number starts i j < length starts
     → start_number starts i j ≡ start_number starts k l → (i ≡ k) × (j ≡ l)
 start_same starts i j k l w e =
@@ -53,7 +53,7 @@ start_same starts i j k l w e =
 
 module _ (columns : List (List Node)) (starts : List NodeId) (ok : AreColumns columns)
     (right : AreStarts columns starts) where
-  -- what precedes an instance starts before it
+  -- an instance that precedes another starts before it
   path_ordered : {x y : NodeId} → Precedes columns x y → IsStarted starts y
       → start_number starts x.iteration x.index < start_number starts y.iteration y.index
   path_ordered {x} {y} (ByEdge e) w = right.ordered x y e w
@@ -62,7 +62,7 @@ module _ (columns : List (List Node)) (starts : List NodeId) (ok : AreColumns co
       let b = path_ordered p (omega (arith, a, w)) in
       omega (arith, a, b)
 
-  -- what an instance is below starts before it
+  -- if `IsBelow` holds of (i, j) and (k, l), then (i, j) starts before (k, l)
   pub below_ordered : (i j k l : ℕ) → IsBelow columns i j k l → start_number starts k l < length starts
       → start_number starts i j < start_number starts k l
   below_ordered i j k l b w =
@@ -98,7 +98,7 @@ module _ (columns : List (List Node)) (starts : List NodeId) (ok : AreColumns co
         omega (arith, p))
   ]
 
-  -- a left parent starts before
+  -- a left parent starts before its instance
   pub left_ordered : (a j b : ℕ) → IsLeftAt columns a j b → start_number starts (suc a) j < length starts
       → start_number starts a b < start_number starts (suc a) j
   left_ordered a j b h w = below_ordered a b (suc a) j (record {
@@ -111,7 +111,7 @@ module _ (columns : List (List Node)) (starts : List NodeId) (ok : AreColumns co
         omega (arith, p, q, r));
   }) w
 
-  -- the instance above starts before
+  -- the instance above starts before the one below
   pub up_ordered : (i j : ℕ) → start_number starts i (suc j) < length starts
       → start_number starts i j < start_number starts i (suc j)
   up_ordered i j w = below_ordered i j i (suc j) (record {
@@ -120,7 +120,7 @@ module _ (columns : List (List Node)) (starts : List NodeId) (ok : AreColumns co
     within = λ e. absurd (omega (arith, e));
   }) w
 
-  -- the head to the left starts before
+  -- the head to the left starts before the next
   pub head_ordered : (i : ℕ) → start_number starts (suc i) 0 < length starts
       → start_number starts i 0 < start_number starts (suc i) 0
   head_ordered i w = below_ordered i 0 (suc i) 0 (record {
@@ -136,7 +136,7 @@ module _ (columns : List (List Node)) (starts : List NodeId) (ok : AreColumns co
   right_below (RightOf a j b h) w = let p = left_ordered a j b h w in omega (arith, p)
   right_below (RightBelow i j e) w = let p = up_ordered i j w in omega (arith, p)
 
-  -- no two instances take one element, in right-first
+  -- no two instances take the same element, in right-first
   right_once : {i j k l t u : ℕ} → TakesRight columns (start_number starts) i j t
       → TakesRight columns (start_number starts) k l u → start_number starts i j < length starts
       → start_number starts k l < length starts → t ≡ u → (i ≡ k) × (j ≡ l)
@@ -175,7 +175,7 @@ module _ (columns : List (List Node)) (starts : List NodeId) (ok : AreColumns co
   down_below (DownHead i) w = let p = head_ordered i w in omega (arith, p)
   down_below (DownBelow i j) w = let p = up_ordered i j w in omega (arith, p)
 
-  -- no two instances take one element, in down-first
+  -- no two instances take the same element, in down-first
   down_once : {i j k l t u : ℕ} → TakesDown (start_number starts) i j t → TakesDown (start_number starts) k l u
       → start_number starts i j < length starts → start_number starts k l < length starts → t ≡ u → (i ≡ k) × (j ≡ l)
   down_once DownRoot DownRoot w v e = (refl, refl)

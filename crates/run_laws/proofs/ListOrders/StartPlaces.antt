@@ -3,7 +3,7 @@ use Rattle.std.proofs.Common.{ap, ap₂, ◌≢◌, ◌⊎◌, ℕ, ◌≡◌, �
 use mathlib.Core.Path.{subst₂}
 use Rattle.run_laws.proofs.ListOrders.ListPlaces.{MovesPlaces}
 
--- number tells when the instance (i, j) starts and element what it takes; there are n starts
+-- `number` is the number of the start of (i, j), and `element` the element that it takes; there are n starts
 pub record IsCounted (number element : ℕ → ℕ → ℕ) (n : ℕ) : Type 0 where
   pub same : (i j k l : ℕ) → number i j < n → number i j ≡ number k l → (i ≡ k) × (j ≡ l)
   pub below : (i j : ℕ) → number i j < n → element i j < 1 + 2 * number i j
@@ -11,7 +11,7 @@ pub record IsCounted (number element : ℕ → ℕ → ℕ) (n : ℕ) : Type 0 w
   pub rises : (i j k : ℕ) → j ≤ k → number i k < n → number i j ≤ number i k
   pub heads : (i k : ℕ) → i ≤ k → number k 0 < n → number i 0 ≤ number k 0
 
--- different elements stand at different places
+-- different elements have different indices
 pub record Apart (m : ℕ) (pos : ℕ → ℕ) : Type 0 where
   pub apart : (a b : ℕ) → a < 1 + 2 * m → b < 1 + 2 * m → pos a ≡ pos b → a ≡ b
 
@@ -22,9 +22,9 @@ at_newest number element m x y counted at P p i j e =
     let s = counted.same x y i j (omega arith) (at ∙ sym e) in
     subst₂ P s.0 s.1 p
 
--- what start number m, which takes t, changes of the places: the new instance stands where t stood, with its two
--- placeholders right after it; every older instance and placeholder stays or moves by two; and no older instance stood
--- where t stood
+-- how start number m, which takes t, changes the indices: the new instance is where t was, and its two placeholders
+-- are right after it; every older instance and placeholder stays or moves by two; and no older instance was
+-- where t was
 pub record MovesInstances (number element : ℕ → ℕ → ℕ) (m t : ℕ) (pos pos' : ℕ → ℕ) : Type 0 where
   pub new_element : (i j : ℕ) → number i j ≡ m → pos' (element i j) ≡ pos t
   pub new_one : (i j : ℕ) → number i j ≡ m → pos' (1 + 2 * number i j) ≡ pos t + 1
@@ -40,7 +40,7 @@ pub record MovesInstances (number element : ℕ → ℕ → ℕ) (m t : ℕ) (po
       ⊎ ((pos t < pos (2 + 2 * number i j)) × (pos' (2 + 2 * number i j) ≡ pos (2 + 2 * number i j) + 2))
   pub apart : (i j : ℕ) → number i j < m → pos (element i j) ≢ pos t
 
--- two insertions after t do so
+-- two insertions after t change them so
 pub moves_instances : (number element : ℕ → ℕ → ℕ) (m t : ℕ) (pos pos' : ℕ → ℕ) → IsCounted number element (suc m)
     → (i : ℕ) × (j : ℕ) × (number i j ≡ m) → ((i j : ℕ) → number i j ≡ m → element i j ≡ t) → MovesPlaces pos pos' t m
     → MovesInstances number element m t pos pos'

@@ -29,7 +29,7 @@ use Rattle.run_laws.proofs.RunStates.GrowingColumns.{nodes_at_begun, extends_beg
 use Rattle.run_laws.proofs.RunStates.LaterEdges.{columns_of_frames, ExtendsColumns}
 use Rattle.run_laws.proofs.RunStates.GrowingColumns.{columns-action}
 
--- what holds of the frames of a run and its starts
+-- the invariant of the frames of a run and its starts
 pub record IsStartSound (fs : List Frame) (starts : List NodeId) : Type 0 where
   pub sound : IsSound fs
   pub heads : (i : ℕ) (f : Frame) → frame_at fs i ≡ Some f → (node_at f.nodes 0).kind ≡ Zero
@@ -55,7 +55,7 @@ are_columns fs starts h =
       ];
     }
 
--- a start: what holds after it, and what it keeps
+-- a start: the invariant after it, and what it keeps
 pub record Grew (fs fs' : List Frame) (starts : List NodeId) (x : NodeId) : Type 0 where
   pub sound : IsStartSound fs' (starts ++ x ∷ [])
   pub by : GrowsBy (columns_of_frames fs) (columns_of_frames fs') starts x
@@ -64,7 +64,7 @@ pub record Grew (fs fs' : List Frame) (starts : List NodeId) (x : NodeId) : Type
   pub joins : (c k : ℕ) → k < length (nodes_at (columns_of_frames fs) (suc c))
       → joined_at (columns_of_frames fs') c k ≡ joined_at (columns_of_frames fs) c k
 
--- a column with one instance more grows the starts so
+-- one more instance of a column is such a start
 grew : (fs fs' : List Frame) (starts : List NodeId) (i : ℕ) (new : Node) → IsStartSound fs starts
     → AddsNode (columns_of_frames fs) (columns_of_frames fs') i new
     → ExtendsColumns (columns_of_frames fs) (columns_of_frames fs') → IsSound fs'
@@ -82,7 +82,7 @@ grew fs fs' starts i new h a x sound heads = record {
   joins = joins_stay (columns_of_frames fs) (columns_of_frames fs') starts i new a x h.ordered h.all;
 }
 
--- a beginning grows the starts so
+-- the beginning of an iteration is such a start
 pub grew_begin : (limit : ℕ) (s : State) (i : ℕ) (starts : List NodeId) → MayBegin limit s i
     → IsStartSound s.frames starts → Grew s.frames (next_state s (Begin i)).frames starts (at i 0)
 grew_begin limit s i starts may h =
@@ -109,7 +109,7 @@ grew_begin limit s i starts may h =
     subst (λ c. Grew fs (fs ++ fresh_frame ∷ []) starts (at c 0)) (sym may.number)
     (subst (λ k. Grew fs (fs ++ fresh_frame ∷ []) starts (at n k)) index g)
 
--- an entering grows the starts so
+-- the entering of a stage is such a start
 pub grew_enter : (s : State) (i : ℕ) (starts : List NodeId) → MayEnter s i → IsStartSound s.frames starts
     → Grew s.frames (next_state s (Enter i)).frames starts (at i (length (nodes_at (own_columns s) i)))
 grew_enter s i starts may h =
@@ -172,7 +172,7 @@ sound_step limit s (Finish i e) starts may h =
     (moves_completed s.frames i r.frame (Ended e) e r.runs) h
 sound_step limit s Stop starts may h = rw append-nil h
 
--- the starts of one event more
+-- the starts with one more event
 pub starts_from-push : (s : State) (es : List Event) (e : Event)
     → starts_from s (es ++ e ∷ []) ≡ starts_from s es ++ started_by (state_from s es) e
 starts_from-push s [] e = append-nil (started_by s e)

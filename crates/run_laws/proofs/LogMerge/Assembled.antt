@@ -1,4 +1,4 @@
--- What is asked of a list of events so that it is a run, part by part.
+-- Conditions on the parts of a list of events under which it is a run.
 use Rattle.std.specs.Prelude.{ℕ, List, false, ◌≡◌, ◌∷◌, ◌++◌}
 use Rattle.pipe_model.specs.Runs.Allowed.{IsRunning}
 use Rattle.pipe_model.specs.Pipelines.Behaviour.{Performs}
@@ -22,7 +22,7 @@ pub record IsAssembled (p : Pipeline) (limit : ℕ) (events : List Event) (c : S
   pub replies : (front rest : List Event) (i : ℕ) (a : Cell_access) → events ≡ front ++ Access i a ∷ rest
       → HasReply p.store (p.preamble ++ accesses_among front) a
 
--- events that are assembled so are a run
+-- events of which the parts are so are a run
 abbrev pub AssembledIsRun : Type 0
 AssembledIsRun =
     (p : Pipeline) (limit : ℕ) (events : List Event) (c : State) → IsAssembled p limit events c

@@ -17,7 +17,7 @@ use Rattle.run_laws.proofs.LogMerge.ControlPart.{SameControl, control_same, afte
 use Rattle.run_laws.proofs.LogMerge.ControlStates.{IsAllowedAt, allowed_at, control_state_is}
 use Rattle.run_laws.proofs.LogMerge.EventActions.{trace_is_actions, actions_at-append, if_same-true, control_events-append, accesses_are_among}
 
--- a front of the events that is a run
+-- a prefix of the events that is a run
 record HasFront (p : Pipeline) (limit : ℕ) (front : List Event) : Type 0 where
   state : State
   outline : State
@@ -51,7 +51,7 @@ control_event_program p limit events front rest (Finish i e) c s w q n r =
     ∙ ap (λ l. actions_at i front ++ l) (if_same-true i (Ended e) (actions_at i rest)))
 control_event_program p limit events front rest Stop c s w q n r = tt
 
--- a front with one control event more
+-- a prefix with one more control event
 control_step : (p : Pipeline) (limit : ℕ) (events front rest : List Event) (e : Event) (c : State)
     → IsAssembled p limit events c → events ≡ front ++ e ∷ rest → is_access e ≡ false
     → control_events (e ∷ rest) ≡ e ∷ control_events rest → control_events (e ∷ []) ≡ e ∷ []
@@ -78,7 +78,7 @@ control_step p limit events front rest e c w q n b one h =
       same = after_same h.state h.outline e n h.same;
     }
 
--- a front with one access more
+-- a prefix with one more access
 access_step : (p : Pipeline) (limit : ℕ) (events front rest : List Event) (i : ℕ) (a : Cell_access) (c : State)
     → IsAssembled p limit events c → events ≡ front ++ Access i a ∷ rest → HasFront p limit front
     → HasFront p limit (front ++ Access i a ∷ [])
@@ -104,7 +104,7 @@ access_step p limit events front rest i a c w q h =
       same = access_same h.state h.outline i a h.same r;
     }
 
--- every front of the events, and so all of them, is a run
+-- every prefix of the events, and so the whole list, is a run
 all_fronts : (p : Pipeline) (limit : ℕ) (events : List Event) (c : State) → IsAssembled p limit events c
     → (rest front : List Event) → events ≡ front ++ rest → HasFront p limit front → HasFront p limit events
 all_fronts p limit events c w [] front q h = subst (λ l. HasFront p limit l) (sym (q ∙ append-nil front)) h
@@ -132,18 +132,18 @@ all_fronts p limit events c w (Stop ∷ rest) front q h =
     ∙ sym (append_assoc front (Stop ∷ []) rest))
     (control_step p limit events front rest Stop c w q refl refl refl h)
 
--- the columns go by the outlines
+-- the columns of the outlines are those of the frames
 columns-outlines : (fs : List Frame) → map (λ f. f.nodes) (outlines fs) ≡ map (λ f. f.nodes) fs
 columns-outlines [] = refl
 columns-outlines (f ∷ fs) = ap (λ l. f.nodes ∷ l) (columns-outlines fs)
 
--- states that the control part does not tell apart have the same columns
+-- states with the same control part have the same columns
 same_columns : (s c : State) → SameControl s c → own_columns s ≡ own_columns c
 same_columns s c e =
     sym (columns-outlines s.frames) ∙ (ap (λ fs. map (λ (f : Frame). f.nodes) fs) e.frames
     ∙ columns-outlines c.frames)
 
--- states that the control part does not tell apart are finished together
+-- if two states have the same control part and one is finished, so is the other
 same_finished : (s c : State) → SameControl s c → IsFinished c → IsFinished s
 same_finished s c e h =
     let x = h.shut in

@@ -39,7 +39,7 @@ end_is_action book shards i (b ∷ bs) x sub m =
       | inr a ↦ end_is_action book shards i bs x (λ d n. sub d (Later b n)) a
     ]
 
--- all actions of the logs are laid down
+-- all actions of the logs are in the laid traces
 all_laid : (p : Pipeline) (limit width : ℕ) (book : List BookEntry) (shards : ℕ → List ShardEntry)
     (made : ℕ → ℕ → List TimedAction) (c : State)
     → ClosedLogs p limit width book shards made c → (i : ℕ) (x : TimedAction) → IsActionOf book shards i x
@@ -69,7 +69,7 @@ all_laid p limit width book shards made c h i x (AccessedIn {t} {index} {a} k m)
     let z : 0 + index ≡ index = omega arith in
     rw z inside)
 
--- the traces of the instances are the trace of the iteration
+-- the laid traces of the instances are the trace of the iteration
 closed_trace : (p : Pipeline) (limit width : ℕ) (book : List BookEntry) (shards : ℕ → List ShardEntry)
     (made : ℕ → ℕ → List TimedAction) (c : State)
     → ClosedLogs p limit width book shards made c → (i : ℕ)

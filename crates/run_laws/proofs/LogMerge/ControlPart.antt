@@ -1,4 +1,4 @@
--- The control part goes by the instances and the status of each iteration, and not by its trace.
+-- The control part depends on the instances and the status of each iteration, and not on its trace.
 use Rattle.std.proofs.Common.{[], List, map, ℕ, Some, ◌≡◌, ◌∷◌, zero, refl, ap, ◌∙◌, suc, length, sym, ◌+◌, ℤ, subst, arith, ◌-◌, ◌<ℤ◌, false, ◌++◌}
 use Rattle.std.proofs.lemmas.List.{length-map, map-append}
 use Rattle.pipe_model.specs.Runs.Allowed.{IsRunning, LeftHasPassed, HasPassed, ControlAllows, ContinuesLoop}
@@ -49,7 +49,7 @@ same_frame (f ∷ fs) (h ∷ gs) (suc i) g e is =
     let r = same_frame fs gs i g tail is in
     record { frame = r.frame; is = r.is; nodes = r.nodes; status = r.status }
 
--- frames with equal outlines are equally many
+-- lists of frames with equal outlines have equal lengths
 same_length : (fs gs : List Frame) → outlines fs ≡ outlines gs → length fs ≡ length gs
 same_length fs gs e = sym (length-map fs outline) ∙ ap (λ (l : List Frame). length l) e ∙ length-map gs outline
 
@@ -58,7 +58,7 @@ same_alive : (fs : List Frame) → alive_in (outlines fs) ≡ alive_in fs
 same_alive [] = refl
 same_alive (f ∷ fs) = ap (λ n. alive_one f.status + n) (same_alive fs)
 
--- an update that goes by the outline
+-- an update that depends on the outline alone
 abbrev GoesByOutline : (Frame → Frame) → Type 0
 GoesByOutline u = (f : Frame) → outline (u f) ≡ outline (u (outline f))
 
@@ -86,7 +86,7 @@ enters_by_outline Running f = refl
 enters_by_outline (Pending k n) f = refl
 enters_by_outline (Completed e) f = refl
 
--- two states that the control part does not tell apart
+-- two states with the same control part
 pub record SameControl (s c : State) : Type 0 where
   pub frames : outlines s.frames ≡ outlines c.frames
   pub stopped : s.stopped ≡ c.stopped
@@ -144,7 +144,7 @@ control_same limit s c (Finish i e) same h =
     record { running = r.0; first = λ w. ap (λ (x : List Node). length x) r.1 ∙ h.first w }
 control_same limit s c Stop same h = tt
 
--- two states that the control part does not tell apart stay so after an event
+-- two states with the same control part have the same control part after an event
 pub after_same : (s c : State) (e : Event) → is_access e ≡ false → SameControl s c
     → SameControl (next_state s e) (next_state c e)
 after_same s c (Begin i) no_access same = record {
@@ -178,7 +178,7 @@ outlines-accessed (x ∷ fs) zero f a e r =
     ap (λ w. (let h : Frame = record { nodes = x.nodes; status = w; trace = [] } in h) ∷ outlines fs) (sym runs)
 outlines-accessed (x ∷ fs) (suc i) f a e r = ap (λ l. outline x ∷ l) (outlines-accessed fs i f a e r)
 
--- an access changes nothing of the control part
+-- an access does not change the control part
 pub access_same : (s c : State) (i : ℕ) (a : Cell_access) → SameControl s c → IsRunning s i
     → SameControl (next_state s (Access i a)) c
 access_same s c i a same r = record {

@@ -9,14 +9,14 @@ use Rattle.pipe_model.specs.declared.event.Event.{Event}
 use Rattle.run_laws.proofs.LogMerge.LastElements.{LastOf, IsEmpty, HasLast, last_of_list}
 use Rattle.run_laws.proofs.RunStates.FrontAndBack.{state_from-push}
 
--- the state of a control run is what its events make
+-- the state of a control run is the one after its events
 pub control_state_is : {limit : ℕ} {es : List Event} {c : State} → ControlRun limit es c
     → c ≡ state_from initial_state es
 control_state_is EmptyControlRun = refl
 control_state_is (ControlRunThen {events = es} {c = d} r e n g h) =
     ap (λ s. next_state s e) (control_state_is r) ∙ sym (state_from-push initial_state es e)
 
--- the event is allowed after the front by the control part
+-- the control part allows the event after the prefix
 pub record IsAllowedAt (limit : ℕ) (front : List Event) (e : Event) : Type 0 where
   pub state : State
   pub before : ControlRun limit front state
@@ -24,7 +24,7 @@ pub record IsAllowedAt (limit : ℕ) (front : List Event) (e : Event) : Type 0 w
   pub going : state.stopped ≡ false
   pub control : ControlAllows limit state e
 
--- each event of a control run is allowed at its place
+-- each event of a control run is allowed after those before it
 pub allowed_at : {limit : ℕ} {es : List Event} {c : State} → ControlRun limit es c
     → (front : List Event) (e : Event) (rest : List Event) → es ≡ front ++ e ∷ rest → IsAllowedAt limit front e
 allowed_at EmptyControlRun [] e rest same = absurd (cc)

@@ -1,4 +1,4 @@
--- Entries and actions with their tickets, as the proofs of the merge write them.
+-- Short forms of entries and actions with their tickets, for the proofs of the merge.
 use Rattle.std.proofs.Common.{ℕ}
 use Rattle.pipe_model.specs.declared.access.Access.{Access as Cell_access}
 use Rattle.pipe_model.specs.declared.event.Event.{Event}

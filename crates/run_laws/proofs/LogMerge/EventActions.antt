@@ -17,7 +17,7 @@ use Rattle.pipe_model.specs.declared.event.Event.{Event}
 use Rattle.pipe_model.specs.declared.event.Event.TheVariants.{Begin, Enter, Stop, Access, Advance, Finish}
 use Rattle.run_laws.proofs.RunStates.Frames.{frame_at_updated, frame_at_other}
 
--- an optional action in front of two lists
+-- two lists with an optional action at the front of the first
 if_same-append : (b : Bool) (x : Action) (xs ys : List Action) → if_same b x (xs ++ ys) ≡ if_same b x xs ++ ys
 if_same-append true x xs ys = refl
 if_same-append false x xs ys = refl
@@ -38,7 +38,7 @@ actions_at-append i (Finish j e ∷ xs) ys =
     ap (if_same (j == i) (Ended e)) (actions_at-append i xs ys)
     ∙ if_same-append (j == i) (Ended e) (actions_at i xs) (actions_at i ys)
 
--- a beginning changes no trace
+-- the beginning of an iteration changes no trace
 trace_begun : (fs : List Frame) (i : ℕ) → trace_in (frame_at (fs ++ fresh_frame ∷ []) i) ≡ trace_in (frame_at fs i)
 trace_begun [] zero = refl
 trace_begun [] (suc i) = refl
@@ -63,7 +63,7 @@ trace_pushed fs j f x w i e = elim (cases_eq i j) [
       ∙ ap (λ u. trace_in (frame_at fs i) ++ if_same u x []) (sym t))
 ]
 
--- entering changes no trace
+-- the entering of a stage changes no trace
 trace_entered : (fs : List Frame) (j : ℕ) (i : ℕ)
     → trace_in (frame_at (update_frame fs j (λ f. enter_pending f.status f)) i) ≡ trace_in (frame_at fs i)
 trace_entered [] j i = refl

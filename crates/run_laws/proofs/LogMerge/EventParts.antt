@@ -1,4 +1,4 @@
--- What a list of events has of each part: its control part, its accesses, and the actions of each iteration.
+-- The parts of a list of events: its control part, its accesses, and the actions of each iteration.
 use Rattle.std.proofs.Common.{ℕ, List, [], ◌∷◌, Bool, true, false, ◌==◌}
 use Rattle.pipe_model.specs.declared.access.Access.{Access as Cell_access}
 use Rattle.pipe_model.specs.declared.event.Event.{Event}
@@ -25,7 +25,7 @@ accesses_among (Enter i ∷ es) = accesses_among es
 accesses_among (Finish i e ∷ es) = accesses_among es
 accesses_among (Stop ∷ es) = accesses_among es
 
--- one more in front, where the first is true
+-- the list with one more element at its front, if the condition is true
 abbrev pub if_same : Bool → Action → List Action → List Action
 if_same true x xs = x ∷ xs
 if_same false x xs = xs

@@ -15,7 +15,7 @@ use Rattle.pipe_model.specs.declared.event.Event.TheVariants.{Advance, Finish, S
 use Rattle.run_laws.specs.LogLaws.{MakesRun}
 use Rattle.run_laws.proofs.LogMerge.Entries.{timed, book_entry, shard_entry}
 
--- an entry of a shard stands after the start of its instance and before its end
+-- an entry of a shard is after the start of its instance and before its end
 pub record IsWithinInstance (book : List BookEntry) (e : ShardEntry) : Type 0 where
   pub start : ℕ
   pub started : ticket_at (start_tickets e.node.iteration book) e.node.index ≡ Some start
@@ -32,7 +32,7 @@ pub data IsActionOf (book : List BookEntry) (shards : ℕ → List ShardEntry) (
       → Among (shard_entry t i index a) (shards shard)
       → IsActionOf book shards i (timed t (Accessed a))
 
--- what was done in an iteration, with tickets: all actions of the logs that are of it, in order
+-- the actions of an iteration with their tickets: all actions of the logs that are of it, in order
 pub record IsTrace (p : Pipeline) (book : List BookEntry)
     (shards : ℕ → List ShardEntry) (i : ℕ) (trace : List TimedAction) : Type 0 where
   pub rises : TicketsRise trace

@@ -43,45 +43,45 @@ control_sound {limit} (ControlRunThen {c = d} r e n g h) = sound_after limit d e
         by_quiet s (next_state s (Finish i e)).frames sound (finish_is_quiet s i e h)
     sound_after limit s Stop n sound h = sound
 
--- how many instances of an iteration have started
+-- the number of instances of an iteration that have started
 abbrev pub started_in : Option Frame → ℕ
 started_in None = 0
 started_in (Some f) = length f.nodes
 
--- how many have ended, by the status
+-- the number that have ended, by the status
 abbrev pub ended_by_status : Status → ℕ → ℕ
 ended_by_status Running n = n - 1
 ended_by_status (Pending k m) n = n
 ended_by_status (Completed e) n = n
 
--- how many instances of an iteration have ended
+-- the number of instances of an iteration that have ended
 abbrev pub ended_in : Option Frame → ℕ
 ended_in None = 0
 ended_in (Some f) = ended_by_status f.status (length f.nodes)
 
--- how many of the events start one
+-- the number of events that start an instance of the iteration
 abbrev pub start_count : ℕ → List Event → ℕ
 start_count i [] = 0
 start_count i (e ∷ es) = length (start_ticket i e 0) + start_count i es
 
--- how many of the events end one
+-- the number of events that end one
 abbrev pub end_count : ℕ → List Event → ℕ
 end_count i [] = 0
 end_count i (e ∷ es) = length (end_ticket i e 0) + end_count i es
 
--- the starts with one event more
+-- the starts with one more event
 start_count-push : (i : ℕ) (es : List Event) (e : Event)
     → start_count i (es ++ e ∷ []) ≡ start_count i es + length (start_ticket i e 0)
 start_count-push i [] e = omega arith
 start_count-push i (x ∷ es) e = let h = start_count-push i es e in omega (arith, h)
 
--- the ends with one event more
+-- the ends with one more event
 end_count-push : (i : ℕ) (es : List Event) (e : Event)
     → end_count i (es ++ e ∷ []) ≡ end_count i es + length (end_ticket i e 0)
 end_count-push i [] e = omega arith
 end_count-push i (x ∷ es) e = let h = end_count-push i es e in omega (arith, h)
 
--- the tickets of starts are as many
+-- the number of start tickets is the number of starts
 pub start_tickets_counted : (i : ℕ) (bs : List BookEntry)
     → length (start_tickets i bs) ≡ start_count i (map (λ b. b.event) bs)
 start_tickets_counted i [] = refl
@@ -91,7 +91,7 @@ start_tickets_counted i (b ∷ bs) =
     let t = any_start i b.event b.ticket in
     omega (arith, h, a, t)
 
--- the tickets of ends are as many
+-- the number of end tickets is the number of ends
 pub end_tickets_counted : (i : ℕ) (bs : List BookEntry)
     → length (end_tickets i bs) ≡ end_count i (map (λ b. b.event) bs)
 end_tickets_counted i [] = refl
@@ -121,7 +121,7 @@ count_updated fs j f u F i n e h = elim (cases_eq i j) [
       rw t (omega (arith, a)))
 ]
 
--- what a beginning adds to a count
+-- what the beginning of an iteration adds to a count
 count_begun : (fs : List Frame) (F : Option Frame → ℕ) (i j n : ℕ) → j ≡ length fs → F (Some fresh_frame) ≡ n
     → F None ≡ 0 → F (frame_at (fs ++ fresh_frame ∷ []) i) ≡ F (frame_at fs i) + length (if_ticket (j == i) 0) * n
 count_begun fs F i j n last new none = elim (cases_eq i j) [
@@ -222,13 +222,13 @@ control_counts EmptyControlRun i = record { starts = refl; ends = refl }
 control_counts {limit} (ControlRunThen {events = es} {c = d} r e n g h) i =
     counted_after limit es d e i n (control_sound r) h (control_counts r i)
 
--- at most one instance more has started than has ended, by the status
+-- at most one more instance has started than has ended, by the status
 one_open_by_status : (w : Status) (n : ℕ) → n ≤ ended_by_status w n + 1
 one_open_by_status Running n = omega arith
 one_open_by_status (Pending k m) n = omega arith
 one_open_by_status (Completed e) n = omega arith
 
--- of each iteration at most one instance more has started than has ended
+-- of each iteration at most one more instance has started than has ended
 pub one_open : (o : Option Frame) → started_in o ≤ ended_in o + 1
 one_open None = omega arith
 one_open (Some f) = one_open_by_status f.status (length f.nodes)

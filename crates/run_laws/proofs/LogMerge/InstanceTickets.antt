@@ -24,13 +24,13 @@ end_tickets-append i (b ∷ xs) ys =
     ap (λ l. end_ticket i b.event b.ticket ++ l) (end_tickets-append i xs ys)
     ∙ sym (append_assoc (end_ticket i b.event b.ticket) (end_tickets i xs) (end_tickets i ys))
 
--- a number below the length of the first part is that of one of its tickets
+-- an index below the length of the first part is that of one of its tickets
 pub ticket_left : (xs ys : List ℕ) (n : ℕ) → n < length xs → (t : ℕ) × (ticket_at (xs ++ ys) n ≡ Some t) × Among t xs
 ticket_left [] ys n l = absurd (omega (arith, l))
 ticket_left (x ∷ xs) ys zero l = (x, refl, Here)
 ticket_left (x ∷ xs) ys (suc n) l = let h = ticket_left xs ys n (omega (arith, l)) in (h.0, h.1, Later x h.2)
 
--- a ticket of both parts has such a number, or is of the second
+-- a ticket of both parts has such an index, or is of the second part
 pub ticket_right : (xs ys : List ℕ) (n t : ℕ) → ticket_at (xs ++ ys) n ≡ Some t → (n < length xs) ⊎ Among t ys
 ticket_right [] [] n t e = absurd (cc)
 ticket_right [] (y ∷ ys) zero t e = let same : t ≡ y = cc in inr (rw same Here)
@@ -89,12 +89,12 @@ end_has i (b ∷ bs) t m = elim (among_either t (end_ticket i b.event b.ticket) 
   | inr there ↦ (let h = end_has i bs t there in record { entry = h.entry; made = Later b h.made; is = h.is })
 ]
 
--- how many tickets there are does not depend on them
+-- the number of tickets does not depend on the tickets
 pub any_ticket : (b : Bool) (t u : ℕ) → length (if_ticket b t) ≡ length (if_ticket b u)
 any_ticket true t u = refl
 any_ticket false t u = refl
 
--- how many starts an event has does not depend on its ticket
+-- the number of starts of an event does not depend on its ticket
 pub any_start : (i : ℕ) (e : Event) (t : ℕ) → length (start_ticket i e t) ≡ length (start_ticket i e 0)
 any_start i (Begin j) t = any_ticket (j == i) t 0
 any_start i (Enter j) t = any_ticket (j == i) t 0
@@ -103,7 +103,7 @@ any_start i (Advance j k n) t = refl
 any_start i (Finish j e) t = refl
 any_start i Stop t = refl
 
--- how many ends an event has does not depend on its ticket
+-- the number of ends of an event does not depend on its ticket
 pub any_end : (i : ℕ) (e : Event) (t : ℕ) → length (end_ticket i e t) ≡ length (end_ticket i e 0)
 any_end i (Begin j) t = refl
 any_end i (Enter j) t = refl
@@ -112,7 +112,7 @@ any_end i (Advance j k n) t = any_ticket (j == i) t 0
 any_end i (Finish j e) t = any_ticket (j == i) t 0
 any_end i Stop t = refl
 
--- the number of a ticket is below the length
+-- the index of a ticket is below the length
 pub ticket_within : (ts : List ℕ) (n t : ℕ) → ticket_at ts n ≡ Some t → n < length ts
 ticket_within [] n t e = absurd (cc)
 ticket_within (x ∷ ts) zero t e = omega arith

@@ -32,7 +32,7 @@ end_actions-tickets i (b ∷ bs) = by_event (end_actions-tickets i bs) b.event
     by_event rest (Finish j e) = if_end-ticket (j == i) b.ticket (Ended e) (end_actions i bs) (end_tickets i bs) rest
     by_event rest Stop = rest
 
--- two rising lists of which the first comes before the second
+-- two rising lists of which the first is before the second
 rises_join : (xs ys : List TimedAction) → TicketsRise xs → TicketsRise ys
     → ((x y : TimedAction) → Among x xs → Among y ys → x.ticket < y.ticket) → TicketsRise (xs ++ ys)
 rises_join [] ys r q h = q
@@ -41,14 +41,14 @@ rises_join (x ∷ xs) ys r q h = (
   rises_join xs ys r.1 q (λ u v m n. h u v (Later x m) n),
 )
 
--- the traces from instance k on rise, and come after its start
+-- the traces from instance k on rise, and are after its start
 record IsLaidInOrder (book : List BookEntry) (made : ℕ → ℕ → List TimedAction) (i k : ℕ)
     (es : List TimedAction) : Type 0 where
   rises : TicketsRise (laid_traces (made i) k es)
   late : (x : TimedAction) → Among x (laid_traces (made i) k es)
       → (s : ℕ) × (ticket_at (start_tickets i book) k ≡ Some s) × (s < x.ticket)
 
--- tickets in order make them so
+-- they do if the tickets are in order
 laid_rises : (book : List BookEntry) (made : ℕ → ℕ → List TimedAction) → InTicketOrder book made
     → (i k : ℕ) (es : List TimedAction)
     → ((j : ℕ) (t : ℕ) → ticket_at (map (λ e. e.ticket) es) j ≡ Some t
@@ -94,7 +94,7 @@ iteration_rises book made order i = (laid_rises book made order i 0 (end_actions
     let z : 0 + j ≡ j = omega arith in
     rw z (subst (λ l. ticket_at l j ≡ Some t) (end_actions-tickets i book) q)))).rises
 
--- every access of an instance up to the last that was started is laid down
+-- every access of an instance up to the last that was started is in the laid traces
 pub laid_has : (made : ℕ → List TimedAction) (k : ℕ) (es : List TimedAction) (j : ℕ) (x : TimedAction) → j ≤ length es
     → Among x (made (k + j)) → Among x (laid_traces made k es)
 laid_has made k [] j x l m = let z : k + j ≡ k = omega (arith, l) in rw z at m
@@ -106,7 +106,7 @@ laid_has made k (e ∷ es) (suc j) x l m =
     among_right x (made k) (e ∷ laid_traces made (k + 1) es)
     (Later e (laid_has made (k + 1) es j x (omega (arith, l)) (rw z at m)))
 
--- every end of an instance is laid down
+-- every end of an instance is in the laid traces
 pub laid_end : (made : ℕ → List TimedAction) (k : ℕ) (es : List TimedAction) (x : TimedAction) → Among x es
     → Among x (laid_traces made k es)
 laid_end made k [] x m = absurd (none_among x m)
@@ -116,7 +116,7 @@ laid_end made k (e ∷ es) x m =
       | inr a ↦ Later e (laid_end made (k + 1) es x a)
     ])
 
--- what is laid down is an access of an instance or an end
+-- an action of the laid traces is an access of an instance or an end
 pub laid_only : (made : ℕ → List TimedAction) (k : ℕ) (es : List TimedAction) (x : TimedAction)
     → Among x (laid_traces made k es) → ((j : ℕ) × Among x (made j)) ⊎ Among x es
 laid_only made k [] x m = inl (k, m)

@@ -1,4 +1,4 @@
--- A merge taken apart at one of its accesses.
+-- A merge split at one of its accesses.
 use Rattle.std.proofs.Common.{ap₂, ℕ, List, false, ◌≡◌, inl, inr, [], ◌∷◌, refl, map, ap, ◌∙◌, ◌++◌, subst, sym, Bool, true, ◌==◌, ◌%◌}
 use Rattle.std.proofs.lemmas.Bool.{false≢true, eq-eqb, cases_eq, ne_eqb}
 use Rattle.pipe_model.specs.Runs.ControlRun.{ControlRun, is_access, EmptyControlRun, ControlRunThen}
@@ -25,7 +25,7 @@ control_has_no_access (ControlRunThen {events = es} r x n g h) e m = elim (among
   | inr new ↦ rw (only_one e x new) n
 ]
 
--- a control event in front of others
+-- a list of events with one more control event at its front
 control_events-cons : (e : Event) (es : List Event) → is_access e ≡ false
     → control_events (e ∷ es) ≡ e ∷ control_events es
 control_events-cons (Begin i) es n = refl
@@ -51,7 +51,7 @@ among_events b [] m = elim m [ ]
 among_events b (d ∷ bs) Here = Here
 among_events b (d ∷ bs) (Later y m) = Later d.event (among_events b bs m)
 
--- where an access stands in the merge
+-- the split of a merge at an access
 pub record IsSplit (xs : List LogEntry) (front : List Event) (i : ℕ) (a : Cell_access) : Type 0 where
   pub left : List LogEntry
   pub shard : ℕ
@@ -62,7 +62,7 @@ pub record IsSplit (xs : List LogEntry) (front : List Event) (i : ℕ) (a : Cell
   pub iteration : i ≡ entry.node.iteration
   pub access : a ≡ entry.access
 
--- an access stands so past another entry too
+-- the split at an access, with one more entry before it
 split_later : (y : LogEntry) (xs : List LogEntry) (front : List Event) (x : Event) (i : ℕ) (a : Cell_access)
     → x ≡ event_of y → IsSplit xs front i a → IsSplit (y ∷ xs) (x ∷ front) i a
 split_later y xs front x i a same s = record {
@@ -112,7 +112,7 @@ book_in-append [] ys = refl
 book_in-append (OfBook b ∷ xs) ys = ap (λ l. b ∷ l) (book_in-append xs ys)
 book_in-append (OfShard k e ∷ xs) ys = book_in-append xs ys
 
--- an optional entry in front of two lists
+-- two lists with an optional entry at the front of the first
 if_shard-append : (t : Bool) (e : ShardEntry) (xs ys : List ShardEntry)
     → if_shard t e (xs ++ ys) ≡ if_shard t e xs ++ ys
 if_shard-append true e xs ys = refl
@@ -178,14 +178,14 @@ of_shard k (OfShard j d ∷ xs) e m = elim (cases_eq j k) [
       (subst (λ b. Among e (if_shard b d (shard_in k xs))) (ne_eqb j k other) m))
 ]
 
--- what stands before an entry of the merge comes before it
+-- each entry before an entry of the merge is less than it in the order
 pub order_before : (xs : List LogEntry) (y : LogEntry) (ys : List LogEntry) → InOrder (xs ++ y ∷ ys) → (x : LogEntry)
     → Among x xs → ComesBefore x y
 order_before [] y ys h x m = absurd (none_among x m)
 order_before (z ∷ xs) y ys h x Here = h.0 y (among_right y xs (y ∷ ys) Here)
 order_before (z ∷ xs) y ys h x (Later w m) = order_before xs y ys h.1 x m
 
--- what stands after it comes after it
+-- each entry after an entry of the merge is greater than it in the order
 pub order_after : (xs : List LogEntry) (y : LogEntry) (ys : List LogEntry) → InOrder (xs ++ y ∷ ys) → (x : LogEntry)
     → Among x ys → ComesBefore y x
 order_after [] y ys h x m = h.0 x m

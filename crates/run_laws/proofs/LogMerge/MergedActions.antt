@@ -54,13 +54,13 @@ timed_are_actions i (OfShard k e ∷ xs) h =
     ap (if_same (e.node.iteration == i) (Accessed e.access)) (timed_are_actions i xs h)
     ∙ if_same-timed (e.node.iteration == i) e.ticket (Accessed e.access) (timed_in_merge i xs)
 
--- where an action comes from
+-- the entry of an action
 pub record ComesFrom (i : ℕ) (xs : List LogEntry) (x : TimedAction) : Type 0 where
   pub stamp : LogEntry
   pub made : Among stamp xs
   pub one : Among x (timed_in_entry i stamp)
 
--- each action of the merge comes from one of its entries
+-- each action of the merge has an entry of the merge
 pub comes_from : (i : ℕ) (xs : List LogEntry) (x : TimedAction) → Among x (timed_in_merge i xs) → ComesFrom i xs x
 comes_from i [] x m = absurd (none_among x m)
 comes_from i (y ∷ xs) x m = elim (among_either x (timed_in_entry i y) (timed_in_merge i xs) m) [
@@ -83,7 +83,7 @@ pub record IsTimed (b : Bool) (t : ℕ) (x : Action) (y : TimedAction) : Type 0 
   pub holds : b ≡ true
   pub is : y ≡ (timed t x)
 
--- there is one where the test is true
+-- there is one if the test is true
 pub timed_if : (b : Bool) (t : ℕ) (x : Action) (y : TimedAction) → Among y (if_end b t x) → IsTimed b t x y
 timed_if true t x y m = record { holds = refl; is = only_one y _ m }
 timed_if false t x y m = absurd (none_among y m)

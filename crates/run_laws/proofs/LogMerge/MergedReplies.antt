@@ -18,7 +18,7 @@ use Rattle.run_laws.proofs.LogMerge.FittingLogs.{FitTogether}
 use Rattle.run_laws.proofs.LogMerge.MergeSplits.{IsSplit, shard_in-append, among_shard, control_has_no_access, among_events, book_in-append}
 use Rattle.pipe_model.proofs.Members.{among_left, among_right}
 
--- what is written to a cell stands in the log of its shard
+-- what is written to a cell is in the log of its shard
 shard_written : (c width : ℕ) (xs : List LogEntry)
     → ((k : ℕ) (e : ShardEntry) → Among (OfShard k e) xs → e.access.cell.0 % width ≡ k)
     → ((b : BookEntry) → Among b (book_in xs) → is_access b.event ≡ false)
@@ -53,7 +53,7 @@ shard_written c width (OfShard k e ∷ xs) cells h =
           (sym t))
     ]
 
--- a read in the merge has the value that stands in its cell
+-- a read in the merge has the value of its cell at the time of the read
 pub merged_replies : (p : Pipeline) (limit width : ℕ) (book : List BookEntry)
     (shards : ℕ → List ShardEntry) (c : State) (merged : List LogEntry)
     → FitTogether p limit width book shards c → IsMerge book shards merged

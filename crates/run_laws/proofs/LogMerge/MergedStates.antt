@@ -26,7 +26,7 @@ use Rattle.run_laws.proofs.LogMerge.MergeSplits.{shard_in-append, order_before, 
 use Rattle.pipe_model.proofs.Members.{among_right, among_left}
 use Rattle.run_laws.proofs.LogMerge.Entries.{book_entry}
 
--- more starts than ends: the instance that was started last runs
+-- if more instances have started than have ended, the one that started last runs
 running_frame : (c : State) (i n : ℕ) → n < started_in (frame_at c.frames i) → ended_in (frame_at c.frames i) ≤ n
     → IsRunning c i
 running_frame c i n more less = go (frame_at c.frames i) refl more less
@@ -40,7 +40,7 @@ running_frame c i n more less = go (frame_at c.frames i) refl more less
         by_now (Pending kind x) q k = absurd (omega (arith, m, k))
         by_now (Completed x) q k = absurd (omega (arith, m, k))
 
--- a book that is stopped has the event
+-- a book that is stopped has the event `Stop`
 stopped_by : {limit : ℕ} {es : List Event} {c : State} → ControlRun limit es c → c.stopped ≡ true → Among Stop es
 stopped_by EmptyControlRun e = absurd (cc)
 stopped_by {limit} (ControlRunThen {events = es} {c = d} r x n g h) e = by_event x n e
@@ -53,7 +53,7 @@ stopped_by {limit} (ControlRunThen {events = es} {c = d} r x n g h) e = by_event
     by_event (Finish i f) m q = absurd (false≢true (sym g ∙ q))
     by_event Stop m q = among_right Stop es (Stop ∷ []) Here
 
--- where an access stands in the merge its iteration runs, and nothing is stopped
+-- at each access of the merge its iteration runs, and nothing is stopped
 pub merged_running : (p : Pipeline) (limit width : ℕ) (book : List BookEntry)
     (shards : ℕ → List ShardEntry) (c : State) (merged : List LogEntry)
     → FitTogether p limit width book shards c → IsMerge book shards merged

@@ -21,7 +21,7 @@ use Rattle.run_laws.proofs.LogMerge.MergedActions.{action_of_entry, action_merge
 use Rattle.pipe_model.proofs.Members.{none_among, among_either, only_one}
 use Rattle.run_laws.proofs.LogMerge.Entries.{timed}
 
--- in a rising list equal tickets are of one action
+-- in a rising list equal tickets belong to one action
 same_ticket : (xs : List TimedAction) (x y : TimedAction) → TicketsRise xs → Among x xs → Among y xs
     → x.ticket ≡ y.ticket → x ≡ y
 same_ticket [] x y r m n e = absurd (none_among x m)
@@ -87,7 +87,7 @@ timed_ticket i (OfBook b) x m = by_event b.event m
 timed_ticket i (OfShard k e) x m =
     ap (λ (w : TimedAction). w.ticket) (timed_if (e.node.iteration == i) e.ticket (Accessed e.access) x m).is
 
--- an action of the book is no access
+-- an action of the book is not an access
 book_has_no_access : (i : ℕ) (e : Event) (t : ℕ) (x : TimedAction) (a : Cell_access) → Among x (end_action i e t)
     → x.action ≡ Accessed a → ⊥
 book_has_no_access i (Begin j) t x a o q = none_among x o
@@ -121,14 +121,14 @@ logs_differ width i (OfShard j d) (OfShard k e) x l cy cw m n =
     let cell = ap (λ (z : Cell_access). z.cell.0 % width) same in
     omega (arith, l, u, v, cell)
 
--- one action in front of a rising list
+-- a rising list with one more action at its front
 rises_push_one : (b : Bool) (t : ℕ) (x : Action) (rest : List TimedAction)
     → ((u v : TimedAction) → Among u (if_end b t x) → Among v rest → u.ticket < v.ticket) → TicketsRise rest
     → TicketsRise (if_end b t x ++ rest)
 rises_push_one true t x rest less r = ((λ v m. less (timed t x) v Here m), r)
 rises_push_one false t x rest less r = r
 
--- the action of an entry in front of a rising list
+-- a rising list with the action of one more entry at its front
 rises_push_entry : (i : ℕ) (y : LogEntry) (rest : List TimedAction)
     → ((u v : TimedAction) → Among u (timed_in_entry i y) → Among v rest → u.ticket < v.ticket) → TicketsRise rest
     → TicketsRise (timed_in_entry i y ++ rest)

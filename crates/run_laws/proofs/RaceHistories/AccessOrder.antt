@@ -130,7 +130,7 @@ access_order_if : (columns : List (List Node)) (starts : List NodeId) (old new :
 access_order_if columns starts old new true a b = b
 access_order_if columns starts old new false a b = a
 
--- the access order stays after an action that is no access to the cell
+-- the access order stays after an action that is not an access to the cell
 access_order_action : (s : State) (i : ℕ) (x : Action) (w : Status) (starts : List NodeId)
     (accesses : List NotedAccess)
     → IsInAccessOrder (own_columns s) starts accesses

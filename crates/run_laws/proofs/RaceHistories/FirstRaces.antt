@@ -1,4 +1,4 @@
--- The access history finds the first race, though it keeps three instances alone.
+-- The access history finds the first race, though it keeps only three instances.
 use Rattle.std.proofs.Common.{ℕ, true, ◌≡◌, ltb, inl, inr, ap, Bool, cond, subst, false, refl, sym, ◌∙◌, arith}
 use Rattle.std.proofs.Common.{List, ◌<◌, ◌≤◌, suc, length, ◌+◌, [], ◌∷◌}
 use Rattle.std.proofs.lemmas.Bool.{ltb-true, cases_lt, ltb-false, cases_eq}
@@ -40,7 +40,7 @@ module _ (down right : NodeId → ℕ) where
         → (access_at accesses n).who ≡ x
     who_at n x kind e = ap (λ (a : NotedAccess). a.who) e
 
-    -- place n of the first n + 1
+    -- access n of the first n + 1
     pub same_place : (n k : ℕ) → k < suc n → n ≤ k → access_at accesses k ≡ access_at accesses n
     same_place n k l w = let e : k ≡ n = omega arith in ap (access_at accesses) e
 
@@ -108,13 +108,13 @@ module _ (down right : NodeId → ℕ) where
       New : (y : NodeId) → order y ≤ order x → IsLatest order x (Some y) x
       Old : (y : NodeId) → order x ≤ order y → IsLatest order x (Some y) y
 
-    -- latest, by the test
+    -- `latest`, by the test
     latest_by : (order : NodeId → ℕ) (x y : NodeId) (t : Bool) → ltb (order y) (order x) ≡ t
         → IsLatest order x (Some y) (cond t x y)
     latest_by order x y true e = New y (let p = ltb-true (order y) (order x) e in omega arith)
     latest_by order x y false e = Old y (ltb-false (order y) (order x) e)
 
-    -- what later gives
+    -- the result of `later`
     latest : (order : NodeId → ℕ) (kept : Option NodeId) (x : NodeId) → IsLatest order x kept (later order kept x)
     latest order None x = Only
     latest order (Some y) x = latest_by order x y (ltb (order y) (order x)) refl
@@ -164,7 +164,7 @@ module _ (down right : NodeId → ℕ) where
       ];
     }
 
-    -- where the kept writer is before x every earlier writer is
+    -- if the kept writer is before x, every earlier writer is
     writers_ordered : (n : ℕ) (x : NodeId) (kept : Option NodeId) → KeepsWriter n kept
         → ((w : NodeId) → kept ≡ Some w → IsOrdered down right w x) → (k : ℕ) → k < n
         → (access_at accesses k).kind ≡ Write → IsOrdered down right (access_at accesses k).who x
@@ -172,7 +172,7 @@ module _ (down right : NodeId → ℕ) where
     writers_ordered n x (Some w) h f k l q =
         ordered_both down right (access_at accesses k).who w x (h.last w refl k l q) (f w refl)
 
-    -- where the kept reader is at most x in an order every earlier reader is
+    -- if the kept reader is at most x in an order, every earlier reader is
     pub readers_ordered : (order : NodeId → ℕ) (n : ℕ) (x : NodeId) (kept : Option NodeId) → KeepsReader order n kept
         → ((w : NodeId) → kept ≡ Some w → order w ≤ order x) → (k : ℕ) → k < n → (access_at accesses k).kind ≡ Read
         → order (access_at accesses k).who ≤ order x
@@ -203,7 +203,7 @@ module _ (down right : NodeId → ℕ) where
         ]
       ]
 
-      -- the history of the first n accesses, where no race was found
+      -- the history of the first n accesses, if no race was found
       pub record IsHistory (n : ℕ) (kept : AccessHistory) : Type 0 where
         pub writers : KeepsWriter n kept.writer
         pub rights : KeepsReader down n kept.rightmost
@@ -248,7 +248,7 @@ module _ (down right : NodeId → ℕ) where
         conflict : KindsConflict e.kind kind
         apart : IsOrdered down right e.who x → ⊥
 
-      -- what is found with the kept writer is so
+      -- what is found with the kept writer is such an access
       found_writer : (n : ℕ) (x w : NodeId) (kind : AccessKind) (kept : Option NodeId) (e : NotedAccess)
           → KeepsWriter n kept → kept ≡ Some w → (IsOrdered down right w x → ⊥) → noted_access w Write ≡ e
           → IsFound n x kind e
@@ -260,7 +260,7 @@ module _ (down right : NodeId → ℕ) where
         apart = subst (λ (a : NotedAccess). IsOrdered down right a.who x → ⊥) q f;
       }
 
-      -- what is found with a kept reader is so
+      -- what is found with a kept reader is such an access
       found_reader : (order : NodeId → ℕ) (n : ℕ) (x w : NodeId) (kept : Option NodeId) (e : NotedAccess)
           → KeepsReader order n kept → kept ≡ Some w → (IsOrdered down right w x → ⊥) → noted_access w Read ≡ e
           → IsFound n x Write e
@@ -272,7 +272,7 @@ module _ (down right : NodeId → ℕ) where
         apart = subst (λ (a : NotedAccess). IsOrdered down right a.who x → ⊥) q f;
       }
 
-      -- what the history finds is so
+      -- what the history finds is such an access
       one_found : (n : ℕ) (x : NodeId) (kind : AccessKind) (kept : AccessHistory) (e : NotedAccess) → IsHistory n kept
           → check_access down right kept x kind ≡ Some e → IsFound n x kind e
       one_found n x Read kept e h q =
@@ -294,7 +294,7 @@ module _ (down right : NodeId → ℕ) where
                 ]
           ]
 
-      -- the history of one access more
+      -- the history with one more access
       pub history_next : (n : ℕ) (x : NodeId) (kind : AccessKind) (kept : AccessHistory) → IsHistory n kept
           → access_at accesses n ≡ noted_access x kind
           → ((k : ℕ) → k < n → KindsConflict (access_at accesses k).kind kind
@@ -311,7 +311,7 @@ module _ (down right : NodeId → ℕ) where
         downs = reader_after_write right n x kept.downmost at h.downs;
       }
 
-      -- what is found is the first race that the orders tell
+      -- what is found is the first race that the orders define
       abbrev pub IsRight : Option FoundRace → Type 0
       IsRight found = IsRightInOrders down right accesses found
 
@@ -320,7 +320,7 @@ module _ (down right : NodeId → ℕ) where
         pub long : length accesses ≡ n + length xs
         pub each : (t : ℕ) → t < length xs → access_at accesses (n + t) ≡ access_at xs t
 
-      -- first_race_from_is, by what the history finds
+      -- `first_race_from_is`, by what the history finds
       first_race_by : (n : ℕ) (x : NodeId) (kind : AccessKind) (kept : AccessHistory) (found : Option NotedAccess)
           (rest : Option FoundRace)
           → IsHistory n kept → n < length accesses → access_at accesses n ≡ noted_access x kind

@@ -1,4 +1,4 @@
--- What trying a kept instance tells: it is before the instance that accesses, or races with it.
+-- The result of the comparison with a kept instance: it is before the instance that accesses, or races with it.
 use Rattle.std.proofs.Common.{ℕ, true, ◌≡◌, eqb, ltb, ◌&&◌, inl, ap₂, inr, eq-eqb, ap, Bool, cond, subst, false, refl, sym, ◌∙◌, arith, ◌⊎◌}
 use Rattle.std.proofs.lemmas.Bool.{or_cases, and_parts, eqb-true, ltb-true, or_left, and_from, or_right, lt-ltb}
 use Rattle.std.specs.declared.option.Option.{Option}
@@ -11,7 +11,7 @@ use Rattle.pipe_model.specs.declared.node.NodeId.{NodeId}
 use Rattle.run_laws.specs.OrderRaces.{IsOrdered}
 
 module _ (down right : NodeId → ℕ) where
-  -- what the test of order says
+  -- the meaning of the test of order
   ordered_true : (y x : NodeId) → is_ordered down right y x ≡ true → IsOrdered down right y x
   ordered_true y x t =
       elim (or_cases (eqb y.iteration x.iteration && eqb y.index x.index)
@@ -24,7 +24,7 @@ module _ (down right : NodeId → ℕ) where
             inr (ltb-true (down y) (down x) p.0, ltb-true (right y) (right x) p.1))
       ]
 
-  -- what is before x passes the test
+  -- an instance before x passes the test
   ordered_from : (y x : NodeId) → IsOrdered down right y x → is_ordered down right y x ≡ true
   ordered_from y x f = elim f [
     | inl s ↦ or_left (eqb y.iteration x.iteration && eqb y.index x.index)
@@ -38,14 +38,14 @@ module _ (down right : NodeId → ℕ) where
         (lt-ltb (right y) (right x) s.1)))
   ]
 
-  -- what a kept instance gives: it is before x, or races with it
+  -- the result of the comparison with a kept instance: it is before x, or races with it
   pub data IsRaceWith (x : NodeId) (kind : AccessKind) (kept : Option NodeId) (rest : Option NotedAccess) : Option
       NotedAccess → Type 0 where
     Passed : ((w : NodeId) → kept ≡ Some w → IsOrdered down right w x) → IsRaceWith x kind kept rest rest
     Hit : (w : NodeId) → kept ≡ Some w → (IsOrdered down right w x → ⊥)
         → IsRaceWith x kind kept rest (Some (noted_access w kind))
 
-  -- race_with_is, by the test
+  -- `race_with_is`, by the test
   race_with_by : (x : NodeId) (kind : AccessKind) (y : NodeId) (rest : Option NotedAccess) (t : Bool)
       → is_ordered down right y x ≡ t → IsRaceWith x kind (Some y) rest (cond t rest (Some (noted_access y kind)))
   race_with_by x kind y rest true e = Passed (λ w s. (
@@ -53,13 +53,13 @@ module _ (down right : NodeId → ℕ) where
       subst (λ z. IsOrdered down right z x) q (ordered_true y x e)))
   race_with_by x kind y rest false e = Hit y refl (λ f. let q : true ≡ false = sym (ordered_from y x f) ∙ e in cc)
 
-  -- what trying a kept instance gives
+  -- the comparison with a kept instance has this result
   pub race_with_is : (x : NodeId) (kind : AccessKind) (kept : Option NodeId) (rest : Option NotedAccess)
       → IsRaceWith x kind kept rest (race_with down right x kind kept rest)
   race_with_is x kind None rest = Passed (λ w s. absurd (let r : None ≡ Some w = s in cc))
   race_with_is x kind (Some y) rest = race_with_by x kind y rest (is_ordered down right y x) refl
 
-  -- what is before w is before what w is before
+  -- being before is transitive
   pub ordered_both : (y w x : NodeId) → IsOrdered down right y w → IsOrdered down right w x → IsOrdered down right y x
   ordered_both y w x f g = elim f [
     | inl s ↦ subst (λ z. IsOrdered down right z x) (sym s) g

@@ -21,7 +21,7 @@ use Rattle.run_laws.specs.OrderRaces.{AreOrders, RacesInOrders}
 
 module _ (columns : List (List Node)) (starts : List NodeId) (accesses : List NotedAccess) (ok : AreColumns columns)
     (ord : AreStarts columns starts) (calm : IsInAccessOrder columns starts accesses) where
-  -- started instances stand at different places in down-first
+  -- started instances have different indices in down-first
   down_apart : (x y : NodeId) → IsStarted starts x → IsStarted starts y → down_place starts x ≡ down_place starts y
       → x ≡ y
   down_apart x y w v e = elim (falls_cases x.iteration x.index y.iteration y.index) [
@@ -36,7 +36,7 @@ module _ (columns : List (List Node)) (starts : List NodeId) (accesses : List No
     ]
   ]
 
-  -- started instances stand at different places in right-first
+  -- started instances have different indices in right-first
   right_apart : (x y : NodeId) → IsStarted starts x → IsStarted starts y
       → right_place columns starts x ≡ right_place columns starts y → x ≡ y
   right_apart x y w v e = elim (goes_cases _ x.iteration x.index y.iteration y.index) [
@@ -97,7 +97,7 @@ module _ (columns : List (List Node)) (starts : List NodeId) (accesses : List No
         ];
       }
 
-  -- what is right by the orders is right
+  -- a result that is right by the orders is right
   right_verdict : (race : Option FoundRace)
       → IsRight (down_place starts) (right_place columns starts) accesses are_orders race
       → IsRightVerdict columns accesses race

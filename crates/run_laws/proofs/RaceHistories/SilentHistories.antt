@@ -1,4 +1,4 @@
--- The histories of all cells find nothing exactly where there is no race.
+-- The histories of all cells find nothing exactly when there is no race.
 use Rattle.std.proofs.Common.{ℕ, List, ◌≡◌, refl, arith, subst, sym, ap, ◌∙◌}
 use Rattle.std.specs.declared.option.Option.{Option}
 use Rattle.std.specs.declared.option.Option.TheVariants.{None, Some}
@@ -48,7 +48,7 @@ nothing_found columns cell xs (Some race) h free =
     let q = h.racy in
     absurd (cell_race_is_race columns cell xs race.number q.0 q.1 free)
 
--- where no cell has a race the run has none
+-- if no cell has a race, the run has none
 race_free_by_cells : (columns : List (List Node)) (xs : List NodeAccess)
     → ((cell n k : ℕ) → RacesAt columns (accesses_to cell xs) n k → ⊥) → IsRaceFree columns xs
 race_free_by_cells columns xs none a b r =

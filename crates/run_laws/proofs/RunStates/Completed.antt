@@ -23,7 +23,7 @@ completed_not_alive Running e = absurd (false≢true e)
 completed_not_alive (Pending k n) e = absurd (false≢true e)
 completed_not_alive (Completed d) e = refl
 
--- where all iterations have ended none is alive
+-- if all iterations have ended, none is alive
 pub none_alive : (fs : List Frame) → AllCompleted fs → alive_in fs ≡ 0
 none_alive [] all = refl
 none_alive (f ∷ fs) all =

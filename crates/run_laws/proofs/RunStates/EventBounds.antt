@@ -1,4 +1,4 @@
--- How many events a run has.
+-- The number of events of a run.
 use Rattle.std.proofs.Common.{ℕ, ◌≡◌, ◌+◌, ◌*◌, List, [], ◌∷◌, ◌≤◌, Some, zero, arith, subst, sym, suc, length, ◌++◌, ℤ, refl, ap, ◌∙◌}
 use Rattle.std.proofs.Common.{false, inl, inr}
 use Rattle.std.proofs.lemmas.Bool.{false≢true, cases_lt}
@@ -23,14 +23,14 @@ use Rattle.run_laws.proofs.RunStates.LastIteration.{stays_or_continues, run_stay
 use Rattle.run_laws.proofs.RunStates.RunInvariant.{run_consistent}
 use Rattle.run_laws.specs.RunLaws.{sum_below, RunsAreBounded}
 
--- how many events may still come of an iteration
+-- the number of events of an iteration that may still follow
 abbrev Spare : ℕ → Status → Behaviour → ℕ → Type 0
 Spare each Running d q =
     (left : ℕ) × (more : ℕ) × (q ≡ left + 1 + more * (each + 2)) × HasBoundedWork each left more d
 Spare each (Pending k n) d q = (more : ℕ) × (q ≡ (more + 1) * (each + 2)) × HasBoundedWork each each more d
 Spare each (Completed e) d q = Unit {0}
 
--- how many events may still come, iteration by iteration
+-- the number of events that may still follow, iteration by iteration
 abbrev Spares : Pipeline → ℕ → ℕ → List Frame → List ℕ → Type 0
 Spares p each i [] [] = Unit {0}
 Spares p each i [] (q ∷ qs) = ⊥
@@ -49,7 +49,7 @@ record Spends (each : ℕ) (f g : Frame) (c : Behaviour) (q : ℕ) : Type 0 wher
   less : left + 1 ≤ q
   spare : Spare each g.status (behaviour_after_all c g.trace) left
 
--- an update of one frame leaves at least one event less to come
+-- an update of one frame leaves at least one event less to follow
 record Spent (p : Pipeline) (each i : ℕ) (fs : List Frame) (qs : List ℕ) : Type 0 where
   lefts : List ℕ
   spares : Spares p each i fs lefts
@@ -88,7 +88,7 @@ spends_one p each i (x ∷ fs) (q ∷ qs) (suc j) f u s e h =
     let l = t.less in
     record { lefts = q ∷ t.lefts; spares = (s.0, t.spares); less = omega (arith, l) }
 
--- an iteration more brings its own
+-- one more iteration adds its own events
 spares_push : (p : Pipeline) (each i : ℕ) (fs : List Frame) (qs : List ℕ) (q : ℕ) → Spares p each i fs qs
     → Spare each Running (p.behaviour (i + length fs)) q → Spares p each i (fs ++ fresh_frame ∷ []) (qs ++ q ∷ [])
 spares_push p each i [] [] q s h = let z : i + 0 ≡ i = omega arith in (rw z at h, tt)
@@ -98,12 +98,12 @@ spares_push p each i (f ∷ fs) (r ∷ qs) q s h =
     let z : i + suc (length fs) ≡ i + 1 + length fs = omega arith in
     (s.0, spares_push p each (i + 1) fs qs q s.1 (rw z at h))
 
--- the sum with one number more
+-- the sum with one more number
 total-push : (qs : List ℕ) (q : ℕ) → total (qs ++ q ∷ []) ≡ total qs + q
 total-push [] q = omega arith
 total-push (r ∷ qs) q = let h = total-push qs q in omega (arith, h)
 
--- an access is one of the accesses that may still come
+-- an access is one of the accesses that may still follow
 bounded_accessed : (each left more : ℕ) (d : Behaviour) (a : _) → HasBoundedWork each left more d
     → Offers d (Accessed a) → (m : ℕ) × (left ≡ suc m) × HasBoundedWork each m more (behaviour_after d (Accessed a))
 bounded_accessed each left more (Reading c go) a b o = (b.0, b.1, b.2 a.value)
@@ -111,7 +111,7 @@ bounded_accessed each left more (Writing c v d) a b o = b
 bounded_accessed each left more (Staging k n d) a b o = absurd (cc)
 bounded_accessed each left more (Ending e) a b o = absurd (cc)
 
--- a next stage is one of the stages that may still come
+-- a next stage is one of the stages that may still follow
 bounded_staged : (each left more : ℕ) (d : Behaviour) (k : Kind) (n : ℤ) → HasBoundedWork each left more d
     → Offers d (Staged k n) → (m : ℕ) × (more ≡ suc m) × HasBoundedWork each each m (behaviour_after d (Staged k n))
 bounded_staged each left more (Reading c go) k n b o = absurd (let q = o.1 in cc)
@@ -141,7 +141,7 @@ spends_accessed each c f a runs o q s =
       );
     }
 
--- a next stage spends one, with its entering to come
+-- a next stage spends one, with its entering still to follow
 spends_staged : (each : ℕ) (c : Behaviour) (f : Frame) (k : Kind) (n : ℤ) → f.status ≡ Running
     → Offers (behaviour_after_all c f.trace) (Staged k n) → (q : ℕ)
     → Spare each f.status (behaviour_after_all c f.trace) q
@@ -186,13 +186,13 @@ spends_ended each c f e runs q s =
     let q1 = t.2 in
     record { left = 0; less = omega (arith, q1); spare = tt }
 
--- the events so far and those that may still come are bounded
+-- the events so far and those that may still follow are bounded
 record HasSpares (p : Pipeline) (each : ℕ) (C : ℕ → ℕ) (n : ℕ) (s : State) : Type 0 where
   spares : List ℕ
   is : Spares p each 0 s.frames spares
   bound : n + total spares ≤ sum_below C (length s.frames)
 
--- the bound stays after every event that is no stop
+-- the bound holds after every event that is not a stop
 spares_after : (p : Pipeline) (limit each : ℕ) (more : ℕ → ℕ) (n : ℕ) (s : State) (e : Event)
     → ((i : ℕ) → HasBoundedWork each each (more i) (p.behaviour i)) → Allowed p limit s e
     → (next_state s e).stopped ≡ false

@@ -1,4 +1,4 @@
--- What an event changes of the frame of one iteration, and what every event keeps of the frames.
+-- How an event changes the frame of one iteration, and what every event keeps of the frames.
 use Rattle.std.proofs.Common.{List, length, ◌-◌, ℕ, ◌≡◌, ◌<◌, [], ◌∷◌, ◌++◌, ◌≤◌, arith, ℤ, ◌<ℤ◌, Some, ◌+◌, suc, ◌≤ℤ◌, inl, inr, refl}
 use Rattle.std.proofs.Common.{subst, ap, ◌≢◌, ◌⊎◌, sym, pos, zero}
 use Rattle.std.proofs.lemmas.Bool.{cases_lt, cases_eq}
@@ -24,7 +24,7 @@ node_at_push : (nodes : List Node) (x : Node) (k : ℕ) → k < length nodes
     → node_at (nodes ++ x ∷ []) k ≡ node_at nodes k
 node_at_push nodes x k l = get_or_append_left nodes (x ∷ []) no_node k l
 
--- an instance that was added stands past the others
+-- an instance that was added is after the others
 pub node_at_new : (nodes : List Node) (x : Node) (k : ℕ) → length nodes ≤ k → k < length (nodes ++ x ∷ [])
     → node_at (nodes ++ x ∷ []) k ≡ x
 node_at_new nodes x k l h = get_or_push nodes x no_node k (omega (arith, length_push nodes x, h, l))
@@ -34,13 +34,13 @@ pub last_node-push : (nodes : List Node) (x : Node) → last_node (nodes ++ x �
 last_node-push nodes x =
     get_or_push nodes x no_node (length (nodes ++ x ∷ []) - 1) (omega (arith, length_push nodes x))
 
--- what holds of each frame
+-- the invariant of each frame
 pub record IsWell (f : Frame) : Type 0 where
   pub filled : 0 < length f.nodes
   pub rising : IsRising f.nodes
   pub above : (k : Kind) (n : ℤ) → f.status ≡ Pending k n → (last_node f.nodes).number <ℤ n
 
--- what holds of the frames: the loop goes on before a later iteration, and what an instance waits for has been passed
+-- the invariant of the frames: the loop goes on before a later iteration, and a stage that an instance waits for has been passed
 pub record IsSound (fs : List Frame) : Type 0 where
   pub well : (i : ℕ) (f : Frame) → frame_at fs i ≡ Some f → IsWell f
   pub goes : (i : ℕ) (f : Frame) → frame_at fs i ≡ Some f → i + 1 < length fs → ContinuesLoop f.status f.nodes
@@ -48,7 +48,7 @@ pub record IsSound (fs : List Frame) : Type 0 where
       → (k : ℕ) → k < length g.nodes → (node_at g.nodes k).kind ≡ Wait
       → HasPassed f.status f.nodes (node_at g.nodes k).number
 
--- an event of one iteration, from the frame f to g: what stood stays, and what is added is above all that f has passed
+-- an event of one iteration, from the frame f to g: old instances stay, and new ones are greater than all that f has passed
 pub record IsMove (fs : List Frame) (i : ℕ) (f g : Frame) : Type 0 where
   pub longer : length f.nodes ≤ length g.nodes
   pub same : (k : ℕ) → k < length f.nodes → node_at g.nodes k ≡ node_at f.nodes k
@@ -134,11 +134,11 @@ moves_completed fs i f action end e = record {
   beyond = λ j l h. absurd (not_new f j l h);
 }
 
--- the frame with the named stage entered, as it computes once the stage is known
+-- the frame with the named stage entered, in its computed form once the stage is known
 abbrev pub entered_frame : Kind → ℤ → Frame → Frame
 entered_frame k n f = record f { nodes = f.nodes ++ node_of k n ∷ []; status = Running }
 
--- entering gives this frame
+-- the result of entering is this frame
 pub enter_pending_is : (f : Frame) (k : Kind) (n : ℤ) → f.status ≡ Pending k n
     → enter_pending f.status f ≡ entered_frame k n f
 enter_pending_is f k n e = ap (λ w. enter_pending w f) e
@@ -164,7 +164,7 @@ moves_entered fs i f k n e free = record {
       rw (node_at_new f.nodes (node_of k n) j l h) g);
 }
 
--- a frame after an update: the updated one, or another as it was
+-- a frame after an update: the updated one, or another that is unchanged
 pub frame_at_moved : (fs : List Frame) (i j : ℕ) (f : Frame) (u : Frame → Frame) (h : Frame) → frame_at fs i ≡ Some f
     → frame_at (update_frame fs i u) j ≡ Some h → ((j ≡ i) × (h ≡ u f)) ⊎ ((j ≢ i) × (frame_at fs j ≡ Some h))
 frame_at_moved fs i j f u h e c = elim (cases_eq j i) [
@@ -179,7 +179,7 @@ frame_at_moved fs i j f u h e c = elim (cases_eq j i) [
   | inr other ↦ inr (other, (let a = frame_at_other fs i j u other in cc))
 ]
 
--- what an instance waits for has been passed after an event too
+-- a stage that an instance waits for has been passed after an event too
 waits_moved : (fs : List Frame) (i : ℕ) (f : Frame) (u : Frame → Frame) → IsSound fs → frame_at fs i ≡ Some f
     → IsMove fs i f (u f)
     → (j : ℕ) (g h : Frame) → frame_at (update_frame fs i u) j ≡ Some g
@@ -234,11 +234,11 @@ sound_moved fs i f u s e m = record {
 pub rising_one : (x : Node) → IsRising (x ∷ [])
 rising_one x = record { rises = λ j k l h. absurd (omega (arith, l, h)) }
 
--- what holds of an iteration that has just begun
+-- the invariant holds of an iteration that has just begun
 fresh_well : IsWell fresh_frame
 fresh_well = record { filled = omega arith; rising = rising_one (node_of Zero (pos 0)); above = λ k n c. absurd (cc) }
 
--- a frame after a beginning: the new one, or an old one
+-- a frame after the beginning of an iteration: the new one, or an old one
 pub frame_at_begun : (fs : List Frame) (j : ℕ) (h : Frame) → frame_at (fs ++ fresh_frame ∷ []) j ≡ Some h
     → ((j ≡ length fs) × (h ≡ fresh_frame)) ⊎ ((j < length fs) × (frame_at fs j ≡ Some h))
 frame_at_begun fs j h c = elim (cases_lt j (length fs)) [
@@ -261,7 +261,7 @@ fresh_waits_not : (k : ℕ) → k < 1 → (node_at fresh_frame.nodes k).kind ≡
 fresh_waits_not zero l e = cc
 fresh_waits_not (suc k) l e = absurd (omega (arith, l))
 
--- a beginning keeps the frames sound
+-- the beginning of an iteration keeps the frames sound
 pub sound_begun : (limit : ℕ) (s : State) (i : ℕ) → IsSound s.frames → MayBegin limit s i
     → IsSound (s.frames ++ fresh_frame ∷ [])
 sound_begun limit s i sound may = record {

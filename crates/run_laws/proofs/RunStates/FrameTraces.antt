@@ -1,4 +1,4 @@
--- The trace of each frame: it is performed, makes the frame's column, and ends where the frame has ended.
+-- The trace of each frame: it is performed, makes the frame's column, and ends if the frame has ended.
 use Rattle.std.proofs.Common.{List, [], ◌∷◌, ℕ, ◌≡◌, ◌++◌, Some, inl, inr, subst, ap, append-nil, ◌∙◌, pos, ℤ, sym, refl, true}
 use Rattle.std.proofs.lemmas.Bool.{false≢true}
 use Rattle.pipe_model.specs.Runs.Allowed.{OffersAt, IsRunning, MayEnter, Allowed}
@@ -19,13 +19,13 @@ use Rattle.run_laws.proofs.Iterations.PerformedActions.{performs_push}
 use Rattle.run_laws.proofs.Iterations.TraceParts.{EndsWith, nodes_in-append, no_end_accessed, no_end_staged, ends_with_end}
 use Rattle.run_laws.proofs.RunStates.FrameMoves.{frame_at_moved, enter_pending_is, frame_at_begun}
 
--- the instance that is named and not entered
+-- the instance that is named but not entered
 abbrev pub pending_node : Status → List Node
 pending_node Running = []
 pending_node (Pending k n) = node_of k n ∷ []
 pending_node (Completed e) = []
 
--- a trace has an end exactly where the iteration has ended
+-- a trace has an end exactly when the iteration has ended
 abbrev pub EndsBy : Status → List Action → Type 0
 EndsBy Running actions = HasNoEnd actions
 EndsBy (Pending k n) actions = HasNoEnd actions
@@ -41,7 +41,7 @@ pub record IsTraced (p : Pipeline) (i : ℕ) (f : Frame) : Type 0 where
 abbrev pub AllTraced : Pipeline → List Frame → Type 0
 AllTraced p fs = (i : ℕ) (f : Frame) → frame_at fs i ≡ Some f → IsTraced p i f
 
--- all frames keep their traces where the one that an event changes does
+-- all frames keep their traces if the one that an event changes does
 traced_moved : (p : Pipeline) (fs : List Frame) (i : ℕ) (f : Frame) (u : Frame → Frame) → AllTraced p fs
     → frame_at fs i ≡ Some f → IsTraced p i (u f) → AllTraced p (update_frame fs i u)
 traced_moved p fs i f u all e t = λ j h c. elim (frame_at_moved fs i j f u h e c) [
@@ -49,7 +49,7 @@ traced_moved p fs i f u all e t = λ j h c. elim (frame_at_moved fs i j f u h e 
   | inr there ↦ all j h there.1
 ]
 
--- what the program part says, at the frame
+-- the condition of the program part, at the frame
 pub action_offered : (p : Pipeline) (s : State) (i : ℕ) (f : Frame) (x : Action) → frame_at s.frames i ≡ Some f
     → OffersAt p s i x → Offers (behaviour_after_all (p.behaviour i) f.trace) x
 action_offered p s i f x e o =
@@ -64,7 +64,7 @@ pub running_column : (p : Pipeline) (i : ℕ) (f : Frame) → IsTraced p i f →
     → column_of f.trace ≡ f.nodes
 running_column p i f t e = t.nodes ∙ ap (λ w. f.nodes ++ pending_node w) e ∙ append-nil f.nodes
 
--- the column after one action more
+-- the column after one more action
 column_of-push : (p : Pipeline) (i : ℕ) (f : Frame) (x : Action) → IsTraced p i f → f.status ≡ Running
     → column_of (f.trace ++ x ∷ []) ≡ f.nodes ++ nodes_in (x ∷ [])
 column_of-push p i f x t e =
@@ -107,7 +107,7 @@ finish_traced p s i e all r o =
       ending = ends_with_end r.frame.trace e (running_has_no_end p i r.frame t r.runs);
     })
 
--- all frames keep their traces after an entering
+-- all frames keep their traces after a stage is entered
 enter_traced : (p : Pipeline) (s : State) (i : ℕ) → AllTraced p s.frames → MayEnter s i
     → AllTraced p (next_state s (Enter i)).frames
 enter_traced p s i all m =
@@ -120,7 +120,7 @@ enter_traced p s i all m =
       ending = subst (λ w. EndsBy w m.frame.trace) m.named t.ending;
     }))
 
--- all frames keep their traces after a beginning
+-- all frames keep their traces after an iteration begins
 begun_traced : (p : Pipeline) (s : State) (i : ℕ) → AllTraced p s.frames → AllTraced p (next_state s (Begin i)).frames
 begun_traced p s i all = λ j f c. elim (frame_at_begun s.frames j f c) [
   | inl new ↦ rw new.1 (record { performs = tt; nodes = refl; ending = tt })

@@ -3,7 +3,7 @@ use Rattle.std.proofs.Common.{List, ℕ, ◌≡◌, ◌∷◌, ◌++◌, length,
 use Rattle.pipe_model.specs.Races.Columns.{nodes_at}
 use Rattle.pipe_model.specs.Runs.State.{Frame, update_frame, frame_at}
 
--- the frames before and after a frame, which stay where it is updated
+-- the frames before and after a frame, which do not change when it is updated
 pub record IsParted (fs : List Frame) (i : ℕ) (f : Frame) (g : Frame → Frame) : Type 0 where
   pub left : List Frame
   pub right : List Frame
@@ -45,7 +45,7 @@ frame_at_updated [] i f g e = absurd (cc)
 frame_at_updated (x ∷ fs) zero f g e = let same : x ≡ f = cc in ap (λ y. Some (g y)) same
 frame_at_updated (x ∷ fs) (suc i) f g e = frame_at_updated fs i f g e
 
--- any other frame stays
+-- any other frame is unchanged
 pub frame_at_other : (fs : List Frame) (i j : ℕ) (g : Frame → Frame) → j ≢ i
     → frame_at (update_frame fs i g) j ≡ frame_at fs j
 frame_at_other [] i j g n = refl
@@ -54,7 +54,7 @@ frame_at_other (x ∷ fs) zero (suc j) g n = refl
 frame_at_other (x ∷ fs) (suc i) zero g n = refl
 frame_at_other (x ∷ fs) (suc i) (suc j) g n = frame_at_other fs i j g (λ e. n (ap (λ k. suc k) e))
 
--- an update changes no length
+-- an update does not change the length
 pub length-update_frame : (fs : List Frame) (i : ℕ) (g : Frame → Frame) → length (update_frame fs i g) ≡ length fs
 length-update_frame [] i g = refl
 length-update_frame (x ∷ fs) zero g = refl
@@ -71,7 +71,7 @@ frame_at_push [] x i l = absurd (omega arith)
 frame_at_push (f ∷ fs) x zero l = refl
 frame_at_push (f ∷ fs) x (suc i) l = frame_at_push fs x i (omega arith)
 
--- a frame that is there stands below the length
+-- the index of a frame is below the length
 pub frame_at_within : (fs : List Frame) (i : ℕ) (f : Frame) → frame_at fs i ≡ Some f → i < length fs
 frame_at_within [] i f e = absurd (cc)
 frame_at_within (x ∷ fs) zero f e = omega arith

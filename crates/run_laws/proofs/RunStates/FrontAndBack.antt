@@ -1,4 +1,4 @@
--- A run told from the front and from the back.
+-- A run defined from its first event, and from its last.
 use Rattle.std.proofs.Common.{List, ◌≡◌, [], ◌∷◌, ◌++◌, refl, ℕ, ap, sym, ◌∙◌, append-nil, subst, append_assoc}
 use Rattle.pipe_model.specs.Runs.Allowed.{Allowed}
 use Rattle.pipe_model.specs.Pipelines.Pipeline.{Pipeline}
@@ -7,13 +7,13 @@ use Rattle.pipe_model.specs.Runs.State.{State, next_state, initial_state}
 use Rattle.pipe_model.specs.declared.event.Event.{Event}
 use Rattle.run_laws.specs.RunLaws.{RunsFromTheFront}
 
--- the state after one event more
+-- the state after one more event
 pub state_from-push : (s : State) (es : List Event) (e : Event)
     → state_from s (es ++ e ∷ []) ≡ next_state (state_from s es) e
 state_from-push s [] e = refl
 state_from-push s (x ∷ es) e = state_from-push (next_state s x) es e
 
--- the state of a run is what its events make
+-- the state of a run is the one after its events
 pub run_state_is : {p : Pipeline} {limit : ℕ} {es : List Event} {s : State} → Run p limit es s
     → s ≡ state_from initial_state es
 run_state_is EmptyRun = refl
@@ -34,7 +34,7 @@ allowed_from-push : (p : Pipeline) (limit : ℕ) (s : State) (es : List Event) (
 allowed_from-push p limit s [] e g h = (h, tt)
 allowed_from-push p limit s (x ∷ es) e g h = (g.0, allowed_from-push p limit (next_state s x) es e g.1 h)
 
--- a run told from the front
+-- a run defined from its first event
 run_from_front : {p : Pipeline} {limit : ℕ} {es : List Event} {s : State} → Run p limit es s
     → AllowedFrom p limit initial_state es
 run_from_front EmptyRun = tt
@@ -48,13 +48,13 @@ allowed_front : (p : Pipeline) (limit : ℕ) (s : State) (front rest : List Even
 allowed_front p limit s [] rest g = tt
 allowed_front p limit s (e ∷ front) rest g = (g.0, allowed_front p limit (next_state s e) front rest g.1)
 
--- a front of a run is a run
+-- a prefix of a run is a run
 pub front_is_run : (p : Pipeline) (limit : ℕ) (front rest : List Event) (s : State) → Run p limit (front ++ rest) s
     → Run p limit front (state_from initial_state front)
 front_is_run p limit front rest s r =
     run_goes_on p limit [] initial_state front EmptyRun (allowed_front p limit initial_state front rest (run_from_front r))
 
--- the law of runs told from the front
+-- the law of runs defined from their first event
 pub runs_from_the_front : RunsFromTheFront
 runs_from_the_front p limit events s = (
   (λ r. (run_from_front r, run_state_is r)),

@@ -27,7 +27,7 @@ pub nodes_at_moved : (fs : List Frame) (i : ℕ) (f : Frame) (u : Frame → Fram
     → nodes_at (columns_of_frames (update_frame fs i u)) i ≡ (u f).nodes
 nodes_at_moved fs i f u e = nodes_at_frame (update_frame fs i u) i (u f) (frame_at_updated fs i f u e)
 
--- the column to the left of a column that has begun has begun
+-- if a column has begun, so has the column to its left
 pub left_column_begun : (fs : List Frame) (i : ℕ) → IsSound fs → 0 < length (nodes_at (columns_of_frames fs) (i + 1))
     → 0 < length (nodes_at (columns_of_frames fs) i)
 left_column_begun fs i s l =
@@ -77,7 +77,7 @@ extends_moved fs i f u s e m =
       ];
     }
 
--- a beginning changes no other column
+-- the beginning of an iteration changes no other column
 pub nodes_at_begun : (fs : List Frame) (x : Frame) (j : ℕ) → j ≢ length fs
     → nodes_at (columns_of_frames (fs ++ x ∷ [])) j ≡ nodes_at (columns_of_frames fs) j
 nodes_at_begun [] x zero n = absurd (n refl)
@@ -85,7 +85,7 @@ nodes_at_begun [] x (suc j) n = refl
 nodes_at_begun (f ∷ fs) x zero n = refl
 nodes_at_begun (f ∷ fs) x (suc j) n = nodes_at_begun fs x j (λ e. n (ap (λ k. suc k) e))
 
--- a beginning extends the columns
+-- the beginning of an iteration extends the columns
 pub extends_begun : (fs : List Frame) (x : Frame) → IsSound fs
     → ExtendsColumns (columns_of_frames fs) (columns_of_frames (fs ++ x ∷ []))
 extends_begun fs x s =

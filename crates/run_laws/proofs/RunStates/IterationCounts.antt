@@ -1,4 +1,4 @@
--- How many iterations have begun_count, have ended and are alive.
+-- How many iterations have begun, have ended and are alive.
 use Rattle.std.proofs.Common.{List, ◌≡◌, ◌+◌, [], ◌∷◌, ◌++◌, arith, ℕ, Some, zero, suc, length, ◌≤◌, ap, ◌∙◌, refl, subst, sym, map, inl, inr}
 use Rattle.std.proofs.lemmas.Bool.{cases_lt}
 use Rattle.std.proofs.lemmas.List.{length_push, length-map}
@@ -19,7 +19,7 @@ use Rattle.run_laws.proofs.RunStates.RunInvariant.{run_consistent}
 use Rattle.run_laws.proofs.RunStates.FrontAndBack.{front_is_run}
 use Rattle.run_laws.specs.RunLaws.{RunsKeepRules}
 
--- how many have begun_count after one event more
+-- the number that have begun after one more event
 begun-push : (es : List Event) (e : Event) → begun_count (es ++ e ∷ []) ≡ begun_count es + begun_count (e ∷ [])
 begun-push [] e = omega arith
 begun-push (Begin i ∷ es) e = let h = begun-push es e in omega (arith, h)
@@ -29,7 +29,7 @@ begun-push (Enter i ∷ es) e = begun-push es e
 begun-push (Finish i d ∷ es) e = begun-push es e
 begun-push (Stop ∷ es) e = begun-push es e
 
--- how many have ended after one event more
+-- the number that have ended after one more event
 finished-push : (es : List Event) (e : Event) → ended_count (es ++ e ∷ []) ≡ ended_count es + ended_count (e ∷ [])
 finished-push [] e = omega arith
 finished-push (Begin i ∷ es) e = finished-push es e
@@ -39,19 +39,19 @@ finished-push (Enter i ∷ es) e = finished-push es e
 finished-push (Finish i d ∷ es) e = let h = finished-push es e in omega (arith, h)
 finished-push (Stop ∷ es) e = finished-push es e
 
--- how many are alive after an update
+-- the number that are alive after an update
 alive_in-update_frame : (fs : List Frame) (i : ℕ) (f : Frame) (u : Frame → Frame) → frame_at fs i ≡ Some f
     → alive_in (update_frame fs i u) + alive_one f.status ≡ alive_in fs + alive_one (u f).status
 alive_in-update_frame [] i f u e = absurd (cc)
 alive_in-update_frame (x ∷ fs) zero f u e = let same : x ≡ f = cc in rw same (omega arith)
 alive_in-update_frame (x ∷ fs) (suc i) f u e = let h = alive_in-update_frame fs i f u e in omega (arith, h)
 
--- how many are alive after a beginning
+-- the number that are alive after the beginning of an iteration
 alive_in-begun : (fs : List Frame) → alive_in (fs ++ fresh_frame ∷ []) ≡ alive_in fs + 1
 alive_in-begun [] = omega arith
 alive_in-begun (x ∷ fs) = let h = alive_in-begun fs in omega (arith, h)
 
--- begun_count is ended and alive, and at most the limit is alive
+-- those that have begun have ended or are alive, and at most the limit are alive
 record Counts (limit : ℕ) (events : List Event) (s : State) : Type 0 where
   frames : begun_count events ≡ length s.frames
   counted : begun_count events ≡ ended_count events + alive s
@@ -124,7 +124,7 @@ run_counts : {p : Pipeline} {limit : ℕ} {events : List Event} {s : State} → 
 run_counts EmptyRun = record { frames = refl; counted = refl; throttled = omega arith }
 run_counts {p} {limit} (RunThen {events = es} {s = t} r e h) = counts_after p limit es t e h (run_counts r)
 
--- every run is throttled at each of its points
+-- every prefix of a run is throttled
 runs_are_throttled : (p : Pipeline) (limit : ℕ) (events : List Event) (s : State) → Run p limit events s
     → IsThrottled limit events
 runs_are_throttled p limit events s r = λ front rest e. (

@@ -28,7 +28,7 @@ LastStays p fs =
     (f : Frame) → frame_at fs p.last_iteration ≡ Some f
     → StaysInFirst f.status f.nodes (behaviour_after_all (p.behaviour p.last_iteration) f.trace)
 
--- what always closes the loop does so after an access
+-- a behaviour that always closes the loop does so after an access
 closes_after_access : (d : Behaviour) (a : _) → AlwaysClosesLoop d → Offers d (Accessed a)
     → AlwaysClosesLoop (behaviour_after d (Accessed a))
 closes_after_access (Reading c go) a h o = h a.value
@@ -36,21 +36,21 @@ closes_after_access (Writing c v d) a h o = h
 closes_after_access (Staging k n d) a h o = absurd h
 closes_after_access (Ending e) a h o = absurd (cc)
 
--- what always closes the loop names no next stage
+-- a behaviour that always closes the loop names no next stage
 closes_names_no_stage : (d : Behaviour) (k : Kind) (n : ℤ) → AlwaysClosesLoop d → Offers d (Staged k n) → ⊥
 closes_names_no_stage (Reading c go) k n h o = let q = o.1 in cc
 closes_names_no_stage (Writing c v d) k n h o = cc
 closes_names_no_stage (Staging j m d) k n h o = h
 closes_names_no_stage (Ending e) k n h o = cc
 
--- the end of what always closes the loop closes it
+-- the end of a behaviour that always closes the loop closes it
 closes_by_end : (d : Behaviour) (e : _) → AlwaysClosesLoop d → Offers d (Ended e) → closes_at_once e ≡ true
 closes_by_end (Reading c go) e h o = absurd (let q = o.1 in cc)
 closes_by_end (Writing c v d) e h o = absurd (cc)
 closes_by_end (Staging j m d) e h o = absurd h
 closes_by_end (Ending f) e h o = let same : e ≡ f = cc in ap closes_at_once same ∙ h
 
--- the last iteration stays in its instance 0 where an event that changes it keeps it there
+-- the last iteration stays in its instance 0 if an event that changes it keeps it there
 stays_moved : (p : Pipeline) (fs : List Frame) (i : ℕ) (f : Frame) (u : Frame → Frame) → LastStays p fs
     → frame_at fs i ≡ Some f
     → (i ≡ p.last_iteration → StaysInFirst f.status f.nodes (behaviour_after_all (p.behaviour i) f.trace)

@@ -1,4 +1,4 @@
--- What is added to the columns leads to nothing that stood there: edges, paths and races stay as they were.
+-- No path leads from what is added to the columns to what was there before: edges, paths and races stay as they were.
 use Rattle.std.proofs.Common.{List, map, length, ◌<◌, ℕ, ◌≤◌, ◌≡◌, ◌+◌, ◌<ℤ◌, zero, subst, ap, inl, inr, arith}
 use Rattle.std.proofs.lemmas.Bool.{cases_lt}
 use Rattle.std.proofs.lemmas.Int.{ints}
@@ -19,7 +19,7 @@ columns_of_frames fs = map (λ f. f.nodes) fs
 abbrev pub HasInstance : List (List Node) → NodeId → Type 0
 HasInstance columns x = x.index < length (nodes_at columns x.iteration)
 
--- later columns: what was added has numbers above all that is waited for
+-- later columns: the numbers of new instances are greater than all that is waited for
 pub record ExtendsColumns (columns more : List (List Node)) : Type 0 where
   pub longer : (i : ℕ) → length (nodes_at columns i) ≤ length (nodes_at more i)
   pub same : (i k : ℕ) → k < length (nodes_at columns i)
@@ -30,7 +30,7 @@ pub record ExtendsColumns (columns more : List (List Node)) : Type 0 where
       → (node_at (nodes_at columns (i + 1)) k).kind ≡ Wait
       → (node_at (nodes_at columns (i + 1)) k).number <ℤ (node_at (nodes_at more i) j).number
 
--- an edge, with its source, that stood in the columns before
+-- an edge, with its source, that was in the columns before
 pub record IsOldEdge (columns : List (List Node)) (x y : NodeId) : Type 0 where
   pub old : HasInstance columns x
   pub edge : Edge columns x y
@@ -77,7 +77,7 @@ old_edge columns more x y e (DownEdge i k h) l = record {
 }
 old_edge columns more x y e (AcrossEdge i j k c) l = old_crossing columns more i j k e c l
 
--- a path, with its source, that stood in the columns before
+-- a path, with its source, that was in the columns before
 pub record IsOldPath (columns : List (List Node)) (x y : NodeId) : Type 0 where
   pub old : HasInstance columns x
   pub path : Precedes columns x y
@@ -93,7 +93,7 @@ old_path columns more x y e (ByPath {y = m} p edge) l =
     let h = old_path columns more x m e p w.old in
     record { old = h.old; path = ByPath h.path w.edge }
 
--- where the later columns have no race the earlier have none
+-- if the later columns have no race, the earlier ones have none
 pub no_race_before : (columns more : List (List Node)) (accesses all : List NodeAccess) → ExtendsColumns columns more
     → ((a : NodeAccess) → Among a accesses → Among a all)
     → ((a : NodeAccess) → Among a accesses → HasInstance columns a.node)

@@ -12,7 +12,7 @@ use Rattle.run_laws.proofs.RunStates.FrameMoves.{IsSound}
 use Rattle.run_laws.proofs.RunStates.Frames.{frame_at_within}
 use Rattle.run_laws.specs.RunLaws.{FinishedStatesAreClosed, IterationsBeginInTurn}
 
--- the loop goes on where instance 0 has ended and did not close it
+-- the loop goes on if instance 0 has ended and did not close it
 pub goes_on_by : (w : Status) (nodes : List Node) → 0 < length nodes → EndedFirstInstance w nodes → (ClosesLoop w nodes → ⊥)
     → ContinuesLoop w nodes
 goes_on_by Running nodes filled ended open' = ended
@@ -22,7 +22,7 @@ goes_on_by (Completed x) nodes filled ended open' = λ closing. elim (cases_eq (
   | inr more ↦ omega (arith, filled, more)
 ]
 
--- and where it goes on, instance 0 has ended and did not close it
+-- if the loop goes on, instance 0 has ended and did not close it
 pub ended_by_going : (w : Status) (nodes : List Node) → ContinuesLoop w nodes
     → EndedFirstInstance w nodes × (ClosesLoop w nodes → ⊥)
 ended_by_going Running nodes goes = (goes, (λ x. x))
@@ -39,7 +39,7 @@ begins_by limit s sound room open' ended = record {
       (λ x. open' (record { iteration = j; frame = f; is = is; closes = x }));
 }
 
--- where it may begin, no iteration has closed the loop
+-- if it may begin, no iteration has closed the loop
 open_by : (limit : ℕ) (s : State) → IsSound s.frames → MayBegin limit s (length s.frames) → IsClosed s.frames → ⊥
 open_by limit s sound may shut = elim (cases_lt (shut.iteration + 1) (length s.frames)) [
   | inl less ↦ (ended_by_going shut.frame.status shut.frame.nodes (sound.goes shut.iteration shut.frame shut.is less)).1 shut.closes
@@ -67,7 +67,7 @@ completed_by Running e = absurd (omega (arith, e))
 completed_by (Pending k n) e = absurd (omega (arith, e))
 completed_by (Completed x) e = refl
 
--- where none is alive all iterations have ended
+-- if none is alive, all iterations have ended
 all_completed : (fs : List Frame) → alive_in fs ≡ 0 → AllCompleted fs
 all_completed [] none i f is = absurd (cc)
 all_completed (x ∷ fs) none zero f is =

@@ -24,20 +24,20 @@ use Rattle.run_laws.proofs.RunStates.Frames.{frame_at_exists}
 use Rattle.run_laws.proofs.RunStates.RunInvariant.{IsConsistent, run_consistent}
 use Rattle.run_laws.specs.RunLaws.{RunsNeverStick}
 
--- what is left to do of an iteration is legal
+-- what is left to do in an iteration is legal
 abbrev pub LegalNow : Status → List Node → Behaviour → Type 0
 LegalNow Running nodes d =
     (first : Bool) × (first ≡ true → length nodes ≡ 1) × HasLegalStages first (last_node nodes).number d
 LegalNow (Pending k n) nodes d = HasLegalStages false n d
 LegalNow (Completed e) nodes d = Unit {0}
 
--- what is left to do of every iteration is legal
+-- what is left to do in every iteration is legal
 abbrev pub AllLegal : Pipeline → List Frame → Type 0
 AllLegal p fs =
     (i : ℕ) (f : Frame) → frame_at fs i ≡ Some f
     → LegalNow f.status f.nodes (behaviour_after_all (p.behaviour i) f.trace)
 
--- it stays legal where the iteration that an event changes stays so
+-- it stays legal if it does in the iteration that an event changes
 legal_moved : (p : Pipeline) (fs : List Frame) (i : ℕ) (f : Frame) (u : Frame → Frame) → AllLegal p fs
     → frame_at fs i ≡ Some f → LegalNow (u f).status (u f).nodes (behaviour_after_all (p.behaviour i) (u f).trace)
     → AllLegal p (update_frame fs i u)
@@ -158,7 +158,7 @@ first_alive (x ∷ fs) = elim (cases_Bool (is_completed x.status)) [
 abbrev GoesOn : Pipeline → ℕ → State → Type 0
 GoesOn p limit s = (e : Event) × (e ≢ Stop) × Allowed p limit s e
 
--- what the behaviour offers the program offers
+-- the program offers what the behaviour offers
 offered_by : (p : Pipeline) (s : State) (i : ℕ) (r : IsRunning s i) (x : Action) (d : Behaviour)
     → behaviour_after_all (p.behaviour i) r.frame.trace ≡ d → Offers d x → OffersAt p s i x
 offered_by p s i r x d e o =
@@ -255,7 +255,7 @@ closed_or_continues (Completed e) nodes o l = elim (cases_Bool (closes_at_once e
   | inr free ↦ inr (λ q. absurd (false≢true (sym free ∙ q)))
 ]
 
--- where all have ended the run is finished, or the next iteration begins
+-- if all have ended, the run is finished, or the next iteration begins
 completed_goes_on : (p : Pipeline) (limit : ℕ) (s : State) → IsConsistent s → 0 < limit → s.stopped ≡ false
     → AllCompleted s.frames → (n : ℕ) → length s.frames ≡ n → IsFinished s ⊎ GoesOn p limit s
 completed_goes_on p limit s k room going all zero e =

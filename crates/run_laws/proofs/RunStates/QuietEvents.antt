@@ -69,7 +69,7 @@ quiet_extends s fs sound q =
     subst (λ gs. ExtendsColumns (own_columns s) (columns_of_frames gs)) (sym q.result)
     (extends_moved s.frames q.place q.frame q.update sound q.is q.moves)
 
--- an instance stays in columns that are extended
+-- the instances of columns are in the extended columns
 pub instance_stays : (columns more : List (List Node)) (x : NodeId) → ExtendsColumns columns more → HasInstance columns x
     → HasInstance more x
 instance_stays columns more x e l = let h = e.longer x.iteration in omega (arith, h, l)

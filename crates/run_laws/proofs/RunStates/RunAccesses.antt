@@ -25,7 +25,7 @@ use Rattle.run_laws.proofs.RunStates.FrameTraces.{AllTraced, running_column, run
 use Rattle.run_laws.proofs.RunStates.Frames.{frame_at_updated, frame_at_other, frame_at_push, frame_at_within}
 use Rattle.pipe_model.proofs.Members.{among_either, among_left, only_one, among_right, none_among}
 
--- an access stands in the trace of a frame
+-- an access is in the trace of a frame
 pub record StandsInFrame (fs : List Frame) (x : NodeAccess) : Type 0 where
   pub place : ℕ
   pub frame : Frame
@@ -46,7 +46,7 @@ stands_moved fs i f u x e st = elim (frame_at_moved fs i st.place f u st.frame e
   | inr there ↦ inr (record { place = st.place; frame = st.frame; is = there.1; made = st.made })
 ]
 
--- an access stays in an update that keeps its frame's accesses
+-- an access is kept by an update that keeps its frame's accesses
 stays_standing : (fs : List Frame) (i : ℕ) (f : Frame) (u : Frame → Frame) (x : NodeAccess) → frame_at fs i ≡ Some f
     → (Among x (located i 0 f.trace) → Among x (located i 0 (u f).trace)) → StandsInFrame fs x
     → StandsInFrame (update_frame fs i u) x
@@ -116,7 +116,7 @@ access_located p s i a all r k =
       ];
     }
 
--- a beginning keeps the accesses located
+-- the beginning of an iteration keeps the accesses located
 begun_located : (s : State) (i : ℕ) → HasLocatedAccesses s → HasLocatedAccesses (next_state s (Begin i))
 begun_located s i k = record {
   spread = λ x m. (
@@ -175,7 +175,7 @@ accesses_of-located_from i (f ∷ fs) =
     (accesses_of-located i 0 f.trace)
     ∙ ap (λ l. accesses_in f.trace ++ l) (accesses_of-located_from (i + 1) fs)
 
--- each of them stands in a frame
+-- each of them is in a frame
 pub among_located_frames : (i : ℕ) (fs : List Frame) (x : NodeAccess)
     → Among x (located_from i (map (λ f. f.trace) fs))
     → (j : ℕ) × (f : Frame) × (frame_at fs j ≡ Some f) × Among x (located (i + j) 0 f.trace)

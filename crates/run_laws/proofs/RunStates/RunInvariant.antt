@@ -57,7 +57,7 @@ quiet_consistent s fs k q = record {
       ];
 }
 
--- a beginning keeps the state consistent
+-- the beginning of an iteration keeps the state consistent
 begun_consistent : (limit : ℕ) (s : State) (i : ℕ) → IsConsistent s → MayBegin limit s i
     → IsConsistent (next_state s (Begin i))
 begun_consistent limit s i k may = record {
@@ -154,7 +154,7 @@ access_consistent s i a k r =
       ];
     }
 
--- the state in which nothing has begun is consistent
+-- the state before any iteration begins is consistent
 empty_consistent : IsConsistent initial_state
 empty_consistent = record {
   sound = record {
@@ -191,7 +191,7 @@ pub run_consistent : {p : Pipeline} {limit : ℕ} {events : List Event} {s : Sta
 run_consistent EmptyRun = empty_consistent
 run_consistent {p} {limit} (RunThen {s = t} r e h) = consistent_after p limit t e h (run_consistent r)
 
--- no race after means no race before
+-- if there is no race after, there was none before
 race_free_before : (s : State) (fs : List Frame) (all : List NodeAccess) → IsConsistent s
     → ExtendsColumns (own_columns s) (columns_of_frames fs) → ((a : NodeAccess) → Among a s.accesses → Among a all)
     → IsRaceFree (columns_of_frames fs) all → IsRaceFree (own_columns s) s.accesses

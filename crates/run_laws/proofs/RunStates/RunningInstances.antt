@@ -1,4 +1,4 @@
--- No path leaves an instance that runs, so it is parallel to all that stand in columns to its right.
+-- No path leaves an instance that runs, so it is parallel to all in columns to its right.
 use Rattle.std.proofs.Common.{List, ℕ, length, Some, ◌≡◌, ◌<◌, inl, inr, subst, arith, ◌+◌, suc, zero, ◌≤ℤ◌, ◌-◌, ◌<ℤ◌, ap}
 use Rattle.std.proofs.lemmas.Bool.{cases_lt}
 use Rattle.std.proofs.lemmas.Int.{ints}
@@ -14,7 +14,7 @@ use Rattle.run_laws.proofs.RunStates.FrameMoves.{IsSound}
 use Rattle.run_laws.proofs.RunStates.Frames.{frame_at_exists, nodes_at_past, nodes_at_frame, frame_at_within}
 use Rattle.run_laws.proofs.RunStates.LaterEdges.{columns_of_frames, paths_lead_right}
 
--- each instance stands in a frame
+-- each instance is in a frame
 pub frame_of_node : (fs : List Frame) (i k : ℕ) → k < length (nodes_at (columns_of_frames fs) i)
     → (f : Frame) × (frame_at fs i ≡ Some f)
 frame_of_node fs i k l = elim (cases_lt i (length fs)) [
@@ -24,7 +24,7 @@ frame_of_node fs i k l = elim (cases_lt i (length fs)) [
       absurd (omega (arith, none)))
 ]
 
--- what is waited for in the next column has been passed
+-- a stage that an instance of the next column waits for has been passed
 pub awaited_is_passed : (fs : List Frame) (i k : ℕ) (f : Frame) → IsSound fs → frame_at fs i ≡ Some f
     → k < length (nodes_at (columns_of_frames fs) (i + 1))
     → (node_at (nodes_at (columns_of_frames fs) (i + 1)) k).kind ≡ Wait
@@ -70,7 +70,7 @@ pub running_has_no_path : (fs : List Frame) (f : Frame) (x y : NodeId) → IsSou
 running_has_no_path fs f x y s is runs last (ByEdge e) = running_has_no_edge fs f x y s is runs last e
 running_has_no_path fs f x y s is runs last (ByPath {y = m} p e) = running_has_no_path fs f x m s is runs last p
 
--- an instance that runs is parallel to all that stand in columns further to the right
+-- an instance that runs is parallel to all in columns further to the right
 pub running_is_parallel : (fs : List Frame) (f : Frame) (x y : NodeId) → IsSound fs → frame_at fs x.iteration ≡ Some f
     → f.status ≡ Running → x.index + 1 ≡ length f.nodes → x.iteration < y.iteration
     → AreParallel (columns_of_frames fs) x y
