@@ -64,7 +64,7 @@ fn push_cells(text: &mut Vec<u8>, cells: &[Declaration]) -> Result<(), NoMemory>
     Ok(())
 }
 
-// Appends a part that is not empty: its word and its block.
+// Appends a part, its word and its block; nothing if the block is empty.
 fn push_part(text: &mut Vec<u8>, word: &[u8], block: &Block) -> Result<(), NoMemory>
     ensures { OnOk result (text.new.items
         ≡ text.old.items ++ part_text word.now (statements_of block.now.statements.items)) }
