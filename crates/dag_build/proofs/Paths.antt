@@ -151,7 +151,7 @@ front_moved columns {i} {m} (Moves t from landing moves lands) =
 not_itself : (columns : List (List Node)) (x y : NodeId) → (x ≡ y → ⊥) → LeadsTo columns x y → Precedes columns x y
 not_itself columns x y h l = elim l [ inl e ↦ absurd (h e) | inr p ↦ p ]
 
--- an instance of a later column from the front on is preceded
+-- an instance of a later column is preceded if it is at the front or after it
 pub precedes_from_front : (columns : List (List Node)) (x y : NodeId) (m : ℕ) → x.iteration < y.iteration
     → ReachesFrom columns x y.iteration m → y.index < length (nodes_at columns y.iteration) → m ≤ y.index
     → Precedes columns x y
@@ -160,7 +160,7 @@ precedes_from_front columns x y m before front w l =
     (λ e. let q : x.iteration ≡ y.iteration = ap (λ (n : NodeId). n.iteration) e in omega (arith, q, before))
     (front.leads.reached y.index l w)
 
--- and only such an instance is
+-- and only then
 pub front_from_precedes : (columns : List (List Node)) (x y : NodeId) (m : ℕ) → ReachesFrom columns x y.iteration m
     → Precedes columns x y → m ≤ y.index
 front_from_precedes columns x y m front p = front.only y.index (inr p)

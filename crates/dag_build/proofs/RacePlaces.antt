@@ -21,7 +21,7 @@ noted_at xs k d w = get_or-map (λ (a : NodeAccess). noted_access a.node a.acces
 pub length-noted_all : (xs : List NodeAccess) → length (noted_all xs) ≡ length xs
 length-noted_all xs = length-map xs (λ (a : NodeAccess). noted_access a.node a.access.kind)
 
--- the accesses at two places race
+-- two noted accesses race
 abbrev NotedRace : List (List Node) → NotedAccess → NotedAccess → Type 0
 NotedRace columns a b = KindsConflict a.kind b.kind × AreParallel columns a.who b.who
 
