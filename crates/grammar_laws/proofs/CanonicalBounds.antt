@@ -97,7 +97,7 @@ plain_deep {us} {ts} t u p q d = record {
       (greater_both n (peak n (us ++ rest)) ((n + c) - c) (most_open (n + c) c (ts ++ other)) (omega arith) (d.deep n rest other h c));
 }
 
--- `us` with another symbol in front that is no bracket
+-- another symbol, which is no bracket, before `us`
 pub front_deep : {us ts : List Symbol} (t : Symbol) → IsUnjoined t → NoDeeper us ts → NoDeeper us (t ∷ ts)
 front_deep {us} {ts} t p d = record {
   deep = λ n rest other h c.

@@ -110,7 +110,7 @@ pub record IsName (x : List ℕ) : Type 0 where
 pub data IsNumeral : ℤ → Type 0 where
   Numeral : (n : ℕ) → n < 2 ^ 63 → IsNumeral (pos n)
 
--- a declared value: a numeral, or a numeral with a minus sign in front
+-- a declared value: a numeral, or a numeral after a minus sign
 pub data IsDeclaredValue : ℤ → Type 0 where
   Positive : (n : ℕ) → n < 2 ^ 63 → IsDeclaredValue (pos n)
   Negative : (n : ℕ) → suc n < 2 ^ 63 → IsDeclaredValue (negsuc n)

@@ -132,7 +132,7 @@ over_full longest before rest left wants h l =
 
 -- ---- a stage number, which may be missing
 
--- a stage number is a full expression if no closing bracket comes first
+-- if the symbols do not begin with a closing bracket, a stage number is read as a full expression
 pub stage_number : (longest : ℕ) (ts : List Symbol) (wants : List Want) → NoSign 41 ts
     → judge longest ts (Outside (StageNumber ∷ Sign 41 ∷ wants)) ≡ judge longest ts (Outside (FullExpression ∷ Sign 41 ∷ wants))
 stage_number longest [] wants h = refl

@@ -219,7 +219,7 @@ front_ran : (o : Option (List expression.Want)) (go : List expression.Want → O
 front_ran None go left h = absurd (cc (h))
 front_ran (Some mid) go left h = (mid, refl)
 
--- and over each prefix of them
+-- the machine runs over each prefix of an expression
 expression_front_runs : {e : Expression} (inside more : List Symbol) → Derives any_expression (inside ++ more) e → RunsTo inside
 expression_front_runs inside more d =
     let r = derived_runs d in

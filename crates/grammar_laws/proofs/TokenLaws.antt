@@ -178,7 +178,7 @@ pub record GoesFurther (tokens further : List Token) (rest end : List ℕ) : Typ
 abbrev Meet : List Token → List Token → List ℕ → List ℕ → Type 0
 Meet tokens others rest end = GoesFurther tokens others rest end ⊎ GoesFurther others tokens end rest
 
--- the same with more tokens in front
+-- the same with the same tokens before both lists
 with_front : (xs tokens others : List Token) (rest end : List ℕ) → Meet tokens others rest end → Meet (xs ++ tokens) (xs ++ others) rest end
 with_front xs tokens others rest end (inl f) =
     inl (record { more = f.more; place = f.place; parts = ap (λ y. xs ++ y) f.parts ∙ sym (append_assoc xs tokens f.more); scan = f.scan })

@@ -91,7 +91,7 @@ good_symbol text (symbols.Number z) e w =
 good_symbol text (symbols.Operator code) e w = tt
 good_symbol text (symbols.Sign b) e w = tt
 
--- so are the symbols of a source
+-- the symbols of a scan within the bounds are good
 good_scan : {place : ℕ} {bytes rest : List ℕ} {tokens : List Token} (source : List ℕ) → Scans place bytes tokens rest → drop place source ≡ bytes
     → All IsTokenWithinBounds tokens → AreGood (symbols_in source tokens)
 good_scan source (Stops place rest) e w = None'

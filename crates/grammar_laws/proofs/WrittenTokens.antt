@@ -77,7 +77,7 @@ name_begins (b ∷ bs) t = by_kind (is_letter b) (list_all is_name_byte bs) (is_
 pub name_token : (x : List ℕ) (c : ℕ) (rest : List ℕ) → IsName x → is_name_byte c ≡ false → IsToken x (c ∷ rest) (symbols.Name x)
 name_token x c rest h n = word_token x (symbols.Name x) c rest (name_begins x h.symbol) h.symbol n
 
--- so it does not begin with an equals sign
+-- a name does not begin with an equals sign
 pub name_opens : (x rest : List ℕ) → IsName x → Opens (x ++ rest)
 name_opens x rest h = by_letter x (name_begins x h.symbol)
   where
