@@ -28,7 +28,7 @@ takes rows bytes (Some best) row b f o = record {
       (λ front. omega arith);
 }
 
--- otherwise the best stays
+-- otherwise the best row so far stays the best
 pub keeps : (rows : List OpRow) (bytes : List ℕ) (best : Option OpRow) (row : OpRow) → IsBest rows bytes best → (StartsWith (text_of row) bytes → Outdoes row best → ⊥)
     → IsBest (rows ++ row ∷ []) bytes best
 keeps rows bytes None row b n = All-push (λ other. StartsWith (text_of other) bytes → ⊥) rows row b (λ front. n front tt)
