@@ -1,4 +1,4 @@
--- Accesses whose cells do not fall stand in groups, one for each cell. What the groups in front tell of the races.
+-- Accesses sorted by cell form one group for each cell. What the first groups say about the races.
 use Rattle.std.proofs.Common.{◌≡◌, ℕ, List, [], ◌∷◌, ◌++◌, ◌+◌, ◌<◌, ◌≤◌, Bool, true, false, length, get_or, take, drop, cond, eqb, refl, sym, ap, subst, ◌∙◌, inl, inr, arith, append-nil, length-drop}
 use Rattle.std.proofs.lemmas.Bool.{cases_lt, cases_order, eqb-true, eq-eqb}
 use Rattle.std.proofs.lemmas.List.{get_or-take, get_or-drop, get_or_default, take-append-drop}
@@ -28,25 +28,25 @@ cell_of a = a.access.cell.0
 abbrev pub IsBelowAll : ℕ → List NodeAccess → Type 0
 IsBelowAll c xs = All (λ a. c < cell_of a) xs
 
--- accesses_to-append, by the test
+-- the proof of `accesses_to-append` by cases on the test
 append_by : (t : Bool) (n : NotedAccess) (front bs cs : List NotedAccess) → cs ≡ front ++ bs
     → cond t (n ∷ cs) cs ≡ cond t (n ∷ front) front ++ bs
 append_by true n front bs cs e = ap (λ l. n ∷ l) e
 append_by false n front bs cs e = e
 
--- the accesses to a cell of two lists
+-- the accesses to a cell in two lists
 accesses_to-append : (c : ℕ) (xs ys : List NodeAccess) → accesses_to c (xs ++ ys) ≡ accesses_to c xs ++ accesses_to c ys
 accesses_to-append c [] ys = refl
 accesses_to-append c (x ∷ xs) ys =
     append_by (eqb (cell_of x) c) (noted_of x) (accesses_to c xs) (accesses_to c ys) (accesses_to c (xs ++ ys))
     (accesses_to-append c xs ys)
 
--- one access more to the cell
+-- another access to the cell
 kept_by : (t : Bool) (n : NotedAccess) (front bs : List NotedAccess) → t ≡ true → front ≡ bs → cond t (n ∷ front) front ≡ n ∷ bs
 kept_by true n front bs e h = ap (λ l. n ∷ l) h
 kept_by false n front bs e h = absurd (cc)
 
--- one access more to another cell
+-- another access, to another cell
 skipped_by : (t : Bool) (n : NotedAccess) (front bs : List NotedAccess) → t ≡ false → front ≡ bs → cond t (n ∷ front) front ≡ bs
 skipped_by true n front bs e h = absurd (cc)
 skipped_by false n front bs e h = h
@@ -75,7 +75,7 @@ accesses_to-others c (x ∷ xs) others =
     (eqb_false_from (cell_of x) c (others 0 x (omega arith)))
     (accesses_to-others c xs (All-tail (λ a. cell_of a ≡ c → ⊥) x xs others))
 
--- the first m accesses are those to the cell, and the others are to cells above it
+-- the first m accesses are to the cell, and the others are to cells above it
 pub record IsGroup (xs : List NodeAccess) (c m : ℕ) : Type 0 where
   pub first : NodeAccess
   pub filled : 0 < length xs
@@ -84,7 +84,7 @@ pub record IsGroup (xs : List NodeAccess) (c m : ℕ) : Type 0 where
   pub above : IsBelowAll c (drop m xs)
   pub sorted : IsNonDecreasingBy cell_of xs
 
--- the leading accesses to the cell of the first are a group
+-- the leading accesses to the cell of the first access are a group
 leading_group : (xs : List NodeAccess) (c : ℕ) (d : NodeAccess) → 0 < length xs → cell_of (get_or xs 0 d) ≡ c
     → IsNonDecreasingBy cell_of xs → IsGroup xs c (prefix_len (λ a. eqb (cell_of a) c) xs)
 leading_group xs c d filled first sorted =
@@ -113,19 +113,19 @@ leading_group xs c d filled first sorted =
     differ : true ≡ false → ⊥
     differ e = cc
 
--- the first access, as `first` gives it
+-- the first access is element 0
 first_of : (xs : List NodeAccess) (x : NodeAccess) → Some x ≡ slice_get xs 0 → (0 < length xs) × (get_or xs 0 x ≡ x)
 first_of [] x e = absurd (cc)
 first_of (y ∷ xs) x e = (omega arith, cc)
 
--- as many as lead the list are a group
+-- the same for the list's first access
 pub group_of_first : (xs : List NodeAccess) (x : NodeAccess) (m : ℕ) → Some x ≡ slice_get xs 0
     → m ≡ prefix_len (λ a. eqb (cell_of a) (cell_of x)) xs → IsNonDecreasingBy cell_of xs → IsGroup xs (cell_of x) m
 group_of_first xs x m is e sorted =
     let first = first_of xs x is in
     subst (IsGroup xs (cell_of x)) (sym e) (leading_group xs (cell_of x) x first.0 (ap cell_of first.1) sorted)
 
--- what is told when only these accesses are left: the races of all cells that are not among them
+-- progress if `rest` remains: the reports name the races of all cells that have no access in `rest`
 pub record IsProgress (columns : List (List Node)) (xs rest : List NodeAccess) (reports : List Report) : Type 0 where
   pub left : (c : ℕ) → (IsBelowAll c rest → ⊥) → accesses_to c xs ≡ accesses_to c rest
   pub sorted : IsNonDecreasingBy cell_of rest
@@ -134,11 +134,11 @@ pub record IsProgress (columns : List (List Node)) (xs rest : List NodeAccess) (
   pub rise : AllPairs (λ (a : Report) (b : Report). a.cell.0 < b.cell.0) reports
   pub all : (c later earlier : ℕ) → IsBelowAll c rest → RacesAt columns (accesses_to c xs) later earlier → HasReport reports c
 
--- no access, no race
+-- without accesses there is no race
 none_in_none : (columns : List (List Node)) (noted : List NotedAccess) → noted ≡ [] → CellHasNoRace columns noted
 none_in_none columns noted e later earlier r = let w = r.within in omega (arith, w, ap length e)
 
--- nothing is told yet
+-- before the first report
 pub progress_starts : (columns : List (List Node)) (xs : List NodeAccess) → IsNonDecreasingBy cell_of xs
     → IsProgress columns xs xs []
 progress_starts columns xs sorted = record {
@@ -152,7 +152,7 @@ progress_starts columns xs sorted = record {
       (accesses_to-others c xs (λ k d w e. let l = below k d w in omega (arith, l, e))) later earlier r);
 }
 
--- the accesses to a cell in the group and behind it
+-- the accesses to a cell in the group and after it
 split_at_group : (xs : List NodeAccess) (c m : ℕ) → accesses_to c xs ≡ accesses_to c (take m xs) ++ accesses_to c (drop m xs)
 split_at_group xs c m = ap (accesses_to c) (sym (take-append-drop m xs)) ∙ accesses_to-append c (take m xs) (drop m xs)
 
@@ -166,7 +166,7 @@ of_group columns xs rest reports c m h g =
     ∙ (split_at_group rest c m ∙ (ap (λ l. accesses_to c (take m rest) ++ l) behind
     ∙ (append-nil (accesses_to c (take m rest)) ∙ accesses_to-own c (take m rest) g.own)))
 
--- the accesses to a cell above that of the group are behind it
+-- the accesses to a cell above that of the group come after the group
 behind_group : (rest : List NodeAccess) (c m cell : ℕ) → IsGroup rest c m → c < cell
     → accesses_to cell rest ≡ accesses_to cell (drop m rest)
 behind_group rest c m cell g l =
@@ -188,7 +188,7 @@ not_below_rest rest c m cell g l below =
     let b = below 0 g.first g.filled in
     omega (arith, h, b, l)
 
--- the accesses behind the group, and those to cells that are not below all of them
+-- what `left` says of a cell that is not below all accesses after the group
 left_behind : (columns : List (List Node)) (xs rest : List NodeAccess) (reports : List Report) (c m : ℕ)
     → IsProgress columns xs rest reports → IsGroup rest c m
     → (cell : ℕ) → (IsBelowAll cell (drop m rest) → ⊥) → accesses_to cell xs ≡ accesses_to cell (drop m rest)
@@ -197,7 +197,7 @@ left_behind columns xs rest reports c m h g cell not = elim (cases_lt c cell) [
   | inr le ↦ absurd (not (λ k d w. let a = g.above k d w in omega (arith, a, le)))
 ]
 
--- the cell of a race with no access behind the group is that of the group or one below
+-- if no access after the group is to a cell with a race, that cell is not above that of the group
 race_in_front : (columns : List (List Node)) (xs rest : List NodeAccess) (reports : List Report) (c m : ℕ)
     → IsProgress columns xs rest reports → IsGroup rest c m
     → (cell later earlier : ℕ) → IsBelowAll cell (drop m rest) → RacesAt columns (accesses_to cell xs) later earlier
@@ -227,11 +227,11 @@ progress_without columns xs rest reports c m h g none = record {
   ];
 }
 
--- a report stays with one more
+-- a cell that has a report still has one after another report
 still_reported : (reports : List Report) (r : Report) (cell : ℕ) → HasReport reports cell → HasReport (reports ++ r ∷ []) cell
 still_reported reports r cell h = (h.0, among_left h.0 reports (r ∷ []) h.1, h.2)
 
--- a group with a race, which is reported
+-- a group with a race, and its report
 pub progress_with : (columns : List (List Node)) (xs rest : List NodeAccess) (reports : List Report) (c m : ℕ) (r : Report)
     → IsProgress columns xs rest reports → IsGroup rest c m → ReportsFirstRace columns (noted_all (take m rest)) r
     → r.cell.0 ≡ c → IsProgress columns xs (drop m rest) (reports ++ r ∷ [])

@@ -1,5 +1,5 @@
--- The first races of all cells are right reports: each tells a race, each race is of a cell with a report, and there is
--- no report exactly where there is no race.
+-- The first races of all cells are right reports: each names a race, each race is of a cell with a report, and there is
+-- no report exactly if there is no race.
 use Rattle.std.proofs.Common.{◌≡◌, List, [], ◌∷◌, ◌++◌, refl, sym, ap, subst, ◌∙◌, ◌↔◌}
 use Rattle.pipe_model.specs.declared.access.NodeAccess.{NodeAccess}
 use Rattle.pipe_model.specs.declared.node.Node.{Node}
@@ -13,7 +13,7 @@ use Rattle.pipe_model.proofs.RacesByCell.{race_at}
 use Rattle.pipe_model.proofs.Members.{among_right}
 use Rattle.pipe_model.specs.Races.FirstRaces.{AreFirstRaces, HasReport, ReportsFirstRaceOfCell}
 
--- the accesses of a report, at their places in the list
+-- the two accesses of a report, with the lists before, between and after them
 record HasAccesses (columns : List (List Node)) (accesses : List NodeAccess) (r : Report) : Type 0 where
   front : List NodeAccess
   earlier : NodeAccess
@@ -27,7 +27,7 @@ record HasAccesses (columns : List (List Node)) (accesses : List NodeAccess) (r 
   later_cell : later.access.cell.0 ≡ r.cell.0
   told : r ≡ report_of columns r.cell.0 (noted_of earlier) (noted_of later)
 
--- a report of a first race has them
+-- a report of a first race has such accesses
 has_accesses : (columns : List (List Node)) (accesses : List NodeAccess) (r : Report)
     → ReportsFirstRaceOfCell columns accesses r → HasAccesses columns accesses r
 has_accesses columns accesses r h =
@@ -71,7 +71,7 @@ report_names_race columns accesses r first =
       numbers = (ap (λ (x : Report). x.earlier_number) a.told, ap (λ (x : Report). x.later_number) a.told);
     }
 
--- what a report names is a race
+-- the accesses that a report names race
 named_race : (columns : List (List Node)) (accesses : List NodeAccess) (r : Report) (n : NamesRace columns accesses r)
     → IsDeterminacyRace columns accesses n.earlier n.later
 named_race columns accesses r n = record {
@@ -89,12 +89,12 @@ race_has_report columns accesses reports a b h race =
     let r = race_at columns accesses a b a.access.cell.0 refl race in
     h.all a.access.cell.0 r.later r.earlier r.racy
 
--- a list with an element has one among its elements
+-- a list that has no element is empty
 first_among : (reports : List Report) → ((r : Report) → Among r reports → ⊥) → reports ≡ []
 first_among [] none = refl
 first_among (r ∷ reports) none = absurd (none r Here)
 
--- no list has a report where there is none
+-- an empty list has no report
 none_reported : (reports : List Report) (r : Report) → reports ≡ [] → Among r reports → ⊥
 none_reported reports r e among = elim (subst (Among r) e among) [ ]
 
@@ -107,7 +107,7 @@ first_races_are_right columns accesses reports h = record {
   rise = h.rise;
 }
 
--- there is no report exactly where there is no race
+-- there is no report exactly if there is no race
 pub no_report_is_race_free : (columns : List (List Node)) (accesses : List NodeAccess) (reports : List Report)
     → AreFirstRaces columns accesses reports → (reports ≡ []) ↔ IsRaceFree columns accesses
 no_report_is_race_free columns accesses reports h = (

@@ -14,7 +14,7 @@ use Rattle.dag_build.specs.RacingAccesses.{noted_all}
 use Rattle.dag_build.proofs.RacePlaces.{noted_at}
 use Rattle.dag_build.proofs.Paths.{leads_from_itself, leads_moved}
 
--- the fronts in a later column
+-- the fronts moved to a later column
 pub fronts_moved : (columns : List (List Node)) (noted : List NotedAccess) (n to : ℕ) (f g : Fronts)
     → AreFronts columns noted n f → g.column ≡ to → MovesTo columns f.column f.writes to g.writes
     → MovesTo columns f.column f.accesses to g.accesses → AreFronts columns noted n g
@@ -23,12 +23,12 @@ fronts_moved columns noted n to f g fronts e w a = record {
   accesses = λ k l. rw e (leads_moved columns (access_at noted k).who (fronts.accesses k l) a);
 }
 
--- a later place
+-- a greater index
 leads_further : (columns : List (List Node)) (x : NodeId) (i m further : ℕ) → m ≤ further → LeadsFrom columns x i m
     → LeadsFrom columns x i further
 leads_further columns x i m further l leads = record { reached = λ k le w. leads.reached k (omega (arith, l, le)) w }
 
--- what holds of the first n accesses and the next one
+-- what holds of the first n accesses and of the next one
 one_more : (noted : List NotedAccess) (n : ℕ) (x : NotedAccess) (P : NotedAccess → Type 0) → access_at noted n ≡ x → P x
     → ((k : ℕ) → k < n → P (access_at noted k)) → (k : ℕ) → k < n + 1 → P (access_at noted k)
 one_more noted n x P is here before k l = elim (cases_lt k n) [
@@ -36,7 +36,7 @@ one_more noted n x P is here before k l = elim (cases_lt k n) [
   | inr past ↦ subst (λ i. P (access_at noted i)) (omega (arith, l, past)) (subst P (sym is) here)
 ]
 
--- the fronts with one more access
+-- the fronts after another access
 fronts_joined : (columns : List (List Node)) (noted : List NotedAccess) (n : ℕ) (f : Fronts) (who : NodeId)
     (kind : AccessKind) (here : ℕ)
     → AreFronts columns noted n f → access_at noted n ≡ record { who = who; kind = kind } → LeadsFrom columns who f.column here
@@ -61,12 +61,12 @@ pub joined_fronts-column : (f : Fronts) (kind : AccessKind) (here : ℕ) → (jo
 joined_fronts-column f Read here = refl
 joined_fronts-column f Write here = refl
 
--- an instance leads from where its place comes on
+-- an instance leads from the index to which its own index moves
 leads_from_moved : (columns : List (List Node)) (x : NodeId) (t here : ℕ) → MovesTo columns x.iteration x.index t here
     → LeadsFrom columns x t here
 leads_from_moved columns x t here moves = leads_moved columns x (leads_from_itself columns x.iteration x.index) moves
 
--- the fronts with the next access of a list
+-- the fronts after the next access of a list
 pub fronts_grown : (columns : List (List Node)) (xs : List NodeAccess) (n here : ℕ) (f g : Fronts) (d : NodeAccess)
     → n < length xs → AreFronts columns (noted_all xs) n f → g ≡ joined_fronts f (get_or xs n d).access.kind here
     → MovesTo columns (get_or xs n d).node.iteration (get_or xs n d).node.index f.column here

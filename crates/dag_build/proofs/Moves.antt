@@ -1,4 +1,4 @@
--- Places that move from column to column, and the tables that tell it for several columns at once.
+-- Indices that move from column to column, and the tables of their moves over several columns at once.
 use Rattle.std.proofs.Common.{◌≡◌, ℕ, zero, suc, List, [], ◌∷◌, ◌++◌, ◌+◌, ◌<◌, ◌≤◌, length, get_or, ap, subst, sym, arith, inl, inr, ◌∙◌, length-append}
 use Rattle.std.proofs.lemmas.Bool.{cases_lt}
 use Rattle.std.proofs.lemmas.List.{get_or_append_left, get_or_default, get_or_push}
@@ -10,13 +10,13 @@ use Rattle.dag_build.specs.Landings.{AreJumps, AreLandings, AreLevels, IsLanding
 use Rattle.dag_build.specs.declared.jumps.Jumps.{Jumps}
 use Rattle.dag_build.proofs.Crossings.{edge_begins_within}
 
--- a move and another
+-- one move after another
 pub moves_both : {columns : List (List Node)} {i m t place u end : ℕ} → MovesTo columns i m t place
     → MovesTo columns t place u end → MovesTo columns i m u end
 moves_both first Stays = first
 moves_both first (Moves t from landing more lands) = Moves t from landing (moves_both first more) lands
 
--- past the end of a column a place lands past the end of the next
+-- an index past the end of a column lands at the end of the next column
 landing_past : (left right : List Node) (from : ℕ) → length left ≤ from → IsLanding left right from (length right)
 landing_past left right from l = record {
   within = omega arith;
@@ -24,7 +24,7 @@ landing_past left right from l = record {
   least = λ k w j le c. let b = edge_begins_within c in omega (arith, b, le, l);
 }
 
--- and so it does some columns further
+-- the same several columns further
 past_by : (columns : List (List Node)) (i m d : ℕ) → length (nodes_at columns i) ≤ m
     → MovesTo columns i m (i + d + 1) (length (nodes_at columns (i + d + 1)))
 past_by columns i m zero l =
@@ -35,7 +35,7 @@ past_by columns i m (suc d) l =
     (Moves (i + d + 1) _ _ (past_by columns i m d l)
     (landing_past (nodes_at columns (i + d + 1)) (nodes_at columns (i + d + 1 + 1)) (length (nodes_at columns (i + d + 1))) (omega arith)))
 
--- a place past the end of its column, a step further
+-- an index past the end of its column, one step further
 pub moves_past : (columns : List (List Node)) (i m step : ℕ) → 0 < step → length (nodes_at columns i) ≤ m
     → MovesTo columns i m (i + step) (length (nodes_at columns (i + step)))
 moves_past columns i m zero w l = absurd (omega (arith, w))
@@ -50,12 +50,11 @@ table_of_landings columns i table h = record {
   moves = λ m w. Moves i m (get_or table m 0) Stays (h.each m (let e = h.whole in omega (arith, w, e)));
 }
 
--- the first tables, one for each column up to i
+-- the tables of the columns before i
 pub record HasTables (columns : List (List Node)) (step : ℕ) (tables : List (List ℕ)) (i : ℕ) : Type 0 where
   pub whole : length tables ≡ i
   pub each : (n : ℕ) → n < i → IsJumpTable columns step n (get_or tables n [])
 
--- one table more
 pub one_more_table : (columns : List (List Node)) (step : ℕ) (tables more : List (List ℕ)) (table : List ℕ) (i : ℕ)
     → HasTables columns step tables i → IsJumpTable columns step i table → more ≡ tables ++ table ∷ []
     → HasTables columns step more (i + 1)
@@ -71,11 +70,11 @@ one_more_table columns step tables more table i h new e =
       ];
     })
 
--- the first places of a table, up to n
+-- the first n entries of a table
 abbrev pub HasMoves : List (List Node) → ℕ → ℕ → List ℕ → ℕ → Type 0
 HasMoves columns i t table n = (length table ≡ n) × ((m : ℕ) → m < n → MovesTo columns i m t (get_or table m 0))
 
--- one place more
+-- one more entry
 pub one_more_move : (columns : List (List Node)) (i t : ℕ) (table more : List ℕ) (place n : ℕ)
     → HasMoves columns i t table n → MovesTo columns i n t place → more ≡ table ++ place ∷ [] → HasMoves columns i t more (n + 1)
 one_more_move columns i t table more place n h new e = subst (λ l. HasMoves columns i t l (n + 1)) (sym e) (
@@ -88,19 +87,18 @@ one_more_move columns i t table more place n h new e = subst (λ l. HasMoves col
   ],
 )
 
--- levels so far, with the jumps that come next
+-- the levels so far, and the next jumps
 pub record HasLevels (columns : List (List Node)) (levels : List Jumps) (next : Jumps) : Type 0 where
   pub single : (d : Jumps) → (get_or (levels ++ next ∷ []) 0 d).step ≡ 1
   pub coming : AreJumps columns next
   pub each : All (AreJumps columns) levels
 
--- no level yet
+-- before the first level
 pub no_levels : (columns : List (List Node)) (levels : List Jumps) (next : Jumps) → levels ≡ [] → next.step ≡ 1
     → AreJumps columns next → HasLevels columns levels next
 no_levels columns levels next e single h = subst (λ ls. HasLevels columns ls next) (sym e)
     (record { single = λ d. single; coming = h; each = λ k d w. absurd (omega (arith, w)) })
 
--- one level more
 pub one_more_level : (columns : List (List Node)) (levels more : List Jumps) (last next : Jumps) → HasLevels columns levels last
     → more ≡ levels ++ last ∷ [] → AreJumps columns next → HasLevels columns more next
 one_more_level columns levels more last next h e jumps = subst (λ ls. HasLevels columns ls next) (sym e) (record {
@@ -119,7 +117,7 @@ all_levels columns levels more last h e = subst (AreLevels columns) (sym e) (rec
   each = All-push (AreJumps columns) levels last h.each h.coming;
 })
 
--- the table of a column, as an index reads it
+-- the table of a column, as the index expression reads it
 pub table_at : (columns : List (List Node)) (jumps : Jumps) (tables : List (List ℕ)) (i : ℕ) (table : List ℕ)
     → AreJumps columns jumps → tables ≡ jumps.tables → i + jumps.step < length columns → table ≡ get_or tables i table
     → IsJumpTable columns jumps.step i table
@@ -129,7 +127,7 @@ table_at columns jumps tables i table h e w is =
     subst (IsJumpTable columns jumps.step i)
     (get_or_default jumps.tables i [] table within ∙ (ap (λ ts. get_or ts i table) (sym e) ∙ sym is)) (h.each i within)
 
--- a step from where a step comes
+-- one step after another
 pub twice_moved : (columns : List (List Node)) (step i m end : ℕ) (table once : List ℕ) → IsJumpTable columns step i table
     → once ≡ table → m < length once → MovesTo columns (i + step) (get_or once m 0) (i + step + step) end
     → MovesTo columns i m (i + (step + step)) end
@@ -138,12 +136,12 @@ twice_moved columns step i m end table once h e w more =
     rw e (h.moves m (omega (arith, w, ap length e))) in
     subst (λ t. MovesTo columns i m t end) (omega arith) (moves_both first more)
 
--- the step of a level, as an index reads it
+-- the step of a level, as the index expression reads it
 pub step_at : (levels : List Jumps) (k : ℕ) (jumps d : Jumps) → k < length levels → jumps ≡ get_or levels k jumps
     → (get_or levels k d).step ≡ jumps.step
 step_at levels k jumps d w is = ap (λ (j : Jumps). j.step) (get_or_default levels k d jumps w ∙ sym is)
 
--- after the level of single columns the place is in the column that is asked for
+-- after the level of single columns the index is in the target column
 pub at_the_end : (columns : List (List Node)) (levels : List Jumps) (from place column front to k : ℕ)
     → AreLevels columns levels → k ≡ 0 → column ≤ to
     → ((d : Jumps) → k < length levels → to < column + (get_or levels k d).step)

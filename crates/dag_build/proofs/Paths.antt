@@ -1,4 +1,4 @@
--- What an instance leads to in a column: all from a place on, and how that place moves to the next column.
+-- Which instances of a column an instance leads to: all from an index on; and how that index moves to the next column.
 use Rattle.std.proofs.Common.{◌≡◌, ℕ, zero, suc, ◌+◌, ◌-◌, ◌<◌, ◌≤◌, List, length, inl, inr, refl, sym, ap, subst, arith}
 use Rattle.std.proofs.lemmas.Bool.{cases_lt, cases_order}
 use Rattle.pipe_model.specs.declared.node.Node.{Node}
@@ -9,19 +9,18 @@ use Rattle.dag_build.proofs.Crossings.{edge_begins_within}
 use Rattle.dag_build.specs.AccessFronts.{LeadsTo, LeadsFrom}
 use Rattle.dag_build.specs.Landings.{IsLanding, MovesTo, Stays, Moves}
 
--- in column i, x leads to what stands at place m or past it, and to nothing before it
+-- in column i, x leads exactly to the instances from index m on
 pub record ReachesFrom (columns : List (List Node)) (x : NodeId) (i m : ℕ) : Type 0 where
   pub leads : LeadsFrom columns x i m
   pub only : (k : ℕ) → LeadsTo columns x (at i k) → m ≤ k
 
--- one edge more
 one_more : (columns : List (List Node)) (x y z : NodeId) → LeadsTo columns x y → Edge columns y z → Precedes columns x z
 one_more columns x y z h e = elim h [
   | inl same ↦ ByEdge (subst (λ w. Edge columns w z) (sym same) e)
   | inr p ↦ ByPath p e
 ]
 
--- y is behind x in its column, or in a later column
+-- y is after x in the column of x, or in a later column
 pub record IsForward (x y : NodeId) : Type 0 where
   pub column : x.iteration ≤ y.iteration
   pub place : x.iteration ≡ y.iteration → x.index < y.index
@@ -31,7 +30,7 @@ forward_edge : {columns : List (List Node)} {x y : NodeId} → Edge columns x y 
 forward_edge (DownEdge i k h) = record { column = omega arith; place = λ e. omega arith }
 forward_edge (AcrossEdge i j k c) = record { column = omega arith; place = λ e. absurd (omega (arith, e)) }
 
--- forward and forward again
+-- two forward steps are one
 forward_both : (x y z : NodeId) → IsForward x y → IsForward y z → IsForward x z
 forward_both x y z f g =
     let a = f.column in
@@ -49,7 +48,7 @@ pub forward : {columns : List (List Node)} {x y : NodeId} → Precedes columns x
 forward (ByEdge e) = forward_edge e
 forward (ByPath {x} {y} {z} p e) = forward_both x y z (forward p) (forward_edge e)
 
--- what leads to a place leads to the one d further down
+-- an instance that leads to an index leads to the one d further down
 down_by : (columns : List (List Node)) (x : NodeId) (i m : ℕ) → LeadsTo columns x (at i m) → (d : ℕ)
     → m + d < length (nodes_at columns i) → LeadsTo columns x (at i (m + d))
 down_by columns x i m h zero l = subst (λ k. LeadsTo columns x (at i k)) (omega arith) h
@@ -58,17 +57,17 @@ down_by columns x i m h (suc d) l =
     (inr (one_more columns x (at i (m + d)) (at i (m + d + 1)) (down_by columns x i m h d (omega arith))
     (DownEdge i (m + d) (omega arith))))
 
--- what leads to a place leads to all further down
+-- an instance that leads to an index leads to all further down
 down_from : (columns : List (List Node)) (x : NodeId) (i m : ℕ) → LeadsTo columns x (at i m) → LeadsFrom columns x i m
 down_from columns x i m h = record {
   reached = λ k l w. subst (λ j. LeadsTo columns x (at i j)) (omega arith) (down_by columns x i m h (k - m) (omega arith));
 }
 
--- an instance leads from itself on
+-- an instance leads to itself and to all after it
 pub leads_from_itself : (columns : List (List Node)) (i m : ℕ) → LeadsFrom columns (at i m) i m
 leads_from_itself columns i m = down_from columns (at i m) i m (inl refl)
 
--- in its column its front is itself
+-- in its own column the front of an instance is its index
 front_of_itself : (columns : List (List Node)) (i m : ℕ) → ReachesFrom columns (at i m) i m
 front_of_itself columns i m = record {
   leads = leads_from_itself columns i m;
@@ -78,7 +77,7 @@ front_of_itself columns i m = record {
   ];
 }
 
--- what leads from a place on leads, in the next column, from its landing on
+-- an instance that leads from an index on leads, in the next column, from the landing on
 leads_from_landing : (columns : List (List Node)) (x : NodeId) (i m landing : ℕ) → LeadsFrom columns x i m
     → IsLanding (nodes_at columns i) (nodes_at columns (i + 1)) m landing → LeadsFrom columns x (i + 1) landing
 leads_from_landing columns x i m landing leads lands = record {
@@ -89,14 +88,14 @@ leads_from_landing columns x i m landing leads lands = record {
       (down_from columns x (i + 1) landing first).reached k l w);
 }
 
--- what leads from a place on leads from where that place comes on
+-- an instance that leads from an index on leads, in a later column, from the index to which that moves
 pub leads_moved : (columns : List (List Node)) (x : NodeId) {i m t place : ℕ} → LeadsFrom columns x i m
     → MovesTo columns i m t place → LeadsFrom columns x t place
 leads_moved columns x leads Stays = leads
 leads_moved columns x leads (Moves t from landing moves lands) =
     leads_from_landing columns x t from landing (leads_moved columns x leads moves) lands
 
--- what x leads to by an edge from y, in the column after i, is not before the landing
+-- an edge from y into the column after i, where x leads to y, ends at the landing or later
 edge_lands : {columns : List (List Node)} {y z : NodeId} (x : NodeId) (i m landing : ℕ) → Edge columns y z
     → LeadsTo columns x y → x.iteration ≤ i → ReachesFrom columns x i m
     → IsLanding (nodes_at columns i) (nodes_at columns (i + 1)) m landing
@@ -114,7 +113,7 @@ edge_lands {columns} x i m landing (AcrossEdge t j k c) leads before front lands
     let reached : m ≤ j = front.only j (subst (λ n. LeadsTo columns x (at n j)) s leads) in
     elim (cases_lt k landing) [ inl less ↦ absurd (lands.least k less j reached c') | inr ok ↦ ok ]
 
--- what x leads to by a path, in the column after i, is not before the landing
+-- a path from x into the column after i ends at the landing or later
 path_lands : {columns : List (List Node)} {x z : NodeId} (i m landing : ℕ) → Precedes columns x z → x.iteration ≤ i
     → ReachesFrom columns x i m → IsLanding (nodes_at columns i) (nodes_at columns (i + 1)) m landing
     → z.iteration ≡ i + 1 → landing ≤ z.index
@@ -123,7 +122,7 @@ path_lands {columns} {x} i m landing (ByEdge e) before front lands =
 path_lands {columns} {x} i m landing (ByPath p e) before front lands =
     edge_lands x i m landing e (inr p) before front lands (λ q. path_lands i m landing p before front lands)
 
--- the front in the next column is where it lands
+-- the front in the next column is the landing of the front
 front_lands : (columns : List (List Node)) (x : NodeId) (i m landing : ℕ) → x.iteration ≤ i → ReachesFrom columns x i m
     → IsLanding (nodes_at columns i) (nodes_at columns (i + 1)) m landing → ReachesFrom columns x (i + 1) landing
 front_lands columns x i m landing before front lands = record {
@@ -136,23 +135,23 @@ front_lands columns x i m landing before front lands = record {
   ];
 }
 
--- a place moves forward
+-- an index moves to no earlier column
 moves_forward : {columns : List (List Node)} {i m t place : ℕ} → MovesTo columns i m t place → i ≤ t
 moves_forward Stays = omega arith
 moves_forward (Moves t from landing moves lands) = let h = moves_forward moves in omega (arith, h)
 
--- the front of an instance is where its place comes
+-- the front of an instance is the index to which its own index moves
 pub front_moved : (columns : List (List Node)) {i m t place : ℕ} → MovesTo columns i m t place
     → ReachesFrom columns (at i m) t place
 front_moved columns {i} {m} Stays = front_of_itself columns i m
 front_moved columns {i} {m} (Moves t from landing moves lands) =
     front_lands columns (at i m) t from landing (moves_forward moves) (front_moved columns moves) lands
 
--- what is not y and leads to y precedes it
+-- an instance that leads to another one precedes it
 not_itself : (columns : List (List Node)) (x y : NodeId) → (x ≡ y → ⊥) → LeadsTo columns x y → Precedes columns x y
 not_itself columns x y h l = elim l [ inl e ↦ absurd (h e) | inr p ↦ p ]
 
--- the front in a later column decides what is preceded there
+-- an instance of a later column is preceded if it is at the front or after it
 pub precedes_from_front : (columns : List (List Node)) (x y : NodeId) (m : ℕ) → x.iteration < y.iteration
     → ReachesFrom columns x y.iteration m → y.index < length (nodes_at columns y.iteration) → m ≤ y.index
     → Precedes columns x y
@@ -161,12 +160,12 @@ precedes_from_front columns x y m before front w l =
     (λ e. let q : x.iteration ≡ y.iteration = ap (λ (n : NodeId). n.iteration) e in omega (arith, q, before))
     (front.leads.reached y.index l w)
 
--- and only that
+-- and only then
 pub front_from_precedes : (columns : List (List Node)) (x y : NodeId) (m : ℕ) → ReachesFrom columns x y.iteration m
     → Precedes columns x y → m ≤ y.index
 front_from_precedes columns x y m front p = front.only y.index (inr p)
 
--- in one column the places decide
+-- in one column the indices decide
 pub precedes_in_column : (columns : List (List Node)) (x y : NodeId) → x.iteration ≡ y.iteration
     → y.index < length (nodes_at columns y.iteration) → x.index < y.index → Precedes columns x y
 precedes_in_column columns x y same w l =

@@ -1,4 +1,4 @@
--- Races among the accesses to one cell, by the places of the accesses.
+-- Races among the accesses to one cell, by the indices of the accesses.
 use Rattle.std.proofs.Common.{◌≡◌, ℕ, List, ◌<◌, length, get_or, arith}
 use Rattle.std.proofs.lemmas.List.{get_or-map, length-map}
 use Rattle.pipe_model.specs.declared.access.AccessKind.TheVariants.{Read}
@@ -9,24 +9,23 @@ use Rattle.pipe_model.specs.Races.Columns.{at}
 use Rattle.pipe_model.specs.Races.Dag.{AreParallel}
 use Rattle.dag_build.specs.RacingAccesses.{AreRacing, noted_all}
 
--- an access as it is noted
 abbrev pub noted_of : NodeAccess → NotedAccess
 noted_of a = noted_access a.node a.access.kind
 
--- the access at a place as it is noted
+-- the noted access at an index
 pub noted_at : (xs : List NodeAccess) (k : ℕ) (d : NodeAccess) → k < length xs
     → access_at (noted_all xs) k ≡ noted_of (get_or xs k d)
 noted_at xs k d w = get_or-map (λ (a : NodeAccess). noted_access a.node a.access.kind) xs k d (noted_access (at 0 0) Read) w
 
--- there are as many
+-- noting keeps the number of accesses
 pub length-noted_all : (xs : List NodeAccess) → length (noted_all xs) ≡ length xs
 length-noted_all xs = length-map xs (λ (a : NodeAccess). noted_access a.node a.access.kind)
 
--- the accesses at two places race
+-- two noted accesses race
 abbrev NotedRace : List (List Node) → NotedAccess → NotedAccess → Type 0
 NotedRace columns a b = KindsConflict a.kind b.kind × AreParallel columns a.who b.who
 
--- places of a race have accesses that race
+-- the accesses at the indices of a race are racing
 pub racing_at : (columns : List (List Node)) (xs : List NodeAccess) (n k : ℕ) (d e : NodeAccess)
     → RacesAt columns (noted_all xs) n k → AreRacing columns (get_or xs k d) (get_or xs n e)
 racing_at columns xs n k d e r =

@@ -22,12 +22,12 @@ access_to c = record { node = record { iteration = 0; index = 0 }; access = reco
 is_tied : ℕ → ℕ → Bool
 is_tied a b = not (is_lt (nat_cmp a b)) && not (is_lt (nat_cmp b a))
 
--- that is, they are the same
+-- such cells are the same
 tied_is_same : (a b : ℕ) → eqb b a ≡ is_tied a b
 unfolding is_tied
 tied_is_same a b = grind (arith, nat_tests)
 
--- accesses_to_filtered, by the two tests
+-- the proof of `accesses_to-filter` by cases on the two tests
 filtered_by : (t u : Bool) (x : NodeAccess) (noted : List NotedAccess) (xs : List NodeAccess) → t ≡ u → noted ≡ noted_all xs
     → cond t (noted_of x ∷ noted) noted ≡ noted_all (cond u (x ∷ xs) xs)
 filtered_by true true x noted xs e h = ap (λ l. noted_of x ∷ l) h
@@ -49,7 +49,7 @@ unfolding is_tied access_to
 accesses_to-stable xs ys stable c =
     accesses_to-filter c ys ∙ (ap noted_all (stable (access_to c)) ∙ sym (accesses_to-filter c xs))
 
--- the first races depend on the accesses to each cell alone
+-- the first races depend only on the accesses to each cell
 pub first_races_of_same : (columns : List (List Node)) (xs ys : List NodeAccess) (reports : List Report)
     → ((c : ℕ) → accesses_to c ys ≡ accesses_to c xs) → AreFirstRaces columns ys reports → AreFirstRaces columns xs reports
 first_races_of_same columns xs ys reports same h = record {

@@ -1,4 +1,4 @@
--- The columns that a dag is made of: lists of instances whose stage numbers rise (Lee et al. 2013).
+-- The columns of which a dag is made: lists of instances whose stage numbers rise (Lee et al. 2013).
 use Rattle.std.specs.Prelude.{ℕ, List, map}
 use Rattle.pipe_model.specs.declared.access.NodeAccess.{NodeAccess}
 use Rattle.pipe_model.specs.declared.column.Column.{Column}
@@ -13,6 +13,6 @@ node_columns columns = map (λ c. c.nodes) columns
 pub record AreRising (columns : List (List Node)) : Type 0 where
   pub each : (i : ℕ) → IsRising (nodes_at columns i)
 
--- the instance that made the access is one of the columns
+-- the access was made by an instance of the columns
 abbrev pub IsAccessOf : List (List Node) → NodeAccess → Type 0
 IsAccessOf columns a = IsNodeOf columns a.node

@@ -10,11 +10,11 @@ use Rattle.pipe_model.specs.Races.FirstRaces.{RacesWithNone}
 abbrev pub noted_all : List NodeAccess → List NotedAccess
 noted_all accesses = map (λ a. noted_access a.node a.access.kind) accesses
 
--- no two of these accesses to one cell race
+-- no two of these accesses, all to one cell, race
 abbrev pub CellHasNoRace : List (List Node) → List NotedAccess → Type 0
 CellHasNoRace columns accesses = (later : ℕ) → RacesWithNone columns accesses later
 
--- the two accesses, of one cell, race
+-- the two accesses to one cell race
 pub record AreRacing (columns : List (List Node)) (a b : NodeAccess) : Type 0 where
   pub conflict : KindsConflict a.access.kind b.access.kind
   pub parallel : AreParallel columns a.node b.node

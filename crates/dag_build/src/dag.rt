@@ -1,4 +1,4 @@
-//! The dag of columns, with the jumps that answer which instances precede which.
+//! The dag of columns, with jumps that decide which instances precede which.
 
 ghost use Rattle.std.specs.Prelude.{◌≡◌, ◌<◌, ◌≤◌, ◌+◌, ◌↔◌, length, IfOk, IsTrue};
 ghost use Rattle.pipe_model.specs.Races.Columns.{nodes_at, IsNodeOf};
@@ -46,8 +46,9 @@ fn copied_columns(alloc: Global, columns: &[Column]) -> Result<ListOf<Nodes>, No
 }
 
 impl Dag {
-    /// The dag of the columns, whose stage numbers rise. Fails only for want of memory, of which it
-    /// takes a word for each instance and each doubling of the number of columns.
+    /// Returns the dag of the columns, whose stage numbers must rise. The dag takes one word for
+    /// each instance and each doubling of the number of columns. Returns an error only if memory
+    /// runs out.
     pub fn of(alloc: Global, columns: &Columns) -> Result<Dag, NoMemory>
         requires { AreRising (node_columns columns.now) }
         ensures { IfOk result (λ dag. dag ≡ node_columns columns.now) }
@@ -57,15 +58,15 @@ impl Dag {
         Ok(Dag { columns, levels })
     }
 
-    /// The instances of column `i`, none past the last column.
+    /// Returns the instances of column `i`; none if there is no such column.
     pub(crate) fn nodes(&self, i: usize) -> &[Node]
         ensures { result.now ≡ nodes_at self.now i }
     {
         nodes_of(self.columns.as_slice(), i)
     }
 
-    /// Where a place of column `from` comes in column `to`: what it and the places past it lead to
-    /// there is all from that place on.
+    /// Returns the first index of column `to` that is reachable from index `place` or a later index
+    /// of column `from`; the length of column `to` if there is none.
     pub(crate) fn moved(&self, from: usize, place: usize, to: usize) -> usize
         requires order { from ≤ to }
         requires within { to < length self.now }
@@ -81,8 +82,8 @@ impl Dag {
         front
     }
 
-    /// Whether a path of at least one edge leads from `a` to `b`, both instances of the columns. It
-    /// takes a look-up or two for each doubling of the number of columns.
+    /// Returns whether a path of at least one edge leads from `a` to `b`. Takes one or two look-ups
+    /// for each doubling of the number of columns.
     pub fn precedes(&self, a: NodeId, b: NodeId) -> bool
         requires a_in { IsNodeOf self.now a }
         requires b_in { IsNodeOf self.now b }

@@ -1,4 +1,4 @@
-//! Fronts of accesses, by which an access is compared with all earlier ones at once.
+//! Fronts of accesses: an access is compared with all earlier ones at once.
 
 ghost use Rattle.std.specs.Prelude.{◌≡◌, ◌<◌, ◌≤◌, length};
 ghost use Rattle.dag_build.specs.AccessFronts.{front_for, joined_fronts};
@@ -7,8 +7,8 @@ ghost use Rattle.dag_build.specs.Landings.{MovesTo};
 use crate::dag::Dag;
 use pipe_model::access::AccessKind;
 
-/// In a column, a place such that all earlier writes lead to what stands there or past it, and one
-/// such that all earlier accesses do.
+/// In a column, an index such that all earlier writes lead to every instance from it on, and an
+/// index such that all earlier accesses do.
 #[derive(Clone, Copy)]
 pub struct Fronts {
     pub column: usize,
@@ -17,7 +17,7 @@ pub struct Fronts {
 }
 
 impl Fronts {
-    /// The front of the accesses that an access of this kind conflicts with.
+    /// Returns the front of the accesses that conflict with an access of this kind.
     pub fn front_for(self, kind: AccessKind) -> usize
         ensures { result ≡ front_for self kind }
     {
@@ -27,7 +27,8 @@ impl Fronts {
         }
     }
 
-    /// The fronts with one more access of this kind, whose own front in the column is `here`.
+    /// Returns the fronts with one more access of this kind, whose own front in the column is
+    /// `here`.
     pub fn joined(self, kind: AccessKind, here: usize) -> Fronts
         ensures { result ≡ joined_fronts self kind here }
     {
@@ -42,7 +43,7 @@ impl Fronts {
         }
     }
 
-    /// The fronts in column `to`.
+    /// Returns the fronts in column `to`, which must not be an earlier column.
     pub fn moved(self, dag: &Dag, to: usize) -> Fronts
         requires order { self.column ≤ to }
         requires within { to < length dag.now }

@@ -1,4 +1,5 @@
-//! Jumps: where the places of a column come several columns further, so that a long way takes few look-ups.
+//! Jumps: tables that move the indices of a column several columns further, so that a long way
+//! takes few look-ups.
 
 ghost use Rattle.std.specs.Prelude.{◌≡◌, ◌+◌, ◌<◌, ◌≤◌, IfOk, length};
 ghost use Rattle.pipe_model.specs.Races.Columns.{nodes_at};
@@ -11,14 +12,15 @@ use pipe_model::memory::NoMemory;
 use pipe_model::node::{Node, Nodes};
 use std::alloc::Global;
 
-/// For each column that has one `step` columns further, where its places come there.
+/// For each column that has another `step` columns further, the indices to which its own move
+/// there.
 #[derive(Drop)]
 pub struct Jumps {
     pub step: usize,
     pub tables: ListOf<ListOf<usize>>,
 }
 
-/// The instances of column `i`, none past the last column.
+/// Returns the instances of column `i`; none if there is no such column.
 pub fn nodes_of(columns: &[Nodes], i: usize) -> &[Node]
     ensures { result.now ≡ nodes_at columns.now i }
 {
@@ -28,7 +30,7 @@ pub fn nodes_of(columns: &[Nodes], i: usize) -> &[Node]
     }
 }
 
-// Where a place of column `i` comes one step further.
+// The index to which an index of column `i` moves one step further.
 fn jump(columns: &[Nodes], jumps: &Jumps, i: usize, place: usize) -> usize
     requires jumps { AreJumps columns.now jumps.now }
     requires within { i + jumps.now.step < length columns.now }
@@ -41,8 +43,8 @@ fn jump(columns: &[Nodes], jumps: &Jumps, i: usize, place: usize) -> usize
     }
 }
 
-/// A place of column `from` moved in these steps as near to column `to` as they lead: the column
-/// where it comes, and the place there.
+/// Moves an index of column `from` in steps of these jumps as near to column `to` as they lead.
+/// Returns the column that is reached, and the index there.
 pub fn jumped(
     columns: &[Nodes],
     jumps: &Jumps,
@@ -81,7 +83,7 @@ fn single_jumps(alloc: Global, columns: &[Nodes]) -> Result<Jumps, NoMemory>
     Ok(Jumps { step: 1, tables })
 }
 
-// Where the places of column `i` come two steps further.
+// The table of column `i` for two steps.
 fn doubled_table(
     alloc: Global,
     columns: &[Nodes],
@@ -100,7 +102,7 @@ fn doubled_table(
     Ok(twice)
 }
 
-// The jumps of two steps.
+// The jumps of twice the step.
 fn doubled(alloc: Global, columns: &[Nodes], jumps: &Jumps) -> Result<Jumps, NoMemory>
     requires jumps { AreJumps columns.now jumps.now }
     requires within { jumps.now.step + jumps.now.step ≤ length columns.now }
@@ -116,7 +118,7 @@ fn doubled(alloc: Global, columns: &[Nodes], jumps: &Jumps) -> Result<Jumps, NoM
     Ok(Jumps { step, tables })
 }
 
-/// The jumps of 1, 2, 4 columns and so on.
+/// Returns the jumps of 1, 2, 4 columns and so on. Returns an error only if memory runs out.
 pub fn levels(alloc: Global, columns: &[Nodes]) -> Result<ListOf<Jumps>, NoMemory>
     requires { AreRising columns.now }
     ensures { IfOk result (λ levels. AreLevels columns.now levels) }

@@ -1,5 +1,5 @@
-//! Landings: the least place of the next column that an edge from a place of a column, or from a
-//! later one, leads to.
+//! Landings: the least index of the next column to which an edge leads from an index of a column or
+//! from a later index.
 
 ghost use Rattle.std.specs.Prelude.{ℕ, ◌<◌, ◌≤◌, length, IfOk};
 ghost use Rattle.std.specs.Bool.{OnTrue, OnFalse};
@@ -11,7 +11,8 @@ use pipe_model::memory::NoMemory;
 use pipe_model::node::{Kind, Node};
 use std::alloc::Global;
 
-// Whether an edge leads from place `from` of the left column, or a later one, to place `k` of the right one.
+// Whether an edge leads from index `from` or a later index of the left column to index `k` of the
+// right column.
 fn is_crossed(left: &[Node], right: &[Node], from: usize, k: usize) -> bool
     requires from_in { from < length left.now }
     requires k_in { k < length right.now }
@@ -33,7 +34,7 @@ fn is_crossed(left: &[Node], right: &[Node], from: usize, k: usize) -> bool
     }
 }
 
-// The landing of place `from`, where no edge from there or later leads to a place before `start`.
+// The landing of index `from`, if no edge from there or later leads to an index before `start`.
 fn landing_from(left: &[Node], right: &[Node], from: usize, start: usize) -> usize
     requires from_in { from < length left.now }
     requires start_in { start ≤ length right.now }
@@ -49,8 +50,8 @@ fn landing_from(left: &[Node], right: &[Node], from: usize, start: usize) -> usi
     right.len()
 }
 
-/// The landings of all places of the left column. They do not fall, so that both columns are gone
-/// through once.
+/// Returns the landings of all indices of the left column. They do not decrease, so each column is
+/// read once. Returns an error only if memory runs out.
 pub fn landings(alloc: Global, left: &[Node], right: &[Node]) -> Result<ListOf<usize>, NoMemory>
     requires { IsRising left.now }
     ensures { IfOk result (λ table. AreLandings left.now right.now table) }

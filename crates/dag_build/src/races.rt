@@ -24,7 +24,7 @@ use pipe_model::node::NodeId;
 use pipe_model::report::{Report, Reports};
 use std::alloc::Global;
 
-// Whether two accesses of one cell conflict: not where both read.
+// Whether two accesses to one cell conflict: not if both read.
 fn kinds_conflict(a: AccessKind, b: AccessKind) -> bool
     ensures yes { OnTrue result (KindsConflict a b) }
     ensures no { OnFalse result (KindsConflict a b → ⊥) }
@@ -35,7 +35,7 @@ fn kinds_conflict(a: AccessKind, b: AccessKind) -> bool
     }
 }
 
-// How many accesses from the front on are to this cell.
+// The number of leading accesses to this cell.
 fn leading(accesses: &[NodeAccess], cell: CellId) -> usize
     ensures { result ≡ prefix_len (λ a. a.access.cell.0 == cell.0) accesses.now }
 {
@@ -59,7 +59,7 @@ impl Dag {
         !self.precedes(a, b) && !self.precedes(b, a)
     }
 
-    // Whether two accesses of one cell race.
+    // Whether two accesses to one cell race.
     fn are_racing(&self, a: &NodeAccess, b: &NodeAccess) -> bool
         requires a_in { IsAccessOf self.now a.now }
         requires b_in { IsAccessOf self.now b.now }
@@ -69,7 +69,7 @@ impl Dag {
         kinds_conflict(a.access.kind, b.access.kind) && self.are_parallel(a.node, b.node)
     }
 
-    // The first access before access `later` that races with it, of accesses to one cell.
+    // The first access before access `later` that races with it; all accesses are to one cell.
     fn race_with(&self, accesses: &[NodeAccess], later: usize) -> Option<usize>
         requires inside { All (IsAccessOf self.now) accesses.now }
         requires within { later < length accesses.now }
@@ -86,7 +86,7 @@ impl Dag {
         None
     }
 
-    // The same, where the fronts of the accesses before `later` are known in its column or a later one.
+    // The same, given the fronts of the accesses before `later`, in its column or a later one.
     fn race_behind(&self, fronts: Fronts, accesses: &[NodeAccess], later: usize) -> Option<usize>
         requires inside { All (IsAccessOf self.now) accesses.now }
         requires within { later < length accesses.now }
@@ -105,7 +105,7 @@ impl Dag {
         self.race_with(accesses, later)
     }
 
-    // The places of the first race among the accesses to one cell, the earlier access first.
+    // The indices of the first race among the accesses to one cell, the earlier access first.
     fn first_race(&self, accesses: &[NodeAccess]) -> Option<(usize, usize)>
         requires { All (IsAccessOf self.now) accesses.now }
         ensures some { IfSome result (λ race. IsFirstRacingPair self.now (noted_all accesses.now) race.0 race.1) }
@@ -130,7 +130,6 @@ impl Dag {
         None
     }
 
-    // The stage number of an instance.
     fn number(&self, x: NodeId) -> i64
         requires { IsNodeOf self.now x }
         ensures { result ≡ number_at self.now x }
@@ -138,7 +137,6 @@ impl Dag {
         self.nodes(x.iteration as usize)[x.index as usize].number
     }
 
-    // The report of a race of two accesses to this cell.
     fn report(&self, cell: CellId, earlier: &NodeAccess, later: &NodeAccess) -> Report
         requires earlier_in { IsAccessOf self.now earlier.now }
         requires later_in { IsAccessOf self.now later.now }
@@ -168,7 +166,7 @@ impl Dag {
         Some(self.report(cell, &accesses[earlier], &accesses[later]))
     }
 
-    // The races of accesses that stand together by their cells, which rise.
+    // The first races of accesses that are sorted by cell.
     fn races_by_cell(&self, alloc: Global, accesses: &[NodeAccess]) -> Result<Reports, NoMemory>
         requires inside { All (IsAccessOf self.now) accesses.now }
         requires sorted { IsNonDecreasingBy (λ a. a.access.cell.0) accesses.now }
@@ -187,10 +185,10 @@ impl Dag {
         Ok(reports)
     }
 
-    /// The determinacy races of the accesses, which instances of the columns have made: one report for
-    /// each cell that has some, rising by cell, with
-    /// the first access that conflicts with an earlier access of a parallel instance, and the first
-    /// such earlier access. Fails only for want of memory.
+    /// Returns the determinacy races of the accesses, which instances of the columns must have
+    /// made: one report for each cell that has a race, rising by cell. A report names the first
+    /// access that conflicts with an earlier access of a parallel instance, and the first such
+    /// earlier access. Returns an error only if memory runs out.
     pub fn races(&self, alloc: Global, accesses: &NodeAccesses) -> Result<Reports, NoMemory>
         requires { All (IsAccessOf self.now) accesses.now }
         ensures { IfOk result (λ reports. AreFirstRaces self.now accesses.now reports) }

@@ -14,7 +14,7 @@ use pipe_model::report::Report;
 use std::alloc::Global;
 use std::test::Fail;
 
-// Whether the number at place `k` is above all before it.
+// Whether the number at index `k` is above all numbers before it.
 fn is_above(nodes: &[Node], k: usize) -> bool
     requires { k < length nodes.now }
     ensures { OnTrue result ((j : ℕ) → j < k → (node_at nodes.now j).number <ℤ (node_at nodes.now k).number) }
@@ -86,8 +86,8 @@ fn columns(rt: &HostRuntime, lists: &[&[Node]]) -> Result<ListOf<Column>, Fail> 
     Ok(columns)
 }
 
-// Edges down each column and between the heads; 3 and 4 of the second column wait for 2 of the first, of which the latter
-// edge is redundant; 6 of the third waits for 4 of the second.
+// Edges down each column and between the heads; 3 and 4 of the second column wait for 2 of the
+// first, and the edge to 4 is redundant; 6 of the third waits for 4 of the second.
 fn drawn(rt: &HostRuntime) -> Result<ListOf<Column>, Fail> {
     let (zero, wait, skip) = (Kind::Zero, Kind::Wait, Kind::Continue);
     columns(
@@ -113,7 +113,7 @@ const PLACES: [(u32, u32); 10] = [
     (2, 2),
 ];
 
-// Which of the places a place precedes.
+// Which instances of `PLACES` each of them precedes.
 const PRECEDES: [&[u8; 10]; 10] = [
     b"0111111111",
     b"0010111001",
@@ -151,7 +151,7 @@ const ACCESSES: [(u32, u32, u32, AccessKind); 15] = [
     (1, 0, 6, AccessKind::Read),
     (0, 1, 7, AccessKind::Read),
     (1, 1, 7, AccessKind::Read),
-    // A race: with the read, since the write before it is ordered; the later race is left out.
+    // A race: with the read, since the write before it is ordered; the later race is not reported.
     (0, 0, 5, AccessKind::Write),
     (0, 1, 5, AccessKind::Read),
     (1, 1, 5, AccessKind::Write),
@@ -161,7 +161,8 @@ const ACCESSES: [(u32, u32, u32, AccessKind); 15] = [
     (0, 1, 1, AccessKind::Write),
     (1, 1, 1, AccessKind::Read),
     (1, 1, 1, AccessKind::Write),
-    // Out of order: an access of an earlier instance first does not race, that of a parallel one does.
+    // Not in the order of the dag: the first access of an earlier instance does not race, that of a
+    // parallel instance does.
     (1, 1, 8, AccessKind::Write),
     (0, 0, 8, AccessKind::Write),
     (0, 1, 8, AccessKind::Read),
@@ -181,8 +182,8 @@ fn accesses(alloc: Global) -> Result<ListOf<NodeAccess>, Fail> {
     Ok(accesses)
 }
 
-// A race on the cell between the last instances of the two columns, by iteration, stage number and kind, the earlier access
-// first.
+// A race on the cell between the last instances of the two columns, by iteration, stage number and
+// kind, the earlier access first.
 fn report(cell: u32, earlier: (u32, i64, AccessKind), later: (u32, i64, AccessKind)) -> Report {
     Report {
         cell: CellId(cell),

@@ -14,7 +14,7 @@ use Rattle.grammar_laws.proofs.Pieces.{flat_append}
 use Rattle.grammar_laws.proofs.ProgramFaults.{Reached, Between, Within, reached, accepted_from, completed_program}
 use Rattle.grammar_laws.proofs.ProgramFronts.{completes_end}
 
--- the symbols are those of some program
+-- the symbols derive some program
 record IsWholeProgram (ts : List Symbol) : Type 0 where
   pieces : List Piece
   tree : SyntaxTree
@@ -49,7 +49,7 @@ accepted_whole ts v =
     let a = accepted_from 256 ts [] (Outside program) (ap (λ x. judge 256 x (Outside program)) (append-nil ts) ∙ v) in
     final_whole (reached ts a.state a.runs) (final_accepted (is_final a.state) a.accepted)
 
--- a full expression among pieces that has one symbol too many
+-- some full expression of the pieces is too long
 record HasLong (longest : ℕ) (ps : List Piece) : Type 0 where
   before : List Piece
   inside : List Symbol
@@ -78,7 +78,7 @@ long_later longest p ps h = record {
   many = h.many;
 }
 
--- all full expressions are short, or one is too long
+-- all full expressions are short enough, or some full expression is too long
 short_or_long : (longest : ℕ) (ps : List Piece) → AreShort longest ps ⊎ HasLong longest ps
 short_or_long longest [] = inl tt
 short_or_long longest (Single t ∷ ps) = elim (short_or_long longest ps) [ inl a ↦ inl a | inr h ↦ inr (long_later longest (Single t) ps h) ]
@@ -88,7 +88,7 @@ short_or_long longest (FullExpression ts ∷ ps) =
       | inr l ↦ elim (short_or_long longest ps) [ inl a ↦ inl (l, a) | inr h ↦ inr (long_later longest (FullExpression ts) ps h) ]
     ]
 
--- what is accepted has none that is too long
+-- accepted symbols have no full expression that is too long
 not_long : (ts : List Symbol) → judge 256 ts (Outside program) ≡ Accepted → (w : IsWholeProgram ts) → HasLong 256 w.pieces → ⊥
 not_long ts v w h =
     let ends : EndsTooLong (flat h.before ++ h.inside) = record {
@@ -109,7 +109,7 @@ not_long ts v w h =
     let e : TooLong f.left ≡ Accepted = sym f.verdict ∙ ap (λ x. judge 256 x (Outside program)) same ∙ v in
     cc (e)
 
--- accepted symbols that never open too many brackets spell a program
+-- accepted symbols that never have too many brackets open spell a program
 pub accepted_spelled : (ts : List Symbol) → judge 256 ts (Outside program) ≡ Accepted → IsShallow ts → (p : SyntaxTree) × Spells ts p
 accepted_spelled ts v h =
     let w = accepted_whole ts v in

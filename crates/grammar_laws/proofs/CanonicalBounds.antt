@@ -1,4 +1,4 @@
--- The canonical symbols of a program are no more, and open no more brackets at a time, than any symbols that derive it.
+-- The canonical symbols of a program are at most as many as any symbols that derive it, and open at most as many brackets at a time.
 use Rattle.std.proofs.Common.{◌≡◌, ◌∙◌, ap, sym, refl, subst, ℕ, suc, ◌+◌, ◌-◌, ◌≤◌, Bool, true, false, List, [], ◌∷◌, ◌++◌, append_assoc, append-nil, length, length-append, arith, nat_le, if◌then◌else◌, ◌==◌, cond}
 use Rattle.std.specs.List.{count_by}
 use Rattle.std.proofs.lemmas.Bool.{false≢true}
@@ -15,7 +15,7 @@ use Rattle.pipe_model.specs.Language.Words.{minus, exclamation, open_round, clos
 
 -- ---- the most brackets that are open
 
--- one where the test passes
+-- 1 if the test passes, else 0
 abbrev pub ones : Bool → ℕ
 ones true = 1
 ones false = 0
@@ -24,12 +24,12 @@ ones false = 0
 abbrev pub greater : ℕ → ℕ → ℕ
 greater a b = if nat_le a b then b else a
 
--- the most brackets that are open at a point of the symbols, where so many were opened and closed before
+-- the most brackets that are open at any point of the symbols, after `opened` opening and `closed` closing brackets
 abbrev pub most_open : (opened closed : ℕ) → List Symbol → ℕ
 most_open opened closed [] = opened - closed
 most_open opened closed (t ∷ ts) = greater (opened - closed) (most_open (opened + ones (is_opening_bracket t)) (closed + ones (is_closing_bracket t)) ts)
 
--- the same where so many are open, and none is closed that was not opened
+-- the same if n brackets are open before the symbols; the count is taken bracket by bracket
 abbrev pub peak : ℕ → List Symbol → ℕ
 peak n [] = n
 peak n (t ∷ ts) = greater n (peak ((n + ones (is_opening_bracket t)) - ones (is_closing_bracket t)) ts)
@@ -51,14 +51,14 @@ pub record IsUnjoined (t : Symbol) : Type 0 where
   pub no_opening : is_opening_bracket t ≡ false
   pub no_closing : is_closing_bracket t ≡ false
 
--- an opening bracket and one that closes
+-- an opening bracket, and a closing bracket
 pub record IsPair (a b : Symbol) : Type 0 where
   pub opens : is_opening_bracket a ≡ true
   pub stays : is_closing_bracket a ≡ false
   pub ends : is_opening_bracket b ≡ false
   pub closes : is_closing_bracket b ≡ true
 
--- what each kind of symbol adds
+-- how each kind of symbol changes the peak
 peak_plain : (n : ℕ) (t : Symbol) (ts : List Symbol) → IsUnjoined t → peak n (t ∷ ts) ≡ greater n (peak n ts)
 peak_plain n t ts h = let a = h.no_opening in let b = h.no_closing in let e : (n + 0) - 0 ≡ n = omega arith in rw (a, b, e) refl
 
@@ -79,11 +79,11 @@ most_close_one o c a b ts h = let x = h.ends in let y = h.closes in let e : o + 
 
 -- ---- symbols that open no more at a time than others
 
--- what stands behind opens no more than what stands behind the others, however many were closed before
+-- `rest` never has more brackets open than `other`, however many were closed before
 abbrev pub Below : ℕ → (rest other : List Symbol) → Type 0
 Below n rest other = (c : ℕ) → peak n rest ≤ most_open (n + c) c other
 
--- before such rests, the symbols open no more than the others
+-- followed by such rests, `us` never has more brackets open than `ts`
 pub record NoDeeper (us ts : List Symbol) : Type 0 where
   pub deep : (n : ℕ) (rest other : List Symbol) → Below n rest other → Below n (us ++ rest) (ts ++ other)
 
@@ -97,7 +97,7 @@ plain_deep {us} {ts} t u p q d = record {
       (greater_both n (peak n (us ++ rest)) ((n + c) - c) (most_open (n + c) c (ts ++ other)) (omega arith) (d.deep n rest other h c));
 }
 
--- a symbol more that is no bracket
+-- another symbol, which is no bracket, before `us`
 pub front_deep : {us ts : List Symbol} (t : Symbol) → IsUnjoined t → NoDeeper us ts → NoDeeper us (t ∷ ts)
 front_deep {us} {ts} t p d = record {
   deep = λ n rest other h c.
@@ -121,7 +121,7 @@ both_deep {us} {ts} {vs} {ws} d e = record {
   deep = λ n rest other h. rw (append_assoc us vs rest, append_assoc ts ws other) (d.deep n (vs ++ rest) (ws ++ other) (e.deep n rest other h));
 }
 
--- a closing bracket before rests
+-- a closing bracket before both
 close_below : (n : ℕ) (a b : Symbol) (rest other : List Symbol) → IsPair a b → Below n rest other → Below (suc n) (b ∷ rest) (b ∷ other)
 close_below n a b rest other p h c =
     let e : suc n + c ≡ n + suc c = omega arith in
@@ -138,7 +138,7 @@ nested_deep {us} {ts} a b p d = record { deep = inside }
         rw (append_assoc us (b ∷ []) rest, append_assoc ts (b ∷ []) other, peak_open n a b (us ++ b ∷ rest) p, most_open_one (n + c) c a b (ts ++ b ∷ other) p)
         (greater_both n (peak (suc n) (us ++ b ∷ rest)) ((n + c) - c) (most_open (suc (n + c)) c (ts ++ b ∷ other)) (omega arith) (rw e i))
 
--- ---- symbols that may stand one bracket deeper
+-- ---- symbols one bracket deeper
 
 pub record Lifts (us : List Symbol) : Type 0 where
   pub lift : (n : ℕ) (rest other : List Symbol) → peak n rest ≤ peak (suc n) other → peak n (us ++ rest) ≤ peak (suc n) (us ++ other)
@@ -168,7 +168,7 @@ nested_lifts {us} a b p l = record { lift = inside }
         rw (append_assoc us (b ∷ []) rest, append_assoc us (b ∷ []) other, peak_open n a b (us ++ b ∷ rest) p, peak_open (suc n) a b (us ++ b ∷ other) p)
         (greater_both n (peak (suc n) (us ++ b ∷ rest)) (suc n) (peak (suc (suc n)) (us ++ b ∷ other)) (omega arith) (l.lift (suc n) (b ∷ rest) (b ∷ other) behind))
 
--- brackets that are left out
+-- without the outer brackets
 pub fewer_deep : {us ts : List Symbol} (a b : Symbol) → IsPair a b → Lifts us → NoDeeper us ts → NoDeeper us (a ∷ (ts ++ b ∷ []))
 fewer_deep {us} {ts} a b p l d = record { deep = inside }
   where
@@ -222,12 +222,12 @@ expression_lifts More = plain_lifts _ (record { no_opening = refl; no_closing = 
 expression_lifts Take = plain_lifts _ (record { no_opening = refl; no_closing = refl }) (nested_lifts open_round close_round round_pair none_lifts)
 expression_lifts Iter = plain_lifts _ (record { no_opening = refl; no_closing = refl }) (nested_lifts open_round close_round round_pair none_lifts)
 
--- the symbols are no more, and open no more at a time
+-- `us` has at most as many symbols as `ts`, and never more brackets open
 pub record NoMore (us ts : List Symbol) : Type 0 where
   pub few : length us ≤ length ts
   pub deep : NoDeeper us ts
 
--- the canonical symbols of an expression, where a level is needed, are no more than those that derive it
+-- the canonical symbols of an expression at a given level are at most as many as `ts`
 pub record Least (level : ℕ) (ts : List Symbol) (e : Expression) : Type 0 where
   pub own : 1 ≤ level_in e
   pub no_more : NoMore (symbols_at_level level (level_in e) (expression_symbols e)) ts
@@ -256,11 +256,11 @@ fewer_more {us} {ts} a b p l m = record {
   deep = fewer_deep a b p l m.deep;
 }
 
--- where a level is needed that the expression has
+-- no brackets are added if the expression has the needed level
 at_its_level : (needed own : ℕ) (us : List Symbol) → needed ≤ own → symbols_at_level needed own us ≡ us
 at_its_level needed own us h = let e : nat_le needed own ≡ true = grind (arith, nat_tests, h) in rw e refl
 
--- in brackets of its own or of the canonical text
+-- the canonical text with or without brackets, compared with symbols in brackets
 bracketed_more : (needed own : ℕ) (us ts : List Symbol) → Lifts us → NoMore us ts → NoMore (symbols_at_level needed own us) (open_round ∷ (ts ++ close_round ∷ []))
 bracketed_more needed own us ts l m = by_test (nat_le needed own)
   where
@@ -268,7 +268,7 @@ bracketed_more needed own us ts l m = by_test (nat_le needed own)
     by_test true = fewer_more open_round close_round round_pair l m
     by_test false = nested_more open_round close_round round_pair m
 
--- without brackets of its own
+-- without the outer brackets on the left side
 pub unbracketed_deep : {us ts : List Symbol} (a b : Symbol) → IsPair a b → Lifts us → NoDeeper (a ∷ (us ++ b ∷ [])) ts → NoDeeper us ts
 unbracketed_deep {us} {ts} a b p l d = record { deep = inside }
   where
@@ -288,7 +288,7 @@ unbracketed {us} {ts} a b p l m = record {
   deep = unbracketed_deep a b p l m.deep;
 }
 
--- with a lower level needed
+-- a lower needed level
 lower_more : (lower needed own : ℕ) (us ts : List Symbol) → lower ≤ needed → Lifts us → NoMore (symbols_at_level needed own us) ts → NoMore (symbols_at_level lower own us) ts
 lower_more lower needed own us ts h l m = by_tests (nat_le lower own) (nat_le needed own) (λ e. grind (arith, nat_tests, h, e)) m
   where
@@ -299,11 +299,11 @@ lower_more lower needed own us ts h l m = by_tests (nat_le lower own) (nat_le ne
     by_tests false true f k = absurd (false≢true (f refl))
     by_tests false false f k = k
 
--- where each level will do
+-- if any level is allowed
 in_full : (e : Expression) (ts : List Symbol) → Least any_expression ts e → NoMore (expression_symbols e) ts
 in_full e ts r = subst (λ x. NoMore x ts) (at_its_level 1 (level_in e) (expression_symbols e) r.own) r.no_more
 
--- two sides joined by an operator
+-- two operands joined by an operator
 pub record IsJoined (code : ℕ) (a b e : Expression) : Type 0 where
   pub level : level_in e ≡ level_of code
   pub same : expression_symbols e ≡ two_place_symbols code (level_in a) (level_in b) (expression_symbols a) (expression_symbols b)
@@ -331,7 +331,7 @@ joined_least level code left right a b e eq l j x y =
           (both_more first (plain_more (symbols.Operator code) (record { no_opening = refl; no_closing = refl }) second));
     }
 
--- the canonical symbols of an expression are no more than those that derive it
+-- the canonical symbols of an expression are at most as many as any symbols that derive it
 pub least : {level : ℕ} {ts : List Symbol} {e : Expression} → 1 ≤ level → Derives level ts e → Least level ts e
 least l (Numeral n) = record { own = omega arith; no_more = plain_more _ (record { no_opening = refl; no_closing = refl }) none_more }
 least l (Named x) = record { own = omega arith; no_more = plain_more _ (record { no_opening = refl; no_closing = refl }) none_more }
@@ -367,9 +367,9 @@ least l (Joined {level} {left} {right} {a} {b} code eq x y) =
 pub full_least : {ts : List Symbol} {e : Expression} → Derives any_expression ts e → NoMore (expression_symbols e) ts
 full_least {ts} {e} d = in_full e ts (least (omega arith) d)
 
--- ---- brackets, from and to the bound on them
+-- ---- the bound on brackets
 
--- a symbol more that is counted or not
+-- how a further symbol changes a count
 counted : (p : Symbol → Bool) (t : Symbol) (ts : List Symbol) → count_by p (t ∷ ts) ≡ ones (p t) + count_by p ts
 counted p t ts = sum_by-cons (λ x. cond (p x) 1 0) t ts ∙ by_test (p t)
   where
@@ -377,7 +377,7 @@ counted p t ts = sum_by-cons (λ x. cond (p x) 1 0) t ts ∙ by_test (p t)
     by_test true = refl
     by_test false = refl
 
--- the most that are open, where each front is within the bound
+-- the peak is within the bound if the count after each prefix is
 most_within : (bound o c : ℕ) (ts : List Symbol) → ((before after : List Symbol) → ts ≡ before ++ after → (o + count_by is_opening_bracket before) - (c + count_by is_closing_bracket before) ≤ bound)
     → most_open o c ts ≤ bound
 most_within bound o c [] h = (let x = h [] [] refl in omega (arith, x))
@@ -391,7 +391,7 @@ most_within bound o c (t ∷ ts) h =
         → ((o + ones (is_opening_bracket t)) + count_by is_opening_bracket before) - ((c + ones (is_closing_bracket t)) + count_by is_closing_bracket before) ≤ bound
     behind before after e g = let x = counted is_opening_bracket t before in let y = counted is_closing_bracket t before in omega (arith, g, x, y)
 
--- each front is within the most that are open
+-- the count after each prefix is at most the peak
 within_peak : (n : ℕ) (before after : List Symbol) → (n + count_by is_opening_bracket before) - count_by is_closing_bracket before ≤ peak n (before ++ after)
 within_peak n [] after = at_front n after
   where
@@ -404,7 +404,7 @@ within_peak n (t ∷ before) after =
     let x = counted is_opening_bracket t before in let y = counted is_closing_bracket t before in
     omega (arith, i, g, x, y)
 
--- symbols that open no more at a time are as shallow
+-- symbols that never have more brackets open than shallow symbols are shallow
 pub no_deeper_shallow : (us ts : List Symbol) → NoDeeper us ts → IsShallow ts → IsShallow us
 no_deeper_shallow us ts d s = record { shallow = fronts }
   where

@@ -14,7 +14,7 @@ use Rattle.pipe_model.specs.Language.Grammar.{any_expression, operand_level, lev
 
 -- ---- expressions
 
--- the operators that stand as such in a tree have levels from 1 on
+-- each two-place operator has a level of at least 1
 level_from_one : (code : ℕ) → 1 ≤ code → code ≤ 13 → 1 ≤ level_of code
 level_from_one zero l h = absurd (omega (arith, l))
 level_from_one (suc zero) l h = omega arith
@@ -32,7 +32,7 @@ level_from_one (suc (suc (suc (suc (suc (suc (suc (suc (suc (suc (suc (suc zero)
 level_from_one (suc (suc (suc (suc (suc (suc (suc (suc (suc (suc (suc (suc (suc zero))))))))))))) l h = omega arith
 level_from_one (suc (suc (suc (suc (suc (suc (suc (suc (suc (suc (suc (suc (suc (suc n)))))))))))))) l h = absurd (omega (arith, h))
 
--- an expression's level is from 1 on
+-- the level of an expression is at least 1
 pub level_from : (e : Expression) → IsWritable e → 1 ≤ level_in e
 level_from (Number n) h = omega arith
 level_from (Name x) h = omega arith
@@ -50,7 +50,7 @@ bracketed_by : (b : Bool) (needed own : ℕ) (e : Expression) (ts : List Symbol)
 bracketed_by true needed own e ts h k l d = looser needed (h refl) d
 bracketed_by false needed own e ts h k l d = looser needed k (Bracketed (looser any_expression l d))
 
--- symbols where a level is needed
+-- symbols at a needed level
 at_level_derives : (needed own : ℕ) (e : Expression) (ts : List Symbol) → needed ≤ operand_level → 1 ≤ own → Derives own ts e
     → Derives needed (symbols_at_level needed own ts) e
 at_level_derives needed own e ts k l d = bracketed_by (nat_le needed own) needed own e ts (λ h. grind (arith, nat_tests, h)) k l d
@@ -68,7 +68,7 @@ two_place code a b left right la lb d d' =
     let r = at_level_derives (level_of code + 1) (level_in b) b right (omega (arith, high)) lb d' in
     Joined code refl l (subst (λ k. Derives k (symbols_at_level (level_of code + 1) (level_in b) right) b) (omega arith) r)
 
--- the operators that stand as such join as such
+-- operators with codes from 3 on are `Binary` nodes
 joined_as : (code : ℕ) (a b : Expression) → 3 ≤ code → binary_expression code a b ≡ Binary code a b
 joined_as code a b h =
     let one : (code == 1) ≡ false = grind (arith, nat_tests, h) in
@@ -96,7 +96,6 @@ expression_derived More h = CallsMore
 expression_derived Take h = CallsTake
 expression_derived Iter h = CallsIter
 
--- a full expression
 full : (e : Expression) → IsWritable e → Derives any_expression (expression_symbols e) e
 full e h = let l = level_from e h in looser any_expression l (expression_derived e h)
 
@@ -127,7 +126,7 @@ mutual
   statement_derived (Stage kind e) h = stage_derived kind e h
   statement_derived (NextStage kind) h = next_stage_derived kind
 
-  -- the same of statements
+  -- the same for statements in order
   pub statements_derived : (ss : Statements) → AreWritable ss → DerivesStatements (statements_pieces ss) ss
   statements_derived Empty h = NoStatement
   statements_derived (Then s ss) h = OneMore (statement_derived s h.0) (statements_derived ss h.1)

@@ -18,27 +18,27 @@ use Rattle.grammar_laws.proofs.Pieces.{flat_append}
 use Rattle.grammar_laws.proofs.Writings.{IsWritingOf, Writes, Done, Space, Puts, written_source}
 use Rattle.grammar_laws.proofs.WrittenTokens.{begins_letter, Opens, name_opens, decimal_opens, word_token, name_token, number_token, closed_token, spaced_token, not_token, operator_token}
 
--- a byte that stands in no name comes next
+-- the next byte cannot be part of a name
 abbrev pub SymbolEdge : List ℕ → Type 0
 SymbolEdge [] = ⊥
 SymbolEdge (c ∷ cs) = is_name_byte c ≡ false
 
--- anything comes next
+-- no condition on what follows
 abbrev pub Any : List ℕ → Type 0
 Any rest = Unit {0}
 
--- the text writes the symbols, before a rest of this kind
+-- the text is written symbol by symbol as `ts`, if what follows meets the condition
 pub record Writing (Follows : List ℕ → Type 0) (text : List ℕ) (ts : List Symbol) : Type 0 where
   pub writes : (rest : List ℕ) (found : List Symbol) → Follows rest → Writes rest found → Writes (text ++ rest) (ts ++ found)
 
--- two texts, one behind the other
+-- one text after another
 both : {F G : List ℕ → Type 0} {t u : List ℕ} {ts us : List Symbol} → Writing F t ts → Writing G u us → ((rest : List ℕ) → G rest → F (u ++ rest))
     → Writing G (t ++ u) (ts ++ us)
 both {F} {G} {t} {u} {ts} {us} w v f = record {
   writes = λ rest found h d. rw (append_assoc t u rest, append_assoc ts us found) (w.writes (u ++ rest) (us ++ found) (f rest h) (v.writes rest found h d));
 }
 
--- where anything may follow the first
+-- one text after another, with no condition on what follows the first
 next : {G : List ℕ → Type 0} {t u : List ℕ} {ts us : List Symbol} → Writing Any t ts → Writing G u us → Writing G (t ++ u) (ts ++ us)
 next w v = both w v (λ rest h. tt)
 
@@ -80,7 +80,7 @@ word text k l t = record { writes = put }
     put [] found h d = absurd h
     put (c ∷ rest) found h d = Puts text (symbols.Word k) (word_token text (symbols.Word k) c rest l t h) tt d
 
--- a sign that no byte makes longer
+-- a sign that is no prefix of a longer symbol
 sign : (b : ℕ) → symbol_of (b ∷ []) ≡ Some (symbols.Sign b) → ((c : ℕ) (more : List ℕ) → symbol_of (b ∷ c ∷ more) ≡ None) → (b == 47) ≡ false
     → Writing Any (b ∷ []) (symbols.Sign b ∷ [])
 sign b t closed slash = record { writes = λ rest found h d. Puts (b ∷ []) (symbols.Sign b) (closed_token b rest (symbols.Sign b) t closed slash) tt d }
@@ -118,7 +118,7 @@ space = record { writes = λ rest found h d. Space 32 refl d }
 is : Writing Any (codes " = ") (equals ∷ [])
 is = record { writes = λ rest found h d. Space 32 refl (Puts (61 ∷ []) equals (spaced_token (61 ∷ []) rest equals refl (λ more. refl) refl) tt (Space 32 refl d)) }
 
--- a word, a space and what follows
+-- a word, a space, and the text after them
 word_then : {G : List ℕ → Type 0} {u : List ℕ} {us : List Symbol} (text : List ℕ) (k : ℕ) → begins_letter text ≡ true → symbol_of text ≡ Some (symbols.Word k)
     → Writing G u us → Writing G (text ++ (codes " " ++ u)) (symbols.Word k ∷ us)
 word_then text k l t v = both (word text k l t) (next space v) (λ rest h. refl)
@@ -132,7 +132,7 @@ levelled needed own text ts w = by_test (nat_le needed own)
     by_test true = w
     by_test false = any_edge (next round (both w round_end (λ rest h. refl)))
 
--- an operator in spaces
+-- an operator between spaces
 between : {G : List ℕ → Type 0} {u : List ℕ} {us : List Symbol} (code : ℕ) → 1 ≤ code → code ≤ 13 → Writing G u us
     → Writing G (codes " " ++ (operator_text code ++ (codes " " ++ u))) (symbols.Operator code ∷ us)
 between {G} {u} {us} code l h w = record {
@@ -146,7 +146,7 @@ two_sides : (code la lb : ℕ) (a b : List ℕ) (ta tb : List Symbol) → 1 ≤ 
 two_sides code la lb a b ta tb l h w v =
     both (levelled (level_of code) la a ta w) (between code l h (levelled (level_of code + 1) lb b tb v)) (λ rest f. refl)
 
--- a text with brackets or without begins as it should
+-- a text with or without brackets does not begin with an equals sign
 levelled_opens : (needed own : ℕ) (text rest : List ℕ) → ((more : List ℕ) → Opens (text ++ more)) → Opens (at_level needed own text ++ rest)
 levelled_opens needed own text rest o = by_test (nat_le needed own)
   where
@@ -191,7 +191,7 @@ call : (text : List ℕ) (k : ℕ) → begins_letter text ≡ true → symbol_of
     → Writing SymbolEdge (text ++ (codes "(" ++ codes ")")) (symbols.Word k ∷ open_round ∷ close_round ∷ [])
 call text k l t = any_edge (both (word text k l t) (next round round_end) (λ rest h. refl))
 
--- the text of an expression writes its symbols
+-- the text of an expression is written as its symbols
 pub expression_writing : (e : Expression) → IsWritable e → Writing SymbolEdge (expression_text e) (expression_symbols e)
 expression_writing (Number n) h = number n h
 expression_writing (Name x) h = name x h
@@ -209,7 +209,7 @@ expression_writing Iter h = call (codes "iter") 19 refl refl
 
 -- ---- statements
 
--- spaces before what is written
+-- spaces before the text
 spaces : (n : ℕ) {rest : List ℕ} {found : List Symbol} → Writes rest found → Writes (replicate n 32 ++ rest) found
 spaces zero w = w
 spaces (suc n) w = Space 32 refl (spaces n w)
@@ -236,7 +236,7 @@ ended e h = closed e h end (λ rest f. refl)
 opens_block : Writing Any (codes ") {") (close_round ∷ open_brace ∷ [])
 opens_block = next round_end (next space brace)
 
--- the opening line of a test: a word, the test in brackets, and an opening brace
+-- the opening line of a test: a word, the test in brackets, an opening brace
 test_line : (n : ℕ) (text : List ℕ) (k : ℕ) (e : Expression) → begins_letter text ≡ true → symbol_of text ≡ Some (symbols.Word k) → IsWritable e
     → Writing Any (line n (text ++ (codes " (" ++ (expression_text e ++ codes ") {")))) (symbols.Word k ∷ open_round ∷ (expression_symbols e ++ close_round ∷ open_brace ∷ []))
 test_line n text k e l t h =
@@ -246,7 +246,7 @@ test_line n text k e l t h =
 closing_line : (n : ℕ) → Writing Any (line n (codes "}")) (close_brace ∷ [])
 closing_line n = line_writing n (any_edge brace_end)
 
--- what stands behind the block of a choice
+-- what follows the first block of an `if`
 else_writing : (n : ℕ) (b : Statements) (text : List ℕ) (ps : List Piece) → Writing Any text (flat ps)
     → Writing Any (else_text n b text ++ line n (codes "}")) (close_brace ∷ flat (part_pieces 14 b ps))
 else_writing n Empty text ps w = closing_line n
@@ -254,7 +254,7 @@ else_writing n (Then s ss) text ps w =
     same (ap (λ x. close_brace ∷ symbols.Word 14 ∷ open_brace ∷ x) (sym (flat_append ps (Single close_brace ∷ []))))
     (next (next (line_writing n (any_edge (next brace_end (next space (word_then (codes "else") 14 refl refl brace))))) w) (closing_line n))
 
--- the symbols of a choice
+-- the symbols of an `if`
 choice_symbols : (es : List Symbol) (a : List Piece) (more : List Piece)
     → (es ++ close_round ∷ open_brace ∷ []) ++ (flat a ++ (close_brace ∷ flat more)) ≡ es ++ close_round ∷ flat (block_pieces a ++ more)
 choice_symbols es a more =
@@ -279,7 +279,7 @@ next_stage_writing n kinds.Continue =
     line_writing n (any_edge (both (word (codes "pipe_continue") 10 refl refl) (next round (next round_end end)) (λ rest f. refl)))
 
 mutual
-  -- the text of a statement writes its symbols
+  -- the text of a statement is written as its symbols
   pub statement_writing : (n : ℕ) (s : Statement) → IsWritableStatement s → Writing Any (statement_text n s) (flat (statement_pieces s))
   statement_writing n (Let x e) h =
       line_writing n (any_edge (word_then (codes "let") 12 refl refl (both (name x h.0) (next is (ended e h.1)) (λ rest f. refl))))
@@ -297,7 +297,7 @@ mutual
   statement_writing n (Stage kind e) h = stage_writing n kind e h
   statement_writing n (NextStage kind) h = next_stage_writing n kind
 
-  -- the same of statements
+  -- the same for statements in order
   pub statements_writing : (n : ℕ) (ss : Statements) → AreWritable ss → Writing Any (statements_text n ss) (flat (statements_pieces ss))
   statements_writing n Empty h = nothing
   statements_writing n (Then s ss) h =
@@ -328,7 +328,7 @@ value_writing : {u : List ℕ} {us : List Symbol} (z : ℤ) → IsDeclaredValue 
 value_writing z (Positive n h) w f = both (numeral n h) w (λ rest g. f rest)
 value_writing z (Negative n h) w f = next minus_sign (both (numeral (suc n) h) w (λ rest g. f rest))
 
--- a size, where there is one, before a space
+-- a size, if there is one, before a space
 size_writing : {u : List ℕ} {us : List Symbol} (size : Option ℤ) → IsWritableSize size → Writing Any u us → Writing Any (size_text size ++ u) (flat (size_pieces size) ++ us)
 size_writing None h w = w
 size_writing (Some z) h w = next (next index (both (number z h) index_end (λ rest g. refl))) w
@@ -360,7 +360,7 @@ cells_writing : (ds : List Declaration) → AreWritableCells ds → Writing Any 
 cells_writing [] h = nothing
 cells_writing (d ∷ ds) h = same (cell_symbols d (cells_pieces ds)) (next (cell_writing d h.0 h.1 h.2) (cells_writing ds h.3))
 
--- a part, where it is not empty
+-- a part, if it is not empty
 part_writing : (text : List ℕ) (k : ℕ) (ss : Statements) → begins_letter text ≡ true → symbol_of text ≡ Some (symbols.Word k) → AreWritable ss
     → Writing Any (part_text text ss) (flat (part_pieces k ss (statements_pieces ss)))
 part_writing text k Empty l t h = nothing
@@ -374,7 +374,7 @@ loop_writing test body h b =
     same (ap (λ x. word_pipe_while ∷ open_round ∷ x) (block_symbols (expression_symbols test) (statements_pieces body)))
     (next (test_line 0 (codes "pipe_while") 8 test refl refl h) (next (statements_writing 2 body b) (closing_line 0)))
 
--- the symbols of the parts of a program, one after the other
+-- the symbols of the parts of a program in order
 program_symbols : (cs is bs ls : List Piece) (ts : List Symbol)
     → flat cs ++ (flat is ++ ((word_pipe_while ∷ open_round ∷ (ts ++ close_round ∷ flat bs)) ++ flat ls))
     ≡ flat (cs ++ (is ++ Single word_pipe_while ∷ Single open_round ∷ FullExpression ts ∷ Single close_round ∷ (bs ++ ls)))
@@ -383,7 +383,7 @@ program_symbols cs is bs ls ts =
     ∙ ap (λ x. flat cs ++ x) (sym (flat_append is (Single word_pipe_while ∷ Single open_round ∷ FullExpression ts ∷ Single close_round ∷ (bs ++ ls))))
     ∙ sym (flat_append cs (is ++ Single word_pipe_while ∷ Single open_round ∷ FullExpression ts ∷ Single close_round ∷ (bs ++ ls)))
 
--- the text of a program writes its symbols
+-- the text of a program is written as its symbols
 program_writing : (tree : SyntaxTree) → IsWritableProgram tree → Writing Any (program_text tree) (flat (program_pieces tree))
 program_writing tree h =
     same (ap (λ x. word_limits ∷ word_iterations ∷ symbols.Number tree.limits.iterations ∷ comma ∷ word_stages ∷ symbols.Number tree.limits.stages ∷ comma ∷ word_steps
@@ -393,7 +393,7 @@ program_writing tree h =
     (next (limits_writing tree h) (next (cells_writing tree.cells h.cells) (next (part_writing (codes "init") 7 tree.init refl refl h.init)
     (next (loop_writing tree.test tree.body h.test h.body) (part_writing (codes "final") 11 tree.last refl refl h.last)))))
 
--- so these are its tokens, where it is not too long
+-- so these are its tokens, if the text is not too long
 pub program_source : (tree : SyntaxTree) → IsWritableProgram tree → length (program_text tree) ≤ 1048576 → IsWritingOf (program_text tree) (flat (program_pieces tree))
 program_source tree h short =
     let w = program_writing tree h in

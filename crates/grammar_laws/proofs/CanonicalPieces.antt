@@ -1,4 +1,4 @@
--- The canonical pieces of a program keep the bounds that any pieces keep which derive it.
+-- The canonical pieces of a program are within every bound that other pieces that derive the program are within.
 use Rattle.std.proofs.Common.{◌≡◌, sym, refl, subst, ℕ, ℤ, pos, negsuc, suc, zero, List, [], ◌∷◌, ◌++◌, arith, false, Option}
 use Rattle.std.proofs.Math.IntN.{neg_ℤ}
 use Rattle.pipe_model.specs.declared.symbol.Symbol.{Symbol}
@@ -12,7 +12,7 @@ use Rattle.pipe_model.specs.Language.Words.{minus, open_round, close_round, open
 use Rattle.grammar_laws.proofs.CanonicalBounds.{IsUnjoined, IsPair, NoDeeper, none_deep, plain_deep, front_deep, more_deep, both_deep, nested_deep, unbracketed_deep, none_lifts, full_least}
 use Rattle.grammar_laws.proofs.Pieces.{flat_append, short_append, short_front, short_back}
 
--- the pieces are as short, and open no more brackets at a time
+-- the full expressions of `us` are short if those of `ps` are, and `us` never has more brackets open
 pub record Leaner (us ps : List Piece) : Type 0 where
   pub short : AreShort 256 ps → AreShort 256 us
   pub deep : NoDeeper (flat us) (flat ps)
@@ -41,7 +41,7 @@ nested {us} {ps} a b p l = record {
       (subst (λ x. NoDeeper (a ∷ (flat us ++ b ∷ [])) (a ∷ x)) (sym (flat_append ps (Single b ∷ []))) (nested_deep a b p l.deep));
 }
 
--- a full expression in brackets, and what stands behind it
+-- a full expression in brackets, and what follows it
 test : {us ps : List Piece} {ts : List Symbol} {e : Expression} → Derives any_expression ts e → Leaner us ps
     → Leaner (Single open_round ∷ FullExpression (expression_symbols e) ∷ Single close_round ∷ us) (Single open_round ∷ FullExpression ts ∷ Single close_round ∷ ps)
 test d l = both (nested open_round close_round (record { opens = refl; stays = refl; ends = refl; closes = refl }) (full d no_piece)) l
@@ -56,7 +56,7 @@ calls l = both (nested open_round close_round (record { opens = refl; stays = re
 braces : {us ps : List Piece} → Leaner us ps → Leaner (block_pieces us) (block_pieces ps)
 braces l = nested open_brace close_brace (record { opens = refl; stays = refl; ends = refl; closes = refl }) l
 
--- a part that is there, where the canonical text leaves out an empty one
+-- a part that is present; the canonical text omits it if it is empty
 in_part : (word : ℕ) (ss : Statements) {ps : List Piece} → Leaner (block_pieces (statements_pieces ss)) ps
     → Leaner (part_pieces word ss (statements_pieces ss)) (Single (symbols.Word word) ∷ ps)
 in_part word Empty l = record {
@@ -129,7 +129,7 @@ limits_leaner iterations stages steps emits l =
     plain _ refl refl (plain _ refl refl (plain _ refl refl (plain _ refl refl (plain _ refl refl (plain _ refl refl (plain _ refl refl (plain _ refl refl
     (plain _ refl refl (plain _ refl refl (plain _ refl refl (plain _ refl refl (plain _ refl refl l))))))))))))
 
--- the canonical pieces of a program, beside those that derive it
+-- the canonical pieces of a program, compared with other pieces that derive it
 pub leaner_program : {ps : List Piece} {tree : SyntaxTree} → DerivesProgram ps tree → Leaner (program_pieces tree) ps
 leaner_program (ProgramIs iterations stages steps emits cells init test_is body last) =
     limits_leaner iterations stages steps emits

@@ -1,4 +1,4 @@
--- The canonical text of a program that some source spells is a source that spells it, where it is not too long.
+-- The canonical text of a program that some source spells is itself a source that spells it, if it is not too long.
 use Rattle.std.proofs.Common.{◌≡◌, ap, sym, ℕ, ◌≤◌, refl, subst, List, length}
 use Rattle.pipe_model.specs.declared.symbol.Symbol.{Symbol}
 use Rattle.grammar_laws.proofs.CanonicalSymbols.{program_pieces}
@@ -33,7 +33,7 @@ canonical_spells source tree h short =
     } in
     record { tokens = made.tokens; lexed = made.lexed; spelled = subst (λ x. Spells x tree) (sym made.same) spelled }
 
--- so what is read from the canonical text has the same text
+-- so the program read from the canonical text has the same text
 pub same_text : (source : List ℕ) (tree other : SyntaxTree) → SourceSpells source tree → length (program_text tree) ≤ 1048576
     → SourceSpells (program_text tree) other → program_text other ≡ program_text tree
 same_text source tree other h short o = ap program_text (one_source_spelling (program_text tree) other tree o (canonical_spells source tree h short))

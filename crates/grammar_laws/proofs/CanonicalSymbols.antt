@@ -1,4 +1,4 @@
--- The symbols of the canonical text: those of an expression, with round brackets exactly where the tree needs them, and the pieces of a program.
+-- The symbols of the canonical text: round brackets only where the tree needs them, and the pieces of a program.
 use Rattle.std.specs.Prelude.{◌≡◌, ℕ, suc, ◌+◌, ◌≤◌, ◌<◌, ◌^◌, ℤ, pos, negsuc, List, [], ◌∷◌, ◌++◌, length, nat_le, ◌==◌, if◌then◌else◌, Option, Some, None, ◌⊎◌}
 use Rattle.pipe_model.specs.declared.tree.StageKind.{StageKind}
 use Rattle.pipe_model.specs.declared.tree.StageKind.TheVariants as kinds
@@ -17,16 +17,15 @@ use Rattle.pipe_model.specs.Language.Words.{word_cell, word_pipe_while, word_pip
 abbrev pub one_place_symbol : ℕ → Symbol
 one_place_symbol code = if code == 1 then minus else exclamation
 
--- symbols where a certain level is needed: in round brackets where their own is lower
+-- symbols at a needed level: in round brackets if their own level is lower
 abbrev pub symbols_at_level : (needed own : ℕ) → List Symbol → List Symbol
 symbols_at_level needed own ts = if nat_le needed own then ts else open_round ∷ (ts ++ close_round ∷ [])
 
--- a two-place operator between its sides
+-- a two-place operator between its operands
 abbrev pub two_place_symbols : (code left_level right_level : ℕ) → (left right : List Symbol) → List Symbol
 two_place_symbols code left_level right_level left right =
     symbols_at_level (level_of code) left_level left ++ symbols.Operator code ∷ symbols_at_level (level_of code + 1) right_level right
 
--- an expression
 abbrev pub expression_symbols : Expression → List Symbol
 expression_symbols (Number n) = symbols.Number n ∷ []
 expression_symbols (Name x) = symbols.Name x ∷ []
@@ -45,18 +44,17 @@ expression_symbols Iter = word_iter ∷ open_round ∷ close_round ∷ []
 abbrev pub block_pieces : List Piece → List Piece
 block_pieces ps = Single open_brace ∷ (ps ++ Single close_brace ∷ [])
 
--- a part with its word before its block, where it is not empty
+-- a part that is not empty: its word and its block
 abbrev pub part_pieces : ℕ → Statements → List Piece → List Piece
 part_pieces word Empty ps = []
 part_pieces word (Then s ss) ps = Single (symbols.Word word) ∷ block_pieces ps
 
--- a statement that names a next stage, from the pieces of its number
+-- a statement that names a next stage, given the pieces of its number
 abbrev pub stage_pieces : StageKind → List Piece → List Piece
 stage_pieces kinds.Wait ps = Single word_pipe_wait ∷ Single open_round ∷ (ps ++ Single close_round ∷ Single semicolon ∷ [])
 stage_pieces kinds.Continue ps = Single word_pipe_continue ∷ Single open_round ∷ (ps ++ Single close_round ∷ Single semicolon ∷ [])
 
 abbrev mutual
-  -- a statement
   pub statement_pieces : Statement → List Piece
   statement_pieces (Let x e) =
       Single word_let ∷ Single (symbols.Name x) ∷ Single equals ∷ FullExpression (expression_symbols e) ∷ Single semicolon ∷ []
@@ -73,30 +71,27 @@ abbrev mutual
   statement_pieces (Stage kind e) = stage_pieces kind (FullExpression (expression_symbols e) ∷ [])
   statement_pieces (NextStage kind) = stage_pieces kind []
 
-  -- statements one after the other
   pub statements_pieces : Statements → List Piece
   statements_pieces Empty = []
   statements_pieces (Then s ss) = statement_pieces s ++ statements_pieces ss
 
 -- ---- programs
 
--- the size of an array, which may be missing
+-- the size of an array, if there is one
 abbrev pub size_pieces : Option ℤ → List Piece
 size_pieces None = []
 size_pieces (Some n) = Single open_square ∷ Single (symbols.Number n) ∷ Single close_square ∷ []
 
--- a declared value
 abbrev pub value_pieces : ℤ → List Piece
 value_pieces (pos n) = Single (symbols.Number (pos n)) ∷ []
 value_pieces (negsuc n) = Single minus ∷ Single (symbols.Number (pos (suc n))) ∷ []
 
--- declarations, before what follows them
+-- declarations, followed by `more`
 abbrev pub cells_pieces : List Declaration → List Piece
 cells_pieces [] = []
 cells_pieces (d ∷ ds) =
     Single word_cell ∷ Single (symbols.Name d.name) ∷ (size_pieces d.size ++ Single equals ∷ (value_pieces d.value ++ Single semicolon ∷ cells_pieces ds))
 
--- a program
 abbrev pub program_pieces : SyntaxTree → List Piece
 program_pieces tree =
     limits_before tree.limits.iterations tree.limits.stages tree.limits.steps tree.limits.emits
@@ -106,21 +101,21 @@ program_pieces tree =
 
 -- ---- what a text can write
 
--- the bytes are a name that is no reserved word, and not too long
+-- the bytes are a name: no reserved word, and not too long
 pub record IsName (x : List ℕ) : Type 0 where
   pub symbol : symbol_of x ≡ Some (symbols.Name x)
   pub short : length x ≤ 64
 
--- a number that is not negative, and an `i64`
+-- a number from 0 to the greatest `i64`
 pub data IsNumeral : ℤ → Type 0 where
   Numeral : (n : ℕ) → n < 2 ^ 63 → IsNumeral (pos n)
 
--- a declared value: such a number, or one with a minus sign before it
+-- a declared value: a numeral, or a numeral after a minus sign
 pub data IsDeclaredValue : ℤ → Type 0 where
   Positive : (n : ℕ) → n < 2 ^ 63 → IsDeclaredValue (pos n)
   Negative : (n : ℕ) → suc n < 2 ^ 63 → IsDeclaredValue (negsuc n)
 
--- each name and number of the expression can be written, and each code is that of an operator
+-- each name and number of the expression can be written, and each operator code is known
 abbrev pub IsWritable : Expression → Type 0
 IsWritable (Number n) = IsNumeral n
 IsWritable (Name x) = IsName x
@@ -134,7 +129,7 @@ IsWritable Take = Unit {0}
 IsWritable Iter = Unit {0}
 
 abbrev mutual
-  -- the same of a statement
+  -- the same for a statement
   pub IsWritableStatement : Statement → Type 0
   IsWritableStatement (Let x e) = IsName x × IsWritable e
   IsWritableStatement (Assign x e) = IsName x × IsWritable e
@@ -145,22 +140,22 @@ abbrev mutual
   IsWritableStatement (Stage kind e) = IsWritable e
   IsWritableStatement (NextStage kind) = Unit {0}
 
-  -- the same of statements
+  -- the same for statements in order
   pub AreWritable : Statements → Type 0
   AreWritable Empty = Unit {0}
   AreWritable (Then s ss) = IsWritableStatement s × AreWritable ss
 
--- the same of the size of an array, which may be missing
+-- the same for the size of an array, if there is one
 abbrev pub IsWritableSize : Option ℤ → Type 0
 IsWritableSize None = Unit {0}
 IsWritableSize (Some n) = IsNumeral n
 
--- the same of declarations
+-- the same for declarations
 abbrev pub AreWritableCells : List Declaration → Type 0
 AreWritableCells [] = Unit {0}
 AreWritableCells (d ∷ ds) = IsName d.name × IsWritableSize d.size × IsDeclaredValue d.value × AreWritableCells ds
 
--- the same of a program
+-- the same for a program
 pub record IsWritableProgram (tree : SyntaxTree) : Type 0 where
   pub iterations : IsNumeral tree.limits.iterations
   pub stages : IsNumeral tree.limits.stages

@@ -1,4 +1,4 @@
--- Where the machine of expressions runs, there is an expression that goes on so.
+-- If the machine of expressions runs over symbols, some expression begins with them.
 use Rattle.std.proofs.Common.{◌≡◌, ℕ, ◌≤◌, List, [], ◌∷◌, ◌++◌, refl, sym, ap, ◌∙◌, append_assoc, append-nil, arith, subst, ◌⊎◌, inl, inr, Option, Some, None, Bool, true, false, ◌==◌, pos, if◌then◌else◌}
 use Rattle.std.proofs.lemmas.Bool.{cases_eq}
 use Rattle.pipe_model.specs.declared.symbol.Symbol.{Symbol}
@@ -9,7 +9,7 @@ use Rattle.grammar_laws.specs.ExpressionMachine.{Want, Sign, Operand, Index, Tai
 use Rattle.grammar_laws.proofs.ExpressionGrowth.{grown}
 use Rattle.pipe_model.proofs.LevelLaws.{looser}
 
--- ---- what spells a list of wants
+-- ---- symbols that complete a list of wants
 pub data Completes : List Want → List Symbol → Type 0 where
   Nothing : Completes [] []
   OfSign : {wants : List Want} {ts : List Symbol} (sign : ℕ) → Completes wants ts → Completes (Sign sign ∷ wants) (symbols.Sign sign ∷ ts)
@@ -22,7 +22,7 @@ pub data Completes : List Want → List Symbol → Type 0 where
       → Completes (Tail ∷ wants) ts
       → Completes (Tail ∷ wants) (symbols.Operator code ∷ (us ++ ts))
 
--- symbols that spell the wants
+-- symbols that complete the wants
 pub record Completion (wants : List Want) : Type 0 where
   pub ts : List Symbol
   pub completes : Completes wants ts
@@ -33,12 +33,12 @@ one_more Operand wants s = record { ts = symbols.Number (pos 0) ∷ s.ts; comple
 one_more Index wants s = record { ts = s.ts; completes = OfNoIndex s.completes }
 one_more Tail wants s = record { ts = s.ts; completes = OfNoTail s.completes }
 
--- each list of wants is spelled by some symbols
+-- each list of wants is completed by some symbols
 pub completion : (wants : List Want) → Completion wants
 completion [] = record { ts = []; completes = Nothing }
 completion (want ∷ wants) = one_more want wants (completion wants)
 
--- what may end is spelled by no symbols
+-- wants that may end are completed by no symbols
 pub completes_end : (wants : List Want) → may_end wants ≡ true → Completes wants []
 completes_end [] h = Nothing
 completes_end (Sign sign ∷ wants) h = absurd (cc (h))
@@ -46,7 +46,7 @@ completes_end (Operand ∷ wants) h = absurd (cc (h))
 completes_end (Index ∷ wants) h = OfNoIndex (completes_end wants h)
 completes_end (Tail ∷ wants) h = OfNoTail (completes_end wants h)
 
--- ---- an operand and operators behind it are an expression
+-- ---- an operand and the operators after it are an expression
 pub record First (wants : List Want) (left ts : List Symbol) : Type 0 where
   pub taken : List Symbol
   pub rest : List Symbol
@@ -55,7 +55,7 @@ pub record First (wants : List Want) (left ts : List Symbol) : Type 0 where
   pub split : ts ≡ taken ++ rest
   pub completes : Completes wants rest
 
--- an operator has a level from 1 on
+-- each operator has a level of at least 1
 operator_level : (code : ℕ) → is_operator code ≡ true → any_expression ≤ level_of code
 operator_level code h = grind (arith, h)
 
@@ -94,7 +94,7 @@ operand_first us ts w = record {
   completes = w.completes;
 }
 
--- an expression stands first
+-- completing symbols begin with an expression
 pub first : {wants : List Want} {ts : List Symbol} → Completes (Operand ∷ Tail ∷ wants) ts → First wants [] ts
 first (OfOperand {us = us} {ts = ts} d s) = operand_first us ts (tail_first us (looser any_expression (omega arith) d) s)
 
@@ -102,7 +102,7 @@ first (OfOperand {us = us} {ts = ts} d s) = operand_first us ts (tail_first us (
 moved : {wants : List Want} {ts us : List Symbol} → ts ≡ us → Completes wants us → Completes wants ts
 moved {wants} h s = subst (Completes wants) (sym h) s
 
--- an expression, and the sign that closes it
+-- an expression and the sign that closes it
 record Closed (wants : List Want) (sign : ℕ) (ts : List Symbol) : Type 0 where
   inside : List Symbol
   rest : List Symbol
@@ -159,7 +159,7 @@ same_sign : (sign b : ℕ) → (b == sign) ≡ true → {wants : List Want} {ts 
     → Completes (Sign sign ∷ wants) (symbols.Sign b ∷ ts)
 same_sign sign b h s = let e : b ≡ sign = grind (arith, h) in rw e (OfSign sign s)
 
--- what spells the wants behind a symbol spells, behind it, the wants before
+-- if symbols complete the wants after the move, then `t` and these symbols complete the wants before it
 abbrev MovesBack : Move → Want → Symbol → Type 0
 MovesBack (Takes more) want t = (wants : List Want) (ts : List Symbol) → Completes (more ++ wants) ts → Completes (want ∷ wants) (t ∷ ts)
 MovesBack Skips want t = (wants : List Want) (ts : List Symbol) → Completes wants ts → Completes (want ∷ wants) ts
@@ -177,7 +177,7 @@ operand_sign_back b =
     (λ h. either (b == 33) (Takes (Operand ∷ [])) Refuses Operand (symbols.Sign b)
     (λ i wants ts s. let e : b ≡ 33 = grind (arith, i) in rw e (not_back s)) (λ i. tt))
 
--- the table is sound
+-- each entry of the table is sound
 back : (want : Want) (t : Symbol) → MovesBack (move want t) want t
 back (Sign sign) (symbols.Sign b) = either (b == sign) (Takes []) Refuses (Sign sign) (symbols.Sign b) (λ h wants ts s. same_sign sign b h s) (λ h. tt)
 back (Sign sign) (symbols.Name name) = tt
@@ -215,7 +215,7 @@ stepped_back (Takes more) want t wants below f g left ts h s = let e : more ++ w
 stepped_back Skips want t wants below f g left ts h s = f wants (t ∷ ts) (g left ts h s)
 stepped_back Refuses want t wants below f g left ts h s = absurd (cc (h))
 
--- a step of the machine, back
+-- the same for a step of the machine
 pub step_back : (wants : List Want) (t : Symbol) (left : List Want) (ts : List Symbol) → step wants t ≡ Some left → Completes left ts
     → Completes wants (t ∷ ts)
 step_back [] t left ts h s = absurd (cc (h))
@@ -228,14 +228,13 @@ run_back_on : (o : Option (List Want)) (wants : List Want) (t : Symbol) (before 
 run_back_on None wants t before ts left e f h = absurd (cc (h))
 run_back_on (Some mid) wants t before ts left e f h = step_back wants t mid (before ++ ts) e (f mid h)
 
--- a run of the machine, back
+-- the same for a run of the machine
 pub run_back : (before ts : List Symbol) (wants left : List Want) → run before wants ≡ Some left → Completes left ts → Completes wants (before ++ ts)
 run_back [] ts wants left h s = let e : wants ≡ left = cc (h) in rw e s
 run_back (t ∷ before) ts wants left h s = run_back_on (step wants t) wants t before ts left refl (λ mid i. run_back before ts mid left i s) h
 
--- ---- an expression that goes on from a front
+-- ---- completing a prefix to an expression
 
--- the symbols derive some expression
 pub record IsExpression (ts : List Symbol) : Type 0 where
   pub e : Expression
   pub derived : Derives any_expression ts e
@@ -243,14 +242,14 @@ pub record IsExpression (ts : List Symbol) : Type 0 where
 nothing_more : (ts taken rest : List Symbol) → ts ≡ taken ++ rest → Completes [] rest → ts ≡ taken
 nothing_more ts taken rest h Nothing = h ∙ append-nil taken
 
--- where the machine ran, what completes what has to come is the rest of an expression
+-- symbols that a run accepts, followed by symbols that complete its wants, are an expression
 pub run_completed : (before more : List Symbol) (left : List Want) → run before (Operand ∷ Tail ∷ []) ≡ Some left → Completes left more
     → IsExpression (before ++ more)
 run_completed before more left h s =
     let w = first (run_back before more (Operand ∷ Tail ∷ []) left h s) in
     record { e = w.e; derived = subst (λ x. Derives any_expression x w.e) (sym (nothing_more (before ++ more) w.taken w.rest w.split w.completes)) w.derived }
 
--- where it may end, the symbols are an expression
+-- if the run may end, the symbols are an expression
 pub run_ended : (before : List Symbol) (left : List Want) → run before (Operand ∷ Tail ∷ []) ≡ Some left → may_end left ≡ true → IsExpression before
 run_ended before left h i =
     let x = run_completed before [] left h (completes_end left i) in

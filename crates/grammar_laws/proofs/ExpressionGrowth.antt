@@ -1,4 +1,4 @@
--- An expression with one more operator and operand behind it derives an expression again.
+-- An expression followed by one more operator and operand derives an expression again.
 use Rattle.std.proofs.Common.{◌≡◌, ℕ, suc, ◌≤◌, List, ◌∷◌, ◌++◌, sym, append_assoc, arith, subst, inl, inr}
 use Rattle.std.proofs.lemmas.Bool.{cases_lt}
 use Rattle.pipe_model.specs.declared.symbol.Symbol.{Symbol}
@@ -7,7 +7,7 @@ use Rattle.pipe_model.specs.Language.SyntaxTree.{Expression, binary_expression}
 use Rattle.pipe_model.specs.Language.Grammar.{operand_level, Derives, Numeral, Named, Indexed, CallsMore, CallsTake, CallsIter, Negative, Not, Bracketed, Tighter, Joined, level_of}
 use Rattle.pipe_model.proofs.LevelLaws.{below_operands, looser}
 
--- symbols with more behind them derive some expression
+-- symbols followed by more symbols derive some expression
 pub record Grown (ts more : List Symbol) (level : ℕ) : Type 0 where
   pub e : Expression
   pub derived : Derives level (ts ++ more) e
@@ -30,18 +30,18 @@ grown_here : (level code : ℕ) {ts us : List Symbol} {a b : Expression} → lev
 grown_here level code {a = a} {b = b} h d d' =
     record { e = binary_expression code a b; derived = Joined code h d (looser (suc level) (let l = below_operands code in omega (arith, h, l)) d') }
 
--- the operator is of this level, or of a higher one
+-- the operator has this level or a higher one
 chosen : (level code : ℕ) {ts us : List Symbol} {a b : Expression} → level ≤ level_of code → Derives level ts a → Derives operand_level us b
     → (suc level ≤ level_of code → Grown ts (symbols.Operator code ∷ us) level)
     → Grown ts (symbols.Operator code ∷ us) level
 chosen level code l d d' go =
     elim (cases_lt level (level_of code)) [ inl h ↦ go (omega (arith, h)) | inr h ↦ grown_here level code (omega (arith, h, l)) d d' ]
 
--- no operator is of the level of operands
+-- no operator has the level of operands
 no_operand : {A : Type 0} (code : ℕ) → operand_level ≤ level_of code → A
 no_operand code l = let h = below_operands code in absurd (omega (arith, l, h))
 
--- an operator of the expression's level or a higher one and an operand stand behind it
+-- with an operator of the expression's level or a higher one, and an operand, after it
 pub grown : (code : ℕ) {us : List Symbol} {b : Expression} → Derives operand_level us b → {level : ℕ} {ts : List Symbol} {a : Expression}
     → Derives level ts a → level ≤ level_of code → Grown ts (symbols.Operator code ∷ us) level
 grown code o (Numeral n) l = no_operand code l

@@ -1,4 +1,4 @@
--- An expression that is read is passed by the machine that takes one symbol at a time.
+-- The machine of expressions passes each expression that is read.
 use Rattle.std.proofs.Common.{◌≡◌, ℕ, suc, ◌<◌, ◌≤◌, List, [], ◌∷◌, refl, ◌∙◌, arith, subst, true, false, ◌==◌}
 use Rattle.pipe_model.specs.declared.symbol.Symbol.{Symbol}
 use Rattle.pipe_model.specs.declared.symbol.Symbol.TheVariants as symbols
@@ -16,7 +16,7 @@ no_index (symbols.Number n ∷ ts) wants h = refl
 no_index (symbols.Operator n ∷ ts) wants h = refl
 no_index (symbols.Sign n ∷ ts) wants h = let e : (n == 91) ≡ false = grind (arith, h) in rw e refl
 
--- a level from 1 on is that of an operator
+-- a level of at least 1 is that of an operator
 pub is_op : (code level : ℕ) → level_of code ≡ level → 1 ≤ level → is_operator code ≡ true
 is_op code level h l = grind (arith, h, l)
 
@@ -24,12 +24,12 @@ pub tail_joins : (code : ℕ) (ts : List Symbol) (wants : List Want) → is_oper
     → ending (symbols.Operator code ∷ ts) (Tail ∷ wants) ≡ ending ts (Operand ∷ Tail ∷ wants)
 tail_joins code ts wants h = rw h refl
 
--- a reading of the level is passed
+-- the machine passes the symbols of a reading of the level
 record Passes (level : ℕ) (ts rest : List Symbol) : Type 0 where
   operand : level ≡ operand_level → (wants : List Want) → ending ts (Operand ∷ wants) ≡ ending rest wants
   chain : 1 ≤ level → (wants : List Want) → ending ts (Operand ∷ Tail ∷ wants) ≡ ending rest (Tail ∷ wants)
 
--- so is an operand, whatever comes next
+-- an operand, whatever follows
 operand_passes : {ts rest : List Symbol} → ((wants : List Want) → ending ts (Operand ∷ wants) ≡ ending rest wants) → Passes operand_level ts rest
 operand_passes p = record { operand = λ e. p; chain = λ l wants. p (Tail ∷ wants) }
 
@@ -49,25 +49,24 @@ mutual
     chain = λ l wants. (passes_at r).chain (omega (arith, l)) wants ∙ passes_extension g wants l;
   }
 
-  -- operators with their right sides are passed
+  -- operators with their right operands
   pub passes_extension : {level : ℕ} {ts rest : List Symbol} {a e : Expression} → Extends level a ts e rest → (wants : List Want) → 1 ≤ level
       → ending ts (Tail ∷ wants) ≡ ending rest (Tail ∷ wants)
   passes_extension (Ends ts h) wants l = refl
   passes_extension (Joins {level} {ts = ts} {mid = mid} code h r g) wants l =
       tail_joins code ts wants (is_op code level h l) ∙ (passes_at r).chain (omega (arith, l)) wants ∙ passes_extension g wants l
 
--- an operand is passed
 pub passes_operand : {ts rest : List Symbol} {e : Expression} → Reads operand_level ts e rest → (wants : List Want)
     → ending ts (Operand ∷ wants) ≡ ending rest wants
 passes_operand r = (passes_at r).operand refl
 
--- an expression of a level is passed, and more operators may come
+-- an expression of a level; more operators may follow
 pub passes : (level : ℕ) {ts rest : List Symbol} {e : Expression} → Reads level ts e rest → 1 ≤ level → (wants : List Want)
     → ending ts (Operand ∷ Tail ∷ wants) ≡ ending rest (Tail ∷ wants)
 passes level r l = (passes_at r).chain l
 
 mutual
-  -- behind what was read stands no operator that would go on
+  -- no operator that could extend the expression follows it
   pub reads_end : {level : ℕ} {ts rest : List Symbol} {e : Expression} → Reads level ts e rest → next_level rest < level
   reads_end (ReadsNumeral n rest) = level_at_front rest
   reads_end (ReadsName n rest h) = level_at_front rest
@@ -88,7 +87,7 @@ mutual
 not_operator : (code : ℕ) → level_of code < any_expression → is_operator code ≡ false
 not_operator code l = grind (arith, l)
 
--- where no operator stands, none has to come
+-- if no operator follows, no further operand is wanted
 pub no_tail : (ts : List Symbol) (wants : List Want) → next_level ts < any_expression → ending ts (Tail ∷ wants) ≡ ending ts wants
 no_tail [] wants h = refl
 no_tail (symbols.Name n ∷ ts) wants h = refl
@@ -97,7 +96,6 @@ no_tail (symbols.Number n ∷ ts) wants h = refl
 no_tail (symbols.Operator n ∷ ts) wants h = rw (not_operator n h) refl
 no_tail (symbols.Sign n ∷ ts) wants h = refl
 
--- an expression is passed
 pub passes_expression : {ts rest : List Symbol} {e : Expression} → Reads any_expression ts e rest → (wants : List Want)
     → ending ts (Operand ∷ Tail ∷ wants) ≡ ending rest wants
 passes_expression {rest = rest} r wants = passes any_expression r (omega arith) wants ∙ no_tail rest wants (reads_end r)

@@ -1,4 +1,4 @@
--- A reader of expressions finds what the whole grammar derives, and only that, and in one way.
+-- A reader of expressions finds what the whole grammar derives, and nothing else, and in one way.
 use Rattle.std.proofs.Common.{◌≡◌, ◌≢◌, ℕ, suc, ◌<◌, List, [], ◌∷◌, ◌++◌, refl, sym, ap, ◌∙◌, append_assoc, append-nil, arith, subst}
 use Rattle.pipe_model.specs.declared.symbol.Symbol.{Symbol}
 use Rattle.pipe_model.specs.declared.symbol.Symbol.TheVariants as symbols
@@ -16,7 +16,7 @@ pub record Took (level : ℕ) (ts : List Symbol) (e : Expression) (rest : List S
   pub split : ts ≡ taken ++ rest
   pub derived : Derives level taken e
 
--- what was read behind the symbols of a first part is derived with them
+-- symbols that are read after a first operand derive an expression together with it
 record Extended (level : ℕ) (left ts : List Symbol) (e : Expression) (rest : List Symbol) : Type 0 where
   taken : List Symbol
   split : ts ≡ taken ++ rest
@@ -43,7 +43,7 @@ negative ts rest t = record { taken = minus ∷ t.taken; split = ap (λ x. minus
 negated : {e : Expression} (ts rest : List Symbol) → Took operand_level ts e rest → Took operand_level (exclamation ∷ ts) (Unary 2 e) rest
 negated ts rest t = record { taken = exclamation ∷ t.taken; split = ap (λ x. exclamation ∷ x) t.split; derived = Not t.derived }
 
--- a part of the next level and what extends it are taken together
+-- a part of the next level, and what extends it
 chained : {level : ℕ} {a e : Expression} (ts mid rest : List Symbol) → (t : Took (suc level) ts a mid) → Extended level t.taken mid e rest
     → Took level ts e rest
 chained ts mid rest t w = record {
@@ -52,7 +52,7 @@ chained ts mid rest t w = record {
   derived = w.derived;
 }
 
--- an operator and its right side are taken with what extends them
+-- an operator and its right operand, and what extends them
 joined : {level : ℕ} {b e : Expression} (left ts mid rest : List Symbol) (code : ℕ) → (t : Took (suc level) ts b mid)
     → Extended level (left ++ symbols.Operator code ∷ t.taken) mid e rest → Extended level left (symbols.Operator code ∷ ts) e rest
 joined {level} {e = e} left ts mid rest code t w = record {
@@ -62,7 +62,7 @@ joined {level} {e = e} left ts mid rest code t w = record {
 }
 
 mutual
-  -- each reading takes symbols that derive its expression
+  -- each reading consumes symbols that derive its expression
   pub sound : {level : ℕ} {ts rest : List Symbol} {e : Expression} → Reads level ts e rest → Took level ts e rest
   sound (ReadsNumeral n rest) = record { taken = symbols.Number n ∷ []; split = refl; derived = Numeral n }
   sound (ReadsName name rest h) = record { taken = symbols.Name name ∷ []; split = refl; derived = Named name }
@@ -97,25 +97,25 @@ no_level_above (ReadsNot r) l = omega (arith, l)
 no_level_above (ReadsBracketed r) l = omega (arith, l)
 no_level_above (ReadsChain r g) l = no_level_above r (omega (arith, l))
 
--- so an operand is not read as a part of the next level
+-- so an operand is not read as part of the next level
 pub no_next_level : {ts rest : List Symbol} {e : Expression} → Reads (suc operand_level) ts e rest → ⊥
 no_next_level r = no_level_above r (omega arith)
 
--- neither an index nor an operator of the level or a higher one is at the front
+-- the symbols do not begin with an index, nor with an operator of the level or a higher one
 abbrev pub Loose : ℕ → List Symbol → Type 0
 Loose level rest = NoSign 91 rest × (next_level rest < level)
 
--- what is derived is read, whatever follows that is no operator of a higher level, and is extended by what follows
+-- the symbols are read and then extended by what follows, if that is no index and no operator of a higher level
 abbrev Found : ℕ → List Symbol → Expression → Type 0
 Found level ts e =
     (rest : List Symbol) (whole : Expression) (end : List Symbol) → Loose (suc level) rest → Extends level e rest whole end → Reads level (ts ++ rest) whole end
 
--- what is derived is read where no operator of its levels follows
+-- symbols that derive an expression are read if no operator of its levels follows
 pub found_alone : (level : ℕ) (ts : List Symbol) (e : Expression) → Found level ts e → (rest : List Symbol) → Loose level rest
     → Reads level (ts ++ rest) e rest
 found_alone level ts e f rest h = let l = h.1 in f rest e rest (h.0, omega (arith, l)) (Ends rest (λ x. omega (arith, l, x)))
 
--- an operator at the front is of a level below that of operands
+-- an operator at the start has a level below that of operands
 pub level_at_front : (ts : List Symbol) → next_level ts < operand_level
 level_at_front [] = omega arith
 level_at_front (symbols.Name name ∷ ts) = omega arith
@@ -130,11 +130,11 @@ unextended : {ts rest end : List Symbol} {e whole : Expression} → Reads operan
 unextended r (Ends rest h) = r
 unextended r (Joins code h r' g) = absurd (no_next_level r')
 
--- a reading goes by its symbols
+-- a reading depends only on the symbols
 moved : (level : ℕ) {a b : List Symbol} {e : Expression} (rest : List Symbol) → a ≡ b → Reads level a e rest → Reads level b e rest
 moved level {e = e} rest h r = subst (λ x. Reads level x e rest) h r
 
--- two sides with an operator between them are read, whatever follows that is no operator of a higher level
+-- two operands with an operator between them are read, if no operator of a higher level follows
 found_joined : (level : ℕ) (left right : List Symbol) (a b : Expression) (code : ℕ) → level_of code ≡ level → Found level left a → Found (suc level) right b
     → Found level (left ++ symbols.Operator code ∷ right) (binary_expression code a b)
 found_joined level left right a b code h f g rest whole end loose goes =
@@ -150,18 +150,18 @@ loose_sign sign rest h = (h, omega arith)
 pub loose_end : Loose any_expression []
 loose_end = (tt, omega arith)
 
--- what is found is read before a sign that closes it
+-- an expression that is found is read before a sign that closes it
 found_closed : (sign : ℕ) (inside rest : List Symbol) (e : Expression) → Found any_expression inside e → sign ≢ 91
     → Reads any_expression ((inside ++ symbols.Sign sign ∷ []) ++ rest) e (symbols.Sign sign ∷ rest)
 found_closed sign inside rest e f h =
     moved any_expression (symbols.Sign sign ∷ rest) (sym (append_assoc inside (symbols.Sign sign ∷ []) rest))
     (found_alone any_expression inside e f (symbols.Sign sign ∷ rest) (loose_sign sign rest h))
 
--- an operand is read before whatever is no index
+-- an operand is read if no index follows
 operand_alone : (ts : List Symbol) (e : Expression) → Found operand_level ts e → (rest : List Symbol) → NoSign 91 rest → Reads operand_level (ts ++ rest) e rest
 operand_alone ts e f rest h = found_alone operand_level ts e f rest (h, level_at_front rest)
 
--- what is derived is read
+-- symbols that derive an expression are read
 pub found : {level : ℕ} {ts : List Symbol} {e : Expression} → Derives level ts e → Found level ts e
 found (Numeral n) = λ rest whole end loose goes. unextended (ReadsNumeral n rest) goes
 found (Named name) = λ rest whole end loose goes. unextended (ReadsName name rest loose.0) goes
@@ -177,19 +177,19 @@ found (Bracketed {inside} {e} d) = λ rest whole end loose goes.
 found (Tighter {level} {ts} {e} d) = λ rest whole end loose goes. ReadsChain (found_alone (suc level) ts e (found d) rest loose) goes
 found (Joined {level} {left} {right} {a} {b} code h d d') = found_joined level left right a b code h (found d) (found d')
 
--- what is derived is read before a sign that is no `[`
+-- they are read before a sign other than `[`
 pub found_before_sign : {ts : List Symbol} {e : Expression} (sign : ℕ) (rest : List Symbol) → sign ≢ 91 → Derives any_expression ts e
     → Reads any_expression (ts ++ symbols.Sign sign ∷ rest) e (symbols.Sign sign ∷ rest)
 found_before_sign {ts} {e} sign rest h d = found_alone any_expression ts e (found d) (symbols.Sign sign ∷ rest) (loose_sign sign rest h)
 
 -- ---- two readings of the same symbols are one
 
--- two readings agree
+-- two readings with the same result and the same rest
 pub record SameReading (A : Type 0) (a b : A) (rest rest' : List Symbol) : Type 0 where
   pub tree : a ≡ b
   pub left : rest ≡ rest'
 
--- an extension goes by what it extends and where
+-- an extension depends only on what it extends and on the symbols
 extends_from : (level : ℕ) {a a' e : Expression} {ts ts' rest : List Symbol} → a ≡ a' → ts ≡ ts' → Extends level a' ts' e rest → Extends level a ts e rest
 extends_from level {a = a} {e = e} {ts' = ts'} {rest = rest} h i g =
     subst (λ x. Extends level a x e rest) (sym i) (subst (λ x. Extends level x ts' e rest) (sym h) g)

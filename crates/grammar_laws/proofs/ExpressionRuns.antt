@@ -1,4 +1,4 @@
--- Running the machine of expressions: in two parts, and to where it ends.
+-- Runs of the machine of expressions: in two parts, and up to where the machine stops.
 use Rattle.std.proofs.Common.{◌≡◌, ℕ, List, [], ◌∷◌, ◌++◌, refl, ap, ◌∙◌, Option, Some, None, Bool, true, false, length}
 use Rattle.pipe_model.specs.declared.symbol.Symbol.{Symbol}
 use Rattle.grammar_laws.specs.ExpressionMachine.{Want, step, run, and_run, may_end, Done, Stuck, ended, ending, ending_on}
@@ -8,21 +8,21 @@ run_part_on : (o : Option (List Want)) (ts us : List Symbol) → ((wants : List 
 run_part_on None ts us h = refl
 run_part_on (Some wants) ts us h = h wants
 
--- two lists of symbols run one after the other
+-- a run over two lists is two runs
 pub run_part : (ts us : List Symbol) (wants : List Want) → run (ts ++ us) wants ≡ and_run (run ts wants) (run us)
 run_part [] us wants = refl
 run_part (t ∷ ts) us wants = run_part_on (step wants t) ts us (run_part ts us)
 
--- the second list runs from where the first ends
+-- the second run continues from the state after the first
 pub run_then : (ts us : List Symbol) (wants mid : List Want) → run ts wants ≡ Some mid → run (ts ++ us) wants ≡ run us mid
 run_then ts us wants mid h = run_part ts us wants ∙ ap (λ o. and_run o (run us)) h
 
--- the first of the symbols may not come
+-- the first symbol is not allowed
 abbrev pub Refused : List Want → List Symbol → Type 0
 Refused wants [] = Unit {0}
 Refused wants (t ∷ ts) = step wants t ≡ None
 
--- the machine runs over a front, and goes on with no more
+-- the machine runs over a prefix and cannot continue
 pub record Stopped (ts : List Symbol) (wants : List Want) : Type 0 where
   pub before : List Symbol
   pub rest : List Symbol
@@ -55,12 +55,12 @@ stopped_on t ts wants (Some mid) e f =
       ends = ap (λ o. ending_on o (ended (may_end wants) (t ∷ ts)) (ending ts)) e ∙ s.ends;
     }
 
--- where the machine stops
+-- the prefix over which the machine runs
 pub stopped : (ts : List Symbol) (wants : List Want) → Stopped ts wants
 stopped [] wants = record { before = []; rest = []; left = wants; split = refl; runs = refl; refused = tt; ends = refl }
 stopped (t ∷ ts) wants = stopped_on t ts wants (step wants t) refl (λ mid. stopped ts mid)
 
--- what an ending says of what has to come
+-- what a result of `ended` says about the wants
 pub done_may_end : (b : Bool) (ts rest : List Symbol) → ended b ts ≡ Done rest → (b ≡ true) × (ts ≡ rest)
 done_may_end true ts rest h = (refl, cc (h))
 done_may_end false ts rest h = absurd (cc (h))

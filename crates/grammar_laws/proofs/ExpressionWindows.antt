@@ -1,4 +1,4 @@
--- What is read in a window of symbols, with one of them left, is read in all symbols; and where a reader is stuck in it, it is stuck in all.
+-- If a reading of the first symbols leaves one of them, or a reader gets stuck there with one left, then so it is with more symbols after.
 use Rattle.std.proofs.Common.{◌≡◌, ◌≢◌, ℕ, ◌+◌, ◌<◌, List, [], ◌∷◌, ◌++◌, length, length-append, refl, sym, ap, ◌∙◌, arith, Option, Some, None, Bool, true, false}
 use Rattle.pipe_model.specs.declared.symbol.Symbol.{Symbol}
 use Rattle.pipe_model.specs.declared.symbol.Symbol.TheVariants as symbols
@@ -30,7 +30,7 @@ begins (Ends ts h) n = n
 begins (Joins {ts = ts} code h r g) n = some (symbols.Operator code) ts
 
 mutual
-  -- a reading with a symbol left goes the same way before more symbols
+  -- a reading that leaves a symbol is the same with more symbols after
   pub reads_more : {level : ℕ} {ts rest : List Symbol} {e : Expression} → Reads level ts e rest → rest ≢ [] → (more : List Symbol)
       → Reads level (ts ++ more) e (rest ++ more)
   reads_more (ReadsNumeral n rest) k more = ReadsNumeral n (rest ++ more)
@@ -70,6 +70,6 @@ ending_more : (ts more : List Symbol) (wants : List Want) (n : ℕ) → 0 < n �
 ending_more [] more wants n l h = absurd (stuck_at_end (may_end wants) n l h)
 ending_more (t ∷ ts) more wants n l h = stuck_on (step wants t) (may_end wants) t ts more n (λ mid i. ending_more ts more mid n l i) h
 
--- a reader that is stuck with a symbol left is stuck there before more symbols
+-- a reader that gets stuck with a symbol left gets stuck there with more symbols after
 pub stuck_more : (wants : List Want) (ts more : List Symbol) (n : ℕ) → 0 < n → IsStuck wants ts n → IsStuck wants (ts ++ more) (n + length more)
 stuck_more wants ts more n l s = record { stuck = λ below. ending_more ts more (wants ++ below) n l (s.stuck below) }

@@ -1,4 +1,4 @@
--- The first symbol that breaks a rule, from the verdict of the machine and the count of brackets; a program has none.
+-- The first symbol that breaks a rule, from the verdict of the machine and the number of open brackets; a program has no such symbol.
 use Rattle.std.proofs.Common.{◌≡◌, ◌≢◌, ℕ, suc, ◌<◌, ◌≤◌, ◌+◌, List, [], ◌∷◌, ◌++◌, length, refl, sym, ap, ◌∙◌, append_assoc, append-nil, length-append, arith, subst, ◌⊎◌, inl, inr}
 use Rattle.std.proofs.lemmas.Bool.{cases_lt}
 use Rattle.pipe_model.specs.declared.symbol.Symbol.{Symbol}
@@ -17,7 +17,7 @@ use Rattle.grammar_laws.proofs.ProgramReading.{found_program, one_program}
 pub record IsShallowBefore (ts : List Symbol) : Type 0 where
   pub shallow : (before after : List Symbol) → ts ≡ before ++ after → after ≢ [] → open_brackets before ≤ 64
 
--- a front of a front is a front
+-- a prefix of a prefix of a program is one
 pub shorter_front : (before after : List Symbol) → IsProgramPrefix (before ++ after) → IsProgramPrefix before
 shorter_front before after f = record {
   after = after ++ f.after;
@@ -27,7 +27,7 @@ shorter_front before after f = record {
   split = sym (append_assoc before after f.after) ∙ f.split;
 }
 
--- what ends too long is a front
+-- symbols that end in a full expression that is too long are a prefix of a program
 pub too_long_front : {ts : List Symbol} → EndsTooLong ts → IsProgramPrefix ts
 too_long_front {ts} f = record {
   after = f.more ++ flat f.after;
@@ -43,7 +43,7 @@ too_long_front {ts} f = record {
 some_left : (t : Symbol) (ts : List Symbol) → t ∷ ts ≢ []
 some_left t ts = λ e. absurd (cc (e))
 
--- the front before a symbol is shallow
+-- the symbols before a symbol are shallow
 front_shallow : (ts before : List Symbol) (t : Symbol) (after : List Symbol) → IsShallowBefore ts → ts ≡ before ++ t ∷ after → IsShallow before
 front_shallow ts before t after h s = record {
   shallow = λ b a e. h.shallow b (a ++ t ∷ after) (s ∙ ap (λ x. x ++ t ∷ after) e ∙ append_assoc b a (t ∷ after)) (not_empty a);
@@ -53,7 +53,7 @@ front_shallow ts before t after h s = record {
     not_empty [] = some_left t after
     not_empty (x ∷ a) = some_left x (a ++ t ∷ after)
 
--- the same symbols, and more behind them
+-- the same symbols followed by more
 put_behind : (ts before : List Symbol) (t : Symbol) (after more : List Symbol) → ts ≡ before ++ t ∷ after → ts ++ more ≡ before ++ t ∷ (after ++ more)
 put_behind ts before t after more h = ap (λ x. x ++ more) h ∙ append_assoc before (t ∷ after) more
 
@@ -74,7 +74,7 @@ unexpected_at cut more n k u (t ∷ after) e l m h =
     (UnexpectedSymbol u.before t (after ++ more)
     (record { front = u.front; shallow = front_shallow cut u.before t after h split; short = u.short }) (u.only t after e))
 
--- a symbol that may not come, k symbols from the start and n from the end
+-- a symbol that is not allowed, k symbols from the start and n from the end
 pub first_unexpected : (cut more : List Symbol) (n k : ℕ) → judge 256 cut (Outside program) ≡ Unexpected n → 0 < n → k + n ≡ length cut
     → IsShallowBefore cut
     → FirstFault (cut ++ more) spelling.Unexpected k
@@ -84,7 +84,7 @@ no_symbols : (ts : List Symbol) → length ts ≡ 0 → ts ≡ []
 no_symbols [] h = refl
 no_symbols (t ∷ ts) h = absurd (omega (arith, h))
 
--- symbols that end too early
+-- the symbols end too early
 pub first_unexpected_end : (ts : List Symbol) → judge 256 ts (Outside program) ≡ Unexpected 0 → IsShallow ts → FirstFault ts spelling.Unexpected (length ts)
 first_unexpected_end ts v h =
     let u = is_unexpected ts 0 v in
@@ -96,7 +96,7 @@ first_unexpected_end ts v h =
       short = subst NoneTooLong (sym same) u.short;
     }) (u.ends none)
 
--- a symbol too many of a full expression
+-- a symbol beyond the longest full expression
 pub first_too_long : (cut more : List Symbol) (n k : ℕ) → judge 256 cut (Outside program) ≡ TooLong n → (1 < n) ⊎ (open_brackets cut ≤ 64)
     → k + n ≡ length cut → IsShallowBefore cut
     → FirstFault (cut ++ more) spelling.TooLong k
@@ -116,7 +116,7 @@ first_too_long cut more n k v c m h =
     shallow_here cut n (inl l) b [] e s h = absurd (omega (arith, l, e))
     shallow_here cut n (inr l) b [] e s h = subst (λ x. open_brackets x ≤ 64) (s ∙ append-nil b) l
 
--- the machine comes to the last symbol, and it may come
+-- the machine reaches the last symbol, and that symbol is allowed
 abbrev pub ComesToLast : Verdict → Type 0
 ComesToLast Accepted = Unit {0}
 ComesToLast (Unexpected n) = n ≡ 0
@@ -140,7 +140,7 @@ last_count Accepted n c h = absurd (cc (h))
 last_count (Unexpected m) n c h = absurd (cc (h))
 last_count (TooLong m) n c h = let e : m ≡ n = cc (h) in omega (arith, e, c)
 
--- a symbol that opens a bracket too many
+-- a symbol that opens one bracket too many
 pub first_too_deep : (before : List Symbol) (t : Symbol) (more : List Symbol) (v : Verdict) → judge 256 (before ++ t ∷ []) (Outside program) ≡ v
     → ComesToLast v → IsShallowBefore (before ++ t ∷ []) → 64 < open_brackets (before ++ t ∷ [])
     → FirstFault (before ++ t ∷ more) spelling.TooDeep (length before)
@@ -181,7 +181,7 @@ spelled_without_fault (FirstTooLong before t after b l ends) s =
 
 -- ---- there is one first fault
 
--- of two fronts of one list, the longer goes on from the shorter
+-- of two prefixes of one list, the longer extends the shorter
 record Longer (b r b' r' : List Symbol) : Type 0 where
   x : Symbol
   more : List Symbol
@@ -209,7 +209,7 @@ as_long (y ∷ b) r (x ∷ b') r' h l =
     let front = p.0 in
     (cc (h, front), p.1)
 
--- how the rest of the symbols breaks a rule behind a front
+-- how the symbols after a prefix break a rule
 abbrev Breaks : GrammarRule → List Symbol → List Symbol → Type 0
 Breaks spelling.Unexpected before [] = (pieces : List Piece) (tree : SyntaxTree) → DerivesProgram pieces tree → before ≡ flat pieces → ⊥
 Breaks spelling.Unexpected before (t ∷ after) = IsProgramPrefix (before ++ t ∷ []) → ⊥
@@ -232,7 +232,7 @@ broken (UnexpectedEnd ts b ends) = record { before = ts; rest = []; split = appe
 broken (FirstTooDeep before t after b front l) = record { before = before; rest = t ∷ after; split = refl; many = refl; obeys = b; breaks = (front, l) }
 broken (FirstTooLong before t after b l ends) = record { before = before; rest = t ∷ after; split = refl; many = refl; obeys = b; breaks = (l, ends) }
 
--- a symbol before others that break no rule breaks none
+-- a symbol breaks no rule if longer symbols break none
 not_before : (rule : GrammarRule) (before : List Symbol) (x : Symbol) (more after : List Symbol) → BreaksNoRule (before ++ x ∷ more) → Breaks rule before (x ∷ after) → ⊥
 not_before spelling.Unexpected before x more after o b =
     b (shorter_front (before ++ x ∷ []) more (subst IsProgramPrefix (sym (append_assoc before (x ∷ []) more)) o.front))
@@ -240,7 +240,7 @@ not_before spelling.TooDeep before x more after o b =
     absurd (omega (arith, b.1, o.shallow.shallow (before ++ x ∷ []) more (sym (append_assoc before (x ∷ []) more))))
 not_before spelling.TooLong before x more after o b = o.short (before ++ x ∷ []) more (sym (append_assoc before (x ∷ []) more)) b.1
 
--- one symbol breaks one rule first
+-- a symbol breaks at most one rule first
 one_rule : (r r' : GrammarRule) (before rest : List Symbol) → Breaks r before rest → Breaks r' before rest → r ≡ r'
 one_rule spelling.Unexpected spelling.Unexpected before rest b c = refl
 one_rule spelling.Unexpected spelling.TooDeep before [] b c = absurd c
@@ -268,7 +268,7 @@ one_broken {r = r} {r' = r'} a b e =
     let p = as_long a.before a.rest b.before b.rest (a.split ∙ sym b.split) (a.many ∙ e ∙ sym b.many) in
     one_rule r r' a.before a.rest a.breaks (subst (λ x. Breaks r' x a.rest) (sym p.0) (subst (λ x. Breaks r' b.before x) (sym p.1) b.breaks))
 
--- symbols have one first fault at most
+-- symbols have at most one first fault
 pub one_fault : {ts : List Symbol} {r r' : GrammarRule} {k k' : ℕ} → FirstFault ts r k → FirstFault ts r' k' → (k ≡ k') × (r ≡ r')
 one_fault {k = k} {k' = k'} f g =
     let a = broken f in

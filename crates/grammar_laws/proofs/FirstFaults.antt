@@ -1,4 +1,4 @@
--- The verdict of the machine of programs is the first symbol that breaks a rule, by the grammar alone.
+-- The verdict of the machine of programs names the first symbol that breaks a rule, as the grammar alone defines it.
 use Rattle.std.proofs.Common.{◌≡◌, ◌≢◌, ℕ, suc, ◌<◌, ◌≤◌, List, [], ◌∷◌, ◌++◌, length, refl, sym, ap, ◌∙◌, append_assoc, append-nil, length-append, arith, subst, ◌⊎◌, inl, inr, Option, Some, None, Bool, true, false, nat_le, if◌then◌else◌}
 use Rattle.std.proofs.lemmas.Bool.{cases_lt}
 use Rattle.pipe_model.specs.declared.symbol.Symbol.{Symbol}
@@ -65,7 +65,7 @@ front_begins (symbols.Number m ∷ ts) more rest n h = tt
 front_begins (symbols.Operator code ∷ ts) more rest n h = tt
 front_begins (symbols.Sign b ∷ ts) more rest n h = h
 
--- a stage number, as a full expression
+-- a stage number, read as a full expression
 stage_then : {rest : List Symbol} (longest : ℕ) (ts : List Symbol) (wants : List Want) → NoSign 41 ts
     → FindsTooLong longest ts (machine.FullExpression ∷ Sign 41 ∷ wants) rest
     → FindsTooLong longest ts (machine.StageNumber ∷ Sign 41 ∷ wants) rest
@@ -77,7 +77,7 @@ some_inside inside n h = λ e. absurd (omega (arith, h, ap length e))
 behind_more : (before : List Piece) (inside rest : List Symbol) → length rest ≤ length (flat before ++ (inside ++ rest))
 behind_more before inside rest = omega (arith, length-append (flat before) (inside ++ rest), length-append inside rest)
 
--- the symbols of a full expression that is passed, and the sign behind it
+-- the symbols of a full expression that is passed, and the sign after it
 passed_split : (ts : List Symbol) (sign : ℕ) (before : List Piece) (behind : List Symbol)
     → flat (FullExpression ts ∷ Single (symbols.Sign sign) ∷ before) ++ behind ≡ ts ++ symbols.Sign sign ∷ (flat before ++ behind)
 passed_split ts sign before behind = append_assoc ts (symbols.Sign sign ∷ flat before) behind
@@ -86,7 +86,7 @@ no_piece : (after : List Piece) (x : Piece) (before : List Piece) → [] ≡ bef
 no_piece after x [] h = cc (h)
 no_piece after x (p ∷ before) h = cc (h)
 
--- going over the pieces before it, the machine stops there or earlier
+-- the machine runs over the pieces before it and stops there or earlier
 finds_too_long : (longest : ℕ) (inside more : List Symbol) (after : List Piece) (rest : List Symbol) → length inside ≡ suc longest
     → {wants : List Want} {ps : List Piece} → Walks wants ps → (before : List Piece) → ps ≡ before ++ FullExpression (inside ++ more) ∷ after
     → FindsTooLong longest (flat before ++ (inside ++ rest)) wants rest
@@ -129,7 +129,7 @@ finds_too_long longest inside more after rest h (OverStage {wants = wants} {ts =
     (over_or_past longest ts 41 (flat before ++ (inside ++ rest)) rest wants d (λ x. absurd (omega (arith, x))) (swapped (cases_lt longest (length ts)))
     (behind_more before inside rest) (finds_too_long longest inside more after rest h w before tail))))
 
--- a front that ends too long is refused there or earlier, whatever follows
+-- the machine rejects a prefix that ends too long there or earlier, whatever follows
 pub too_long_found : (ts rest : List Symbol) → EndsTooLong ts → FindsTooLong 256 (ts ++ rest) program rest
 too_long_found ts rest f =
     finds_moved (ap (λ x. x ++ rest) f.split ∙ append_assoc (flat f.before) f.inside rest)
@@ -137,7 +137,7 @@ too_long_found ts rest f =
 
 -- ---- what a verdict says
 
--- with so many symbols left the next may not come
+-- with n symbols left, the next symbol is not allowed
 pub record VerdictFault (longest : ℕ) (ts : List Symbol) (s : MachineState) (n : ℕ) : Type 0 where
   pub before : List Symbol
   pub rest : List Symbol
@@ -204,7 +204,7 @@ refusal longest [] s n h =
     }
 refusal longest (t ∷ ts) s n h = refusal_on longest (next s t) t ts s n refl (λ mid i. refusal longest ts mid n i) h
 
--- one symbol too many stands before so many
+-- the machine reaches the first symbol beyond the longest full expression; n symbols are left, this one included
 pub record Excess (ts : List Symbol) (s : MachineState) (n : ℕ) : Type 0 where
   pub before : List Symbol
   pub t : Symbol
@@ -215,7 +215,7 @@ pub record Excess (ts : List Symbol) (s : MachineState) (n : ℕ) : Type 0 where
   pub many : n ≡ suc (length after)
   pub runs : run (before ++ t ∷ []) s ≡ Some (Inside 257 inner wants)
 
--- at most 256 symbols of a full expression were counted
+-- at most 256 symbols of a full expression have been counted
 abbrev Counted : MachineState → Type 0
 Counted (Outside wants) = Unit {0}
 Counted (Inside n i wants) = n ≤ 256
@@ -229,7 +229,7 @@ inside_count (Some mid) b n k i wants left t l h = let e : suc n ≡ k = cc (h) 
 inside_count None true n k i wants left t l h = omega (arith, entered_count wants t k i left h)
 inside_count None false n k i wants left t l h = absurd (cc (h))
 
--- one more symbol counts one more at most
+-- a further symbol raises the count by at most one
 next_count : (s : MachineState) (t : Symbol) (k : ℕ) (i : List expression.Want) (left : List Want) → Counted s → next s t ≡ Some (Inside k i left) → k ≤ 257
 next_count (Outside wants) t k i left c h = omega (arith, entered_count wants t k i left h)
 next_count (Inside n j wants) t k i left c h = inside_count (expression.step j t) (expression.may_end j) n k i wants left t c h
@@ -285,11 +285,11 @@ excess (t ∷ ts) s n c h = excess_on (next s t) t ts s n c refl (λ mid d i. ex
 
 -- ---- the verdicts, by the grammar alone
 
--- no front of the symbols ends too long
+-- no prefix of the symbols ends in a full expression that is too long
 abbrev pub NoneTooLong : List Symbol → Type 0
 NoneTooLong ts = (before after : List Symbol) → ts ≡ before ++ after → EndsTooLong before → ⊥
 
--- with n symbols left, those before break neither rule, and the next may not come
+-- with n symbols left, those before them break neither rule, and the next symbol is not allowed
 pub record IsUnexpected (ts : List Symbol) (n : ℕ) : Type 0 where
   pub before : List Symbol
   pub rest : List Symbol
@@ -300,7 +300,7 @@ pub record IsUnexpected (ts : List Symbol) (n : ℕ) : Type 0 where
   pub only : (t : Symbol) (after : List Symbol) → rest ≡ t ∷ after → IsProgramPrefix (before ++ t ∷ []) → ⊥
   pub ends : rest ≡ [] → (pieces : List Piece) (tree : SyntaxTree) → DerivesProgram pieces tree → ts ≡ flat pieces → ⊥
 
--- with n symbols left, those before break neither rule, and the next is one too many
+-- with n symbols left, those before them break neither rule, and the next symbol makes a full expression too long
 pub record IsTooLong (ts : List Symbol) (n : ℕ) : Type 0 where
   pub before : List Symbol
   pub t : Symbol
@@ -316,7 +316,7 @@ run_part_on : (o : Option MachineState) (ts us : List Symbol) → ((s : MachineS
 run_part_on None ts us h = refl
 run_part_on (Some s) ts us h = h s
 
--- two lists of symbols run one after the other
+-- a run over two lists is two runs
 pub run_part : (ts us : List Symbol) (s : MachineState) → run (ts ++ us) s ≡ and_run (run ts s) (run us)
 run_part [] us s = refl
 run_part (t ∷ ts) us s = run_part_on (next s t) ts us (run_part ts us)
@@ -328,7 +328,7 @@ front_ran : (o : Option MachineState) (go : MachineState → Option MachineState
 front_ran None go s h = absurd (cc (h))
 front_ran (Some mid) go s h = (mid, refl)
 
--- a verdict other than that of too many says that none was too many before
+-- no prefix of the symbols before `rest` ends too long, if a verdict `TooLong` can only name a symbol of `rest`
 pub none_too_long : (ts before rest : List Symbol) → ts ≡ before ++ rest → ((n : ℕ) → judge 256 ts (Outside program) ≡ TooLong n → n ≤ length rest)
     → NoneTooLong before
 none_too_long ts before rest s h b a split f =
@@ -361,7 +361,7 @@ not_whole ts before state s r f pieces tree d h =
     let final : is_final state ≡ true = ap is_final states ∙ final_accepted (is_final a.state) a.accepted in
     cc (final, f)
 
--- a symbol that may not come
+-- a symbol that is not allowed
 pub is_unexpected : (ts : List Symbol) (n : ℕ) → judge 256 ts (Outside program) ≡ Unexpected n → IsUnexpected ts n
 is_unexpected ts n h =
     let r = refusal 256 ts (Outside program) n h in
@@ -376,7 +376,7 @@ is_unexpected ts n h =
       ends = λ i. not_whole ts r.before r.state (r.split ∙ ap (λ x. r.before ++ x) i ∙ append-nil r.before) r.runs (r.ends i);
     }
 
--- a symbol too many
+-- a symbol that makes a full expression too long
 pub is_too_long : (ts : List Symbol) (n : ℕ) → judge 256 ts (Outside program) ≡ TooLong n → IsTooLong ts n
 is_too_long ts n h =
     let x = excess ts (Outside program) n tt h in

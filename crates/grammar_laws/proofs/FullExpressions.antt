@@ -1,4 +1,4 @@
--- The machine of programs at a full expression: it passes one that is read and is not too long, and else says why it stops.
+-- The machine of programs at a full expression: it passes one that is read and is not too long; otherwise it says why it stops.
 use Rattle.std.proofs.Common.{◌≡◌, ℕ, suc, ◌<◌, ◌≤◌, ◌+◌, List, [], ◌∷◌, ◌++◌, length, refl, sym, ap, ◌∙◌, length-append, arith, Option, Some, None, true, false, nat_le, ◌⊎◌, inl, inr, ◌==◌}
 use Rattle.std.proofs.lemmas.Bool.{cases_lt}
 use Rattle.pipe_model.specs.declared.symbol.Symbol.{Symbol}
@@ -15,7 +15,7 @@ enters_on : (longest : ℕ) (o : Option (List expression.Want)) (wants : List Wa
 enters_on longest None wants below left go = refl
 enters_on longest (Some inner) wants below left go = refl
 
--- before its first symbol the machine stands as well inside
+-- before its first symbol, the state is as good as inside the full expression
 pub enters : (longest : ℕ) (ts : List Symbol) (wants : List Want)
     → judge longest ts (Outside (FullExpression ∷ wants)) ≡ judge longest ts (Inside 0 whole wants)
 enters longest [] wants = refl
@@ -28,7 +28,7 @@ goes_on : (longest n : ℕ) (o : Option (List expression.Want)) (inner : List ex
 goes_on longest n o inner t ts wants h =
     ap (λ x. judged longest (continued x (expression.may_end inner) n wants (step wants t)) (length (t ∷ ts)) (judge longest ts)) h
 
--- from where the machine stands inside a full expression it runs over symbols
+-- the machine runs over these symbols inside a full expression
 abbrev RunsOver : (longest : ℕ) → List Symbol → List Symbol → List Want → Type 0
 RunsOver longest before rest wants =
     (n : ℕ) (inner left : List expression.Want) → expression.run before inner ≡ Some left → n + length before ≤ longest
@@ -44,13 +44,13 @@ inside_runs_on longest t before rest wants n inner left (Some mid) e f h l =
     let many : n + length (t ∷ before) ≡ suc n + length before = omega arith in
     goes_on longest n (Some mid) inner t (before ++ rest) wants e ∙ rw (fits, many) (f (suc n) mid left h (omega (arith, l)))
 
--- symbols that a full expression goes on with, and that are not too many
+-- symbols that continue a full expression and are not too many
 pub inside_runs : (longest : ℕ) (before rest : List Symbol) (wants : List Want) → RunsOver longest before rest wants
 inside_runs longest [] rest wants n inner left h l = let same : inner ≡ left = cc (h) in let none : n + 0 ≡ n = omega arith in rw (same, none) refl
 inside_runs longest (t ∷ before) rest wants n inner left h l =
     inside_runs_on longest t before rest wants n inner left (expression.step inner t) refl (inside_runs longest before rest wants) h l
 
--- the machine finds one symbol too many
+-- the machine reports that the last of these symbols is one too many
 abbrev FindsOver : (longest : ℕ) → List Symbol → List Symbol → List Want → Type 0
 FindsOver longest before rest wants =
     (n : ℕ) (inner left : List expression.Want) → expression.run before inner ≡ Some left → n ≤ longest → n + length before ≡ suc longest
@@ -70,14 +70,14 @@ inside_over_on longest t before rest wants n inner left (Some mid) e f h l m (in
     let many : length (t ∷ (before ++ rest)) ≡ suc (length rest) = omega (arith, m, c, l, length-append before rest) in
     goes_on longest n (Some mid) inner t (before ++ rest) wants e ∙ rw (over, many) refl
 
--- symbols that a full expression goes on with, and of which the last is too many
+-- symbols that continue a full expression, the last of which is one too many
 pub inside_over : (longest : ℕ) (before rest : List Symbol) (wants : List Want) → FindsOver longest before rest wants
 inside_over longest [] rest wants n inner left h l m = absurd (omega (arith, l, m))
 inside_over longest (t ∷ before) rest wants n inner left h l m =
     inside_over_on longest t before rest wants n inner left (expression.step inner t) refl (inside_over longest before rest wants) h l m
     (cases_lt n longest)
 
--- a full expression may end before what it does not go on with
+-- a full expression may end before a symbol that does not continue it
 pub leaves : (longest : ℕ) (rest : List Symbol) (n : ℕ) (inner : List expression.Want) (wants : List Want) → expression.may_end inner ≡ true
     → Refused inner rest
     → judge longest rest (Inside n inner wants) ≡ judge longest rest (Outside wants)
@@ -86,7 +86,7 @@ leaves longest (t ∷ ts) n inner wants h r =
     goes_on longest n None inner t ts wants r
     ∙ ap (λ b. judged longest (continued None b n wants (step wants t)) (length (t ∷ ts)) (judge longest ts)) h
 
--- else the machine stops there
+-- otherwise the machine stops there
 pub stuck_inside : (longest : ℕ) (rest : List Symbol) (n : ℕ) (inner : List expression.Want) (wants : List Want) → expression.may_end inner ≡ false
     → Refused inner rest
     → judge longest rest (Inside n inner wants) ≡ Unexpected (length rest)
@@ -111,7 +111,7 @@ passes_full {longest} {ts} {rest} r wants =
     ∙ inside_runs longest s.before rest wants 0 whole s.left s.runs (omega (arith, many, r.short))
     ∙ leaves longest rest (0 + length s.before) s.left wants ends.0 (rw (sym ends.1) s.refused)
 
--- where a reader of an expression is stuck within the bound, the machine stops
+-- if a reader of an expression gets stuck within the bound, the machine stops
 pub stuck_full : (longest : ℕ) (ts : List Symbol) (left : ℕ) (wants : List Want) → expression.IsStuck whole ts left → length ts ≤ left + longest
     → judge longest ts (Outside (FullExpression ∷ wants)) ≡ Unexpected left
 stuck_full longest ts left wants r l =
@@ -123,7 +123,7 @@ stuck_full longest ts left wants r l =
     ∙ stuck_inside longest s.rest (0 + length s.before) s.left wants ends.0 s.refused
     ∙ ap Unexpected ends.1
 
--- where the machine of expressions runs over one symbol more than the bound, that one is too many
+-- if the machine of expressions runs over one symbol more than the bound, that symbol is one too many
 pub over_full : (longest : ℕ) (before rest : List Symbol) (left : List expression.Want) (wants : List Want) → expression.run before whole ≡ Some left
     → length before ≡ suc longest
     → judge longest (before ++ rest) (Outside (FullExpression ∷ wants)) ≡ TooLong (suc (length rest))
@@ -132,7 +132,7 @@ over_full longest before rest left wants h l =
 
 -- ---- a stage number, which may be missing
 
--- before anything but a closing bracket a stage number is a full expression
+-- if the symbols do not begin with a closing bracket, a stage number is read as a full expression
 pub stage_number : (longest : ℕ) (ts : List Symbol) (wants : List Want) → NoSign 41 ts
     → judge longest ts (Outside (StageNumber ∷ Sign 41 ∷ wants)) ≡ judge longest ts (Outside (FullExpression ∷ Sign 41 ∷ wants))
 stage_number longest [] wants h = refl

@@ -1,16 +1,16 @@
--- At a place of a source one symbol is the longest.
+-- Bytes begin with at most one longest symbol.
 use Rattle.std.proofs.Common.{◌≡◌, ◌∙◌, ap, sym, ℕ, true, List, [], ◌∷◌, ◌++◌, refl, arith, ◌⊎◌, inl, inr, Some, None, append-nil}
 use Rattle.std.proofs.lemmas.Bool.Decides.{nat_tests}
 use Rattle.pipe_model.specs.declared.symbol.Symbol.{Symbol}
 use Rattle.pipe_model.specs.Language.Lexis.{is_blank, symbol_of, IsLongest}
 
--- of two fronts of one list, the longer goes on from the shorter
+-- of two prefixes of one list, the longer extends the shorter
 pub record GoesOn (short long after_short after_long : List ℕ) : Type 0 where
   pub more : List ℕ
   pub front : long ≡ short ++ more
   pub rest : after_short ≡ more ++ after_long
 
--- of two fronts of one list, one goes on from the other
+-- of two prefixes of one list, one extends the other
 pub one_goes_on : (x y u v : List ℕ) → x ++ u ≡ y ++ v → GoesOn x y u v ⊎ GoesOn y x v u
 one_goes_on [] y u v h = inl (record { more = y; front = refl; rest = h })
 one_goes_on (a ∷ x) [] u v h = inr (record { more = a ∷ x; front = refl; rest = sym h })
@@ -21,7 +21,7 @@ one_goes_on (a ∷ x) (b ∷ y) u v h =
       | inr r ↦ inr (record { more = r.more; front = (let f = r.front in cc (heads, f)); rest = r.rest })
     ]
 
--- a front that goes on from the longest symbol and is a symbol is that symbol's text
+-- a symbol that extends the longest symbol has the same text
 not_longer : (x y u v : List ℕ) (s : Symbol) → IsLongest x u → GoesOn x y u v → symbol_of y ≡ Some s → (x ≡ y) × (u ≡ v)
 not_longer x y u v s l r t = by_more r.more refl
   where
@@ -36,7 +36,7 @@ blank_is b g = grind (arith, nat_tests)
 none_at : (k : ℕ) (bs : List ℕ) (s : Symbol) → symbol_of (k ∷ bs) ≡ None → symbol_of (k ∷ bs) ≡ Some s → ⊥
 none_at k bs s none h = let e : None ≡ Some s = sym none ∙ h in cc (e)
 
--- what begins with a space, a tab, a carriage return or a line feed is no symbol
+-- no symbol begins with a space, a tab, a carriage return or a line feed
 blanks_begin_none : (bs : List ℕ) → (symbol_of (32 ∷ bs) ≡ None) × (symbol_of (9 ∷ bs) ≡ None) × (symbol_of (13 ∷ bs) ≡ None) × (symbol_of (10 ∷ bs) ≡ None)
 blanks_begin_none [] = (refl, refl, refl, refl)
 blanks_begin_none (c ∷ bs) = (refl, refl, refl, refl)
@@ -51,7 +51,7 @@ blank_begins_no_symbol b bs s g h = by_cases (blank_is b g)
     by_cases (inr (inr (inl e))) = none_at 13 bs s (blanks_begin_none bs).2 (ap (λ (x : ℕ). symbol_of (x ∷ bs)) (sym e) ∙ h)
     by_cases (inr (inr (inr e))) = none_at 10 bs s (blanks_begin_none bs).3 (ap (λ (x : ℕ). symbol_of (x ∷ bs)) (sym e) ∙ h)
 
--- the longest symbols at one place are one, and leave the same
+-- two longest symbols at the same bytes are equal, and so are their rests
 pub one_longest : (x y u v : List ℕ) (s s' : Symbol) → IsLongest x u → IsLongest y v → symbol_of x ≡ Some s → symbol_of y ≡ Some s' → x ++ u ≡ y ++ v → (x ≡ y) × (u ≡ v)
 one_longest x y u v s s' l l' t t' h = elim (one_goes_on x y u v h) [
   | inl r ↦ not_longer x y u v s' l r t'

@@ -1,4 +1,4 @@
--- Pieces one after the other: their symbols, and how long their full expressions are.
+-- Pieces in order: their symbols, and the lengths of their full expressions.
 use Rattle.std.proofs.Common.{◌≡◌, ℕ, ◌≤◌, ◌+◌, List, [], ◌∷◌, ◌++◌, length, refl, sym, ap, ◌∙◌, append_assoc, length-append, arith}
 use Rattle.pipe_model.specs.declared.symbol.Symbol.{Symbol}
 use Rattle.pipe_model.specs.Language.Grammar.{Piece, Single, FullExpression, flat}
@@ -9,7 +9,7 @@ flat_append [] qs = refl
 flat_append (Single t ∷ ps) qs = ap (λ x. t ∷ x) (flat_append ps qs)
 flat_append (FullExpression ts ∷ ps) qs = ap (λ x. ts ++ x) (flat_append ps qs) ∙ sym (append_assoc ts (flat ps) (flat qs))
 
--- two parts before a rest
+-- two lists of pieces, followed by symbols
 pub flat_two : (ps qs : List Piece) (rest : List Symbol) → flat (ps ++ qs) ++ rest ≡ flat ps ++ (flat qs ++ rest)
 flat_two ps qs rest = ap (λ x. x ++ rest) (flat_append ps qs) ∙ append_assoc (flat ps) (flat qs) rest
 

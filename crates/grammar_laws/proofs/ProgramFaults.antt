@@ -1,4 +1,4 @@
--- What the machine of programs says of symbols is so by the grammar alone: what is a front of a program, and which full expression is too long.
+-- What the machine of programs reports holds by the grammar alone: which symbols begin a program, and which full expression is too long.
 use Rattle.std.proofs.Common.{◌≡◌, ◌≢◌, ℕ, suc, ◌<◌, ◌≤◌, List, [], ◌∷◌, ◌++◌, take, drop, length, refl, sym, ap, ◌∙◌, append_assoc, append-nil, length-append, arith, subst, ◌⊎◌, inl, inr, Option, Some, None, Bool, true, false, ◌==◌, nat_le, if◌then◌else◌}
 use Rattle.std.proofs.lemmas.List.{take-append-drop, length-take}
 use Rattle.pipe_model.specs.declared.symbol.Symbol.{Symbol}
@@ -23,7 +23,7 @@ use Rattle.grammar_laws.proofs.ProgramReading.{found_program}
 
 -- ---- where symbols lead
 
--- behind symbols, from the start: pieces, and the front of a full expression or none
+-- the symbols lead from the start to the state: pieces, and possibly the start of a full expression
 pub data Reached : List Symbol → MachineState → Type 0 where
   Between : (ps : List Piece) (wants : List Want) → ((qs : List Piece) → Completes wants qs → Completes program (ps ++ qs))
       → Reached (flat ps) (Outside wants)
@@ -48,7 +48,7 @@ reached_outside ps wants t (Outside left) f g =
 reached_outside ps wants t (Inside n i left) f g =
     Within ps (t ∷ []) n i left (sym g.0) (ap (λ o. expression.and_run o (expression.run [])) g.1) (λ ts e qs d c. f (FullExpression ts ∷ qs) (g.2 ts e qs d c))
 
--- a symbol behind a full expression that ends
+-- a symbol after a full expression that ends
 reached_behind : (ps : List Piece) (inside : List Symbol) (wants : List Want) (t : Symbol) (s : MachineState)
     → ((ts : List Symbol) (e : Expression) (qs : List Piece) → Derives any_expression ts e → Completes wants qs → Completes program (ps ++ FullExpression ts ∷ qs))
     → inner.IsExpression inside → step wants t ≡ Some s
@@ -89,18 +89,17 @@ reached_from before [] s s' r h = let e : s ≡ s' = cc (h) in subst (Reached (b
 reached_from before (t ∷ ts) s s' r h =
     reached_on (next s t) before t ts s s' r refl (λ mid q i. reached_from (before ++ t ∷ []) ts mid s' q i) h
 
--- what runs from the start leads there
+-- symbols over which the machine runs lead to its state
 pub reached : (ts : List Symbol) (s : MachineState) → run ts (Outside program) ≡ Some s → Reached ts s
 reached ts s h = reached_from [] ts (Outside program) s (Between [] program (λ qs c. c)) h
 
 -- ---- what completes a program
 
--- pieces that derive some program
 pub record IsProgram (ps : List Piece) : Type 0 where
   pub tree : SyntaxTree
   pub derived : DerivesProgram ps tree
 
--- what spells all that has to come is a program
+-- pieces that complete the wants of a program derive a program
 pub completed_program : {ps : List Piece} → Completes program ps → IsProgram ps
 completed_program (OfWord w (OfWord w' (OfNumber iterations (OfSign b (OfWord w'' (OfNumber stages (OfSign b' (OfWord v (OfNumber steps (OfSign b''
     (OfWord v' (OfNumber emits (OfSign d (OfCells {ps = cs} c (OfPart {ps = is} seven i (OfWord v'' (OfSign d' (OfFull {ts = ts} e (OfSign d''
@@ -111,16 +110,16 @@ completed_program (OfWord w (OfWord w' (OfNumber iterations (OfSign b (OfWord w'
     ∙ ap (λ x. bs ++ Single close_brace ∷ x) (sym (append-nil ls))) in
     rw (sym same) (record { tree = _; derived = p })
 
--- ---- what is reached is a front
+-- ---- symbols that lead to a state are a prefix of a program
 
--- symbols that lead between full expressions
+-- symbols that lead to a state outside full expressions
 between_front : (ps : List Piece) (wants : List Want) → ((qs : List Piece) → Completes wants qs → Completes program (ps ++ qs)) → IsProgramPrefix (flat ps)
 between_front ps wants f =
     let c = completion wants in
     let p = completed_program (f c.pieces c.completes) in
     record { after = flat c.pieces; pieces = ps ++ c.pieces; tree = p.tree; derived = p.derived; split = sym (flat_append ps c.pieces) }
 
--- a full expression that goes on from its front, and a program that goes on from it
+-- a full expression that extends the given start, in a program that extends the given pieces
 pub record GoesOnAsProgram (ps : List Piece) (inside : List Symbol) : Type 0 where
   pub more : List Symbol
   pub after : List Piece
@@ -148,21 +147,21 @@ within_front ps inside g = record {
       ∙ sym (flat_append ps (FullExpression (inside ++ g.more) ∷ g.after));
 }
 
--- what leads somewhere is a front of a program
+-- symbols that lead to a state are a prefix of a program
 pub reached_front : {ts : List Symbol} {s : MachineState} → Reached ts s → IsProgramPrefix ts
 reached_front (Between ps wants f) = between_front ps wants f
 reached_front (Within ps inside n i wants l r f) = within_front ps inside (within_goes_on ps inside i wants r f)
 
--- and ends too long where 257 symbols of a full expression were counted
+-- they end too long if 257 symbols of a full expression were counted
 pub reached_too_long : {ts : List Symbol} {n : ℕ} {i : List expression.Want} {wants : List Want} → Reached ts (Inside n i wants) → n ≡ 257
     → EndsTooLong ts
 reached_too_long (Within ps inside n i wants l r f) h =
     let g = within_goes_on ps inside i wants r f in
     record { before = ps; inside = inside; more = g.more; after = g.after; tree = g.tree; derived = g.derived; many = l ∙ h; split = refl }
 
--- ---- only a front runs
+-- ---- the machine runs over each prefix of a program
 
--- accepted symbols run, and what is behind a front of them is accepted from there
+-- the machine runs over the symbols before, and accepts those after from its state
 pub record AcceptedFrom (longest : ℕ) (before after : List Symbol) (s : MachineState) : Type 0 where
   pub state : MachineState
   pub runs : run before s ≡ Some state
@@ -190,11 +189,11 @@ accepted_from longest [] after s h = record { state = s; runs = refl; accepted =
 accepted_from longest (t ∷ before) after s h =
     accepted_on longest (next s t) (length (t ∷ (before ++ after))) t before after s refl (λ mid i. accepted_from longest before after mid i) h
 
--- a program is accepted with a bound that is great enough
+-- the machine accepts a program if the bound is at least its length
 pub program_accepted : (ps : List Piece) (p : SyntaxTree) → DerivesProgram ps p → judge (length (flat ps)) (flat ps) (Outside program) ≡ Accepted
 program_accepted ps p d = accepts_program (found_program d (all_short (length (flat ps)) ps (omega arith)))
 
--- a front of a program runs
+-- the machine runs over a prefix of a program
 pub front_runs : (ts : List Symbol) → (f : IsProgramPrefix ts) → AcceptedFrom (length (flat f.pieces)) ts f.after (Outside program)
 front_runs ts f =
     accepted_from (length (flat f.pieces)) ts f.after (Outside program)
@@ -202,7 +201,7 @@ front_runs ts f =
 
 -- ---- a full expression that is too long is found
 
--- a derived expression runs
+-- the machine runs over the symbols of an expression
 pub record RunsTo (ts : List Symbol) : Type 0 where
   pub left : List expression.Want
   pub ran : expression.run ts whole ≡ Some left
@@ -220,14 +219,14 @@ front_ran : (o : Option (List expression.Want)) (go : List expression.Want → O
 front_ran None go left h = absurd (cc (h))
 front_ran (Some mid) go left h = (mid, refl)
 
--- a front of it too
+-- the machine runs over each prefix of an expression
 expression_front_runs : {e : Expression} (inside more : List Symbol) → Derives any_expression (inside ++ more) e → RunsTo inside
 expression_front_runs inside more d =
     let r = derived_runs d in
     let m = front_ran (expression.run inside whole) (expression.run more) r.left (sym (runs.run_part inside more whole) ∙ r.ran) in
     record { left = m.0; ran = m.1 }
 
--- the machine stops at a symbol too many, with more than the rest left
+-- the machine stops at a symbol too many, with more than `rest` left
 pub record FindsTooLong (longest : ℕ) (ts : List Symbol) (wants : List Want) (rest : List Symbol) : Type 0 where
   pub left : ℕ
   pub verdict : judge longest ts (Outside wants) ≡ TooLong left
@@ -241,7 +240,7 @@ too_long_here longest inside more rest wants d h =
     let r = expression_front_runs inside more d in
     record { left = suc (length rest); verdict = over_full longest inside rest r.left wants r.ran h; more = omega arith }
 
--- a full expression on the way is passed, or is too long itself
+-- the machine passes a full expression on the way, or finds that it is too long
 pub over_or_past : {e : Expression} (longest : ℕ) (ts : List Symbol) (sign : ℕ) (behind rest : List Symbol) (wants : List Want) → Derives any_expression ts e → sign ≢ 91
     → (length ts ≤ longest) ⊎ (longest < length ts) → length rest ≤ length behind
     → FindsTooLong longest behind wants rest

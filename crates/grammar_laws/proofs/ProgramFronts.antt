@@ -1,4 +1,4 @@
--- Where the machine of programs runs, there is a program that goes on so: what has to come can come, and each step of the table is sound.
+-- If the machine of programs runs over symbols, some program begins with them: wants can be completed, and each step of the table is sound.
 use Rattle.std.proofs.Common.{◌≡◌, ℕ, ℤ, List, [], ◌∷◌, ◌++◌, refl, sym, ap, ◌∙◌, append_assoc, arith, subst, ◌⊎◌, inl, inr, Option, Some, None, Bool, true, false, ◌==◌, ◌||◌, pos, negsuc, if◌then◌else◌}
 use Rattle.std.proofs.lemmas.Bool.{cases_eq}
 use Rattle.pipe_model.specs.declared.symbol.Symbol.{Symbol}
@@ -12,7 +12,7 @@ use Rattle.grammar_laws.specs.ProgramMachine.{Want, Sign, Word, AnyName, AnyNumb
 use Rattle.grammar_laws.specs.ExpressionMachine as expression
 use Rattle.pipe_model.proofs.LevelLaws.{looser}
 
--- ---- what spells a list of wants
+-- ---- pieces that complete a list of wants
 pub data Completes : List Want → List Piece → Type 0 where
   Nothing : Completes [] []
   OfSign : {wants : List Want} {ps : List Piece} (sign : ℕ) → Completes wants ps → Completes (Sign sign ∷ wants) (Single (symbols.Sign sign) ∷ ps)
@@ -40,7 +40,7 @@ pub data Completes : List Want → List Piece → Type 0 where
   OfSize : {wants : List Want} {ps qs : List Piece} {size : Option ℤ} → DerivesSize ps size → Completes wants qs → Completes (Size ∷ wants) (ps ++ qs)
   OfValue : {wants : List Want} {ps qs : List Piece} {value : ℤ} → DerivesValue ps value → Completes wants qs → Completes (Value ∷ wants) (ps ++ qs)
 
--- pieces that spell the wants
+-- pieces that complete the wants
 pub record Completion (wants : List Want) : Type 0 where
   pub pieces : List Piece
   pub completes : Completes wants pieces
@@ -66,12 +66,12 @@ one_more Cells wants c = record { pieces = c.pieces; completes = OfCells NoCell 
 one_more Size wants c = record { pieces = c.pieces; completes = OfSize NoSize c.completes }
 one_more Value wants c = record { pieces = Single (symbols.Number (pos 0)) ∷ c.pieces; completes = OfValue (ValueIs (pos 0)) c.completes }
 
--- each list of wants is spelled by some pieces
+-- each list of wants is completed by some pieces
 pub completion : (wants : List Want) → Completion wants
 completion [] = record { pieces = []; completes = Nothing }
 completion (want ∷ wants) = one_more want wants (completion wants)
 
--- what may end is spelled by no pieces
+-- wants that may end are completed by no pieces
 pub completes_end : (wants : List Want) → may_end wants ≡ true → Completes wants []
 completes_end [] h = Nothing
 completes_end (Sign sign ∷ wants) h = absurd (cc (h))
@@ -97,7 +97,7 @@ one_statement_more : {wants : List Want} {ps qs : List Piece} {s : Statement} �
     → Completes (machine.Statements ∷ wants) (ps ++ qs)
 one_statement_more {ps = ps} d (OfStatements {ps = qs} {qs = rs} d' c) = moved (sym (append_assoc ps qs rs)) (OfStatements (OneMore d d') c)
 
--- a block, as it has to come
+-- a block that completes a want
 record Block (wants : List Want) (ps : List Piece) : Type 0 where
   inside : List Piece
   rest : List Piece
@@ -180,7 +180,7 @@ part_back : {wants : List Want} {ps : List Piece} (word : ℕ) → Completes (Si
     → Completes (Part word ∷ wants) (Single (symbols.Word word) ∷ ps)
 part_back word c = let k = block_first c in moved (ap (λ x. Single (symbols.Word word) ∷ x) k.split) (OfPart word (PartIs k.derived) k.completes)
 
--- the value and the rest of the declarations
+-- the value of a declaration and the declarations after it
 cells_split : (ps qs rs rest : List Piece) → ps ++ Single equals ∷ (qs ++ Single semicolon ∷ (rs ++ rest))
     ≡ (ps ++ Single equals ∷ (qs ++ Single semicolon ∷ rs)) ++ rest
 cells_split ps qs rs rest =
@@ -222,7 +222,7 @@ same_part word k h c = let e : k ≡ word = grind (arith, h) in rw e (part_back 
 which_stage : (word : ℕ) → ((word == 9) || (word == 10)) ≡ true → (word ≡ 9) ⊎ (word ≡ 10)
 which_stage word h = elim (cases_eq word 9) [ inl e ↦ inl e | inr e ↦ inr (grind (arith, e, h)) ]
 
--- what spells the wants behind a symbol spells, behind it, the wants before
+-- if pieces complete the wants after the move, then `t` and these pieces complete the wants before it
 abbrev MovesBack : Move → Want → Symbol → Type 0
 MovesBack (Takes more) want t = (wants : List Want) (ps : List Piece) → Completes (more ++ wants) ps → Completes (want ∷ wants) (Single t ∷ ps)
 MovesBack Enters want t =
@@ -254,7 +254,7 @@ natural_back : (n : ℤ) → MovesBack (natural_move n) Natural (symbols.Number 
 natural_back (pos n) = λ wants ps c. OfNatural n c
 natural_back (negsuc n) = tt
 
--- the table is sound
+-- each entry of the table is sound
 back : (want : Want) (t : Symbol) → MovesBack (move want t) want t
 back (Sign sign) (symbols.Sign b) = either (b == sign) (Takes []) Refuses (Sign sign) (symbols.Sign b) (λ h wants ps c. same_sign sign b h c) (λ h. tt)
 back (Sign sign) (symbols.Name name) = tt
@@ -327,7 +327,7 @@ back Value (symbols.Sign b) = tt
 
 -- ---- a step of the machine
 
--- a symbol leads from the wants to where the machine stands
+-- the symbol leads from the wants to the state
 abbrev pub Leads : List Want → Symbol → MachineState → Type 0
 Leads wants t (Outside left) = (ps : List Piece) → Completes left ps → Completes wants (Single t ∷ ps)
 Leads wants t (Inside n inner left) =
@@ -353,7 +353,7 @@ stepped_leads Enters want t wants below s f g h = begun want wants t s (expressi
 stepped_leads Skips want t wants below s f g h = skipped want wants t s (f wants) (g h)
 stepped_leads Refuses want t wants below s f g h = absurd (cc (h))
 
--- a step leads on
+-- a step of the machine leads to its state
 pub step_leads : (wants : List Want) (t : Symbol) (s : MachineState) → step wants t ≡ Some s → Leads wants t s
 step_leads [] t s h = absurd (cc (h))
 step_leads (want ∷ wants) t s h =

@@ -1,4 +1,4 @@
--- Statements, cells and programs that are read are passed by the machine of programs.
+-- The machine of programs passes statements, cells and programs that are read.
 use Rattle.std.proofs.Common.{◌≡◌, ℕ, ℤ, List, [], ◌∷◌, refl, ◌∙◌, arith, Option, true, false, ◌==◌}
 use Rattle.pipe_model.specs.declared.symbol.Symbol.{Symbol}
 use Rattle.pipe_model.specs.declared.symbol.Symbol.TheVariants as symbols
@@ -26,7 +26,6 @@ pub part_begins : (longest word : ℕ) (ts : List Symbol) (wants : List Want)
 part_begins longest word ts wants = let e : (word == word) ≡ true = grind arith in rw e refl
 
 mutual
-  -- a statement is passed
   pub passes_statement : {longest : ℕ} {ts rest : List Symbol} {s : Statement} → ReadsStatement longest ts s rest → (wants : List Want)
       → judge longest ts (Outside (machine.Statements ∷ wants)) ≡ judge longest rest (Outside (machine.Statements ∷ wants))
   passes_statement (ReadsLet name r) wants = passes_full r (Sign 59 ∷ machine.Statements ∷ wants)
@@ -45,18 +44,17 @@ mutual
   passes_statement (ReadsContinue r) wants = passes_stage_number r (Sign 59 ∷ machine.Statements ∷ wants)
   passes_statement (ReadsContinueNext rest) wants = refl
 
-  -- statements and the brace that closes them are passed
+  -- statements and the brace that closes them
   pub passes_statements : {longest : ℕ} {ts rest : List Symbol} {ss : Statements} → ReadsStatements longest ts ss rest → (wants : List Want)
       → judge longest ts (Outside (machine.Statements ∷ Sign 125 ∷ wants)) ≡ judge longest rest (Outside wants)
   passes_statements (ReadsClose rest) wants = refl
   passes_statements (ReadsOneMore r b) wants = passes_statement r (Sign 125 ∷ wants) ∙ passes_statements b wants
 
-  -- a block is passed
   pub passes_block : {longest : ℕ} {ts rest : List Symbol} {ss : Statements} → ReadsBlock longest ts ss rest → (wants : List Want)
       → judge longest ts (Outside (Sign 123 ∷ machine.Statements ∷ Sign 125 ∷ wants)) ≡ judge longest rest (Outside wants)
   passes_block (ReadsBraces r) wants = passes_statements r wants
 
-  -- a part that may be missing is passed
+  -- a part that may be missing
   pub passes_part : {longest word : ℕ} {ts rest : List Symbol} {ss : Statements} → ReadsPart longest word ts ss rest → (wants : List Want)
       → judge longest ts (Outside (Part word ∷ wants)) ≡ judge longest rest (Outside wants)
   passes_part {longest} (ReadsNoPart {word = word} ts h) wants = no_part longest word ts wants h
@@ -71,24 +69,21 @@ no_size longest (symbols.Number n ∷ ts) wants h = refl
 no_size longest (symbols.Operator code ∷ ts) wants h = refl
 no_size longest (symbols.Sign b ∷ ts) wants h = let e : (b == 91) ≡ false = grind (arith, h) in rw e refl
 
--- a size is passed
 pub passes_size : (longest : ℕ) {ts rest : List Symbol} {size : Option ℤ} → ReadsSize ts size rest → (wants : List Want)
     → judge longest ts (Outside (Size ∷ wants)) ≡ judge longest rest (Outside wants)
 passes_size longest (ReadsNoSize ts h) wants = no_size longest ts wants h
 passes_size longest (ReadsSizeIs n rest) wants = refl
 
--- a declared value is passed
 pub passes_value : (longest : ℕ) {ts rest : List Symbol} {value : ℤ} → ReadsValue ts value rest → (wants : List Want)
     → judge longest ts (Outside (Value ∷ wants)) ≡ judge longest rest (Outside wants)
 passes_value longest (ReadsValueIs n rest) wants = refl
 passes_value longest (ReadsNegativeValue n rest) wants = refl
 
--- a declaration is passed
 pub passes_cell : (longest : ℕ) {ts rest : List Symbol} {d : Declaration} → ReadsCell ts d rest → (wants : List Want)
     → judge longest ts (Outside (machine.AnyName ∷ Size ∷ Sign 61 ∷ Value ∷ Sign 59 ∷ wants)) ≡ judge longest rest (Outside wants)
 passes_cell longest (ReadsCellIs name s v) wants = passes_size longest s (Sign 61 ∷ Value ∷ Sign 59 ∷ wants) ∙ passes_value longest v (Sign 59 ∷ wants)
 
--- no further declaration
+-- no further declaration follows
 pub no_cell : (longest : ℕ) (ts : List Symbol) (wants : List Want) → NoWord 6 ts → judge longest ts (Outside (Cells ∷ wants)) ≡ judge longest ts (Outside wants)
 no_cell longest [] wants h = refl
 no_cell longest (symbols.Name name ∷ ts) wants h = refl
@@ -97,13 +92,12 @@ no_cell longest (symbols.Number n ∷ ts) wants h = refl
 no_cell longest (symbols.Operator code ∷ ts) wants h = refl
 no_cell longest (symbols.Sign b ∷ ts) wants h = refl
 
--- declarations are passed
 pub passes_cells : (longest : ℕ) {ts rest : List Symbol} {ds : List Declaration} → ReadsCells ts ds rest → (wants : List Want)
     → judge longest ts (Outside (Cells ∷ wants)) ≡ judge longest rest (Outside wants)
 passes_cells longest (ReadsNoCell ts h) wants = no_cell longest ts wants h
 passes_cells longest (ReadsCellThen r rs) wants = passes_cell longest r (Cells ∷ wants) ∙ passes_cells longest rs wants
 
--- a program that is read is accepted
+-- the machine accepts a program that is read
 pub accepts_program : {longest : ℕ} {ts : List Symbol} {p : SyntaxTree} → ReadsProgram longest ts p → judge longest ts (Outside program) ≡ Accepted
 accepts_program {longest} (ReadsAll iterations stages steps emits c i e b l) =
     passes_cells longest c (Part 7 ∷ Word 8 ∷ Sign 40 ∷ machine.FullExpression ∷ Sign 41 ∷ Sign 123 ∷ machine.Statements ∷ Sign 125 ∷ Part 11 ∷ [])

@@ -1,4 +1,4 @@
--- A reader of cells and programs finds what the whole grammar derives, and only that; so symbols derive one program at most.
+-- A reader of cells and programs finds what the whole grammar derives, and nothing else; so symbols derive at most one program.
 use Rattle.std.proofs.Common.{◌≡◌, ◌≤◌, ℕ, ℤ, pos, List, [], ◌∷◌, ◌++◌, length, refl, sym, ap, ◌∙◌, append-nil, arith, subst, Option}
 use Rattle.pipe_model.specs.declared.symbol.Symbol.{Symbol}
 use Rattle.pipe_model.specs.declared.symbol.Symbol.TheVariants as symbols
@@ -32,7 +32,7 @@ sound_value longest (ReadsNegativeValue n rest) = record {
   short = tt;
 }
 
--- the symbols of a declaration and of those behind it
+-- the symbols of a declaration and of those after it
 cell_split : (ps qs rs : List Piece) (ts us mid rest : List Symbol) → ts ≡ flat ps ++ equals ∷ us → us ≡ flat qs ++ semicolon ∷ mid → mid ≡ flat rs ++ rest
     → ts ≡ flat (ps ++ Single equals ∷ (qs ++ Single semicolon ∷ rs)) ++ rest
 cell_split ps qs rs ts us mid rest h i j =
@@ -58,7 +58,7 @@ pub sound_cells : {ts rest : List Symbol} {ds : List Declaration} (longest : ℕ
 sound_cells longest (ReadsNoCell ts h) = record { taken = []; split = refl; derived = NoCell; short = tt }
 sound_cells longest (ReadsCellThen r rs) = took_cell r (sound_cells longest rs)
 
--- the pieces of a program behind its limits
+-- the pieces of a program after its limits
 abbrev behind_limits : (cs is : List Piece) (ts : List Symbol) (bs ls : List Piece) → List Piece
 behind_limits cs is ts bs ls = cs ++ (is ++ Single word_pipe_while ∷ Single open_round ∷ FullExpression ts ∷ Single close_round ∷ (bs ++ ls))
 
@@ -123,7 +123,7 @@ moved_value {rest = rest} {value = value} h r = subst (λ x. ReadsValue x value 
 moved_cells : {a b rest : List Symbol} {ds : List Declaration} → a ≡ b → ReadsCells b ds rest → ReadsCells a ds rest
 moved_cells {rest = rest} {ds = ds} h r = subst (λ x. ReadsCells x ds rest) (sym h) r
 
--- declarations that are derived are read before what begins no declaration
+-- declarations that are derived are read if what follows begins no declaration
 pub found_cells : {ps : List Piece} {ds : List Declaration} → DerivesCells ps ds → (rest : List Symbol) → NoWord 6 rest → ReadsCells (flat ps ++ rest) ds rest
 found_cells NoCell rest h = ReadsNoCell rest h
 found_cells (CellIs {ps} {qs} {rs} name s v ds) rest h =
@@ -133,7 +133,7 @@ found_cells (CellIs {ps} {qs} {rs} name s v ds) rest h =
     (found_size s (equals ∷ us) (λ x. absurd (omega (arith, x))))) (moved_value (flat_two qs (Single semicolon ∷ rs) rest) (found_value v (semicolon ∷ mid))))
     (found_cells ds rest h)
 
--- what begins with `init` or with the loop begins no declaration
+-- neither `init` nor the loop begins a declaration
 begins_no_cell : {ps : List Piece} {ss : Statements} → DerivesPart (symbols.Word 7) ps ss → (rest : List Symbol) → NoWord 6 (flat ps ++ word_pipe_while ∷ rest)
 begins_no_cell NoPart rest = λ x. absurd (omega (arith, x))
 begins_no_cell (PartIs b) rest = λ x. absurd (omega (arith, x))
@@ -205,7 +205,7 @@ one_cells (ReadsCellThen r rs) (ReadsCellThen r' rs') =
     let j = q.tree in
     record { tree = cc (i, j); left = q.left }
 
--- behind the loop's word and bracket
+-- the symbols after the word and the bracket of the loop
 same_test : {ts us : List Symbol} → word_pipe_while ∷ open_round ∷ ts ≡ word_pipe_while ∷ open_round ∷ us → ts ≡ us
 same_test h = cc (h)
 
@@ -225,7 +225,7 @@ one_read_program {longest} (ReadsAll {is = is} {ts = ts} {us = us} {vs = vs} ite
     let v = s.tree in
     cc (m, n, t, u, v)
 
--- symbols derive one program at most
+-- symbols derive at most one program
 pub one_program : (ps qs : List Piece) (p q : SyntaxTree) → DerivesProgram ps p → DerivesProgram qs q → flat ps ≡ flat qs → p ≡ q
 one_program ps qs p q d d' h =
     let many : length (flat qs) ≤ length (flat ps) = omega (arith, ap length h) in

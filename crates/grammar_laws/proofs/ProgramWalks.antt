@@ -1,4 +1,4 @@
--- The machine of programs goes over the pieces of a program, so that it counts the symbols of each full expression.
+-- The machine of programs walks over the pieces of a program, and so counts the symbols of each full expression.
 use Rattle.std.proofs.Common.{◌≡◌, ◌≢◌, ℕ, ℤ, List, [], ◌∷◌, ◌++◌, refl, sym, ap, ◌∙◌, append_assoc, append-nil, arith, subst, Option, true, false, ◌==◌}
 use Rattle.pipe_model.specs.declared.symbol.Symbol.{Symbol}
 use Rattle.pipe_model.specs.declared.symbol.Symbol.TheVariants as symbols
@@ -34,7 +34,7 @@ BeginsWithout word (Single (symbols.Sign b) ∷ ps) = Unit {0}
 moved : {wants : List Want} {ps qs : List Piece} → ps ≡ qs → Walks wants qs → Walks wants ps
 moved {wants} h w = subst (Walks wants) (sym h) w
 
--- a symbol that has to come
+-- a symbol that is wanted
 comes : {want : Want} {wants : List Want} {t : Symbol} {ps : List Piece} → move want t ≡ Takes [] → Walks wants ps → Walks (want ∷ wants) (Single t ∷ ps)
 comes h w = Begins {more = []} h w
 
@@ -54,7 +54,7 @@ without_part word (Single (symbols.Number n) ∷ ps) h w = LeavesOut refl w
 without_part word (Single (symbols.Operator code) ∷ ps) h w = LeavesOut refl w
 without_part word (Single (symbols.Sign b) ∷ ps) h w = LeavesOut refl w
 
--- a statement begins with a symbol that is no `else`
+-- no statement begins with `else`
 statement_begins : {ps : List Piece} {s : Statement} → DerivesStatement ps s → (qs : List Piece) → BeginsWithout 14 (ps ++ qs)
 statement_begins (LetIs name d) qs = λ x. absurd (omega (arith, x))
 statement_begins (AssignIs name d) qs = tt
@@ -85,7 +85,6 @@ abbrev before_square : {wants : List Want} {ts : List Symbol} {e : Expression} {
 before_square d w = OverFull 93 (λ x. absurd (omega (arith, x))) d w
 
 mutual
-  -- over a statement
   walks_statement : {ps : List Piece} {s : Statement} → DerivesStatement ps s → (wants : List Want) (qs : List Piece) → BeginsWithout 14 qs
       → Walks (machine.Statements ∷ wants) qs
       → Walks (machine.Statements ∷ wants) (ps ++ qs)
@@ -136,7 +135,7 @@ walks_value : {ps : List Piece} {value : ℤ} → DerivesValue ps value → (wan
 walks_value (ValueIs n) wants qs w = comes refl w
 walks_value (NegativeValueIs n) wants qs w = Begins refl (comes refl w)
 
--- the pieces of declarations, put together
+-- the pieces of declarations, joined
 cells_split : (ps qs rs rest : List Piece) → (ps ++ Single equals ∷ (qs ++ Single semicolon ∷ rs)) ++ rest
     ≡ ps ++ Single equals ∷ (qs ++ Single semicolon ∷ (rs ++ rest))
 cells_split ps qs rs rest =
@@ -151,7 +150,7 @@ walks_cells (CellIs {ps} {qs = ps'} {rs} name s v ds) wants qs w =
     (walks_size s (Sign 61 ∷ Value ∷ Sign 59 ∷ Cells ∷ wants) (ps' ++ Single semicolon ∷ (rs ++ qs)) (comes refl
     (walks_value v (Sign 59 ∷ Cells ∷ wants) (Single semicolon ∷ (rs ++ qs)) (comes refl (walks_cells ds wants qs w)))))))
 
--- declarations are left out before `init` and before the loop
+-- the want for declarations is skipped before `init` and of the loop
 without_cells : {ps : List Piece} {ss : Statements} → DerivesPart (symbols.Word 7) ps ss → (wants : List Want) (qs : List Piece)
     → Walks wants (ps ++ Single word_pipe_while ∷ qs)
     → Walks (Cells ∷ wants) (ps ++ Single word_pipe_while ∷ qs)
@@ -161,7 +160,6 @@ without_cells (PartIs b) wants qs w = LeavesOut refl w
 walks_last : {ps : List Piece} {ss : Statements} → DerivesPart (symbols.Word 11) ps ss → Walks (Part 11 ∷ []) ps
 walks_last {ps} d = moved (sym (append-nil ps)) (walks_part d [] [] tt (Stays []))
 
--- over a program
 pub walks_program : {ps : List Piece} {p : SyntaxTree} → DerivesProgram ps p → Walks program ps
 walks_program (ProgramIs {cs} {is} {bs} {ls} {ts} iterations stages steps emits c i e b l) =
     let loop = Single open_round ∷ FullExpression ts ∷ Single close_round ∷ (bs ++ ls) in

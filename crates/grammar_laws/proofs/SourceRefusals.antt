@@ -1,4 +1,4 @@
--- A source is accepted as one program, or refused for one thing, at most.
+-- A source is accepted as at most one program, or refused for at most one reason.
 use Rattle.std.proofs.Common.{◌≡◌, ◌∙◌, ℕ, ℤ, pos, List, slice_get, Option, Some, None, ap, sym, subst}
 use Rattle.pipe_model.specs.declared.token.Token.{Token}
 use Rattle.pipe_model.specs.Language.CheckingRules.{Fault, OutOfLimit, Broken, fault_of}
@@ -13,7 +13,7 @@ use Rattle.grammar_laws.proofs.FaultRules as faults
 use Rattle.grammar_laws.proofs.OneSourceSpelling.{one_source_spelling}
 use Rattle.grammar_laws.proofs.TokenLaws.{no_fault, one_fault, one_list}
 
--- a source has one list of tokens within the bounds
+-- a source has at most one list of tokens within the bounds
 pub one_lexed : (source : List ℕ) (tokens others : List Token) → IsLexed source tokens → IsLexed source others → tokens ≡ others
 one_lexed source tokens others h g = one_list source tokens others h.scanned g.scanned
 
@@ -23,25 +23,25 @@ spelled_unbroken : (source : List ℕ) (tokens : List Token) (rule : grammar.Gra
 spelled_unbroken source tokens rule place tree l b s =
     faults.spelled_without_fault b.breaks (subst (λ found. Spells (symbols_in source found) tree) (one_lexed source s.tokens tokens s.lexed l) s.spelled)
 
--- the first token that breaks a rule is one, and so is the rule
+-- at most one token is the first that breaks a rule, and it breaks one rule first
 one_break : (source : List ℕ) (tokens : List Token) (rule other : grammar.GrammarRule) (place at : ℕ) → BreaksAt source tokens rule place → BreaksAt source tokens other at
     → Syntactic rule place ≡ Syntactic other at
 one_break source tokens rule other place at b c =
     let one = faults.one_fault b.breaks c.breaks in
     let places : place ≡ at = b.place_is ∙ ap (fault_place source tokens) one.0 ∙ sym c.place_is in cc (places, one.1)
 
--- of two programs that a source spells, the faults are one
+-- two programs that a source spells have the same fault
 same_fault : (source : List ℕ) (tree other : SyntaxTree) (f g : Option Fault) → SourceSpells source tree → SourceSpells source other → fault_of tree ≡ f
     → fault_of other ≡ g → f ≡ g
 same_fault source tree other f g s o h k = sym h ∙ ap fault_of (one_source_spelling source tree other s o) ∙ k
 
--- a mark has one place
+-- a mark has one offset
 one_place : (places others : List ℤ) (mark number : ℕ) (place at : ℕ) → places ≡ others → mark ≡ number → slice_get places mark ≡ Some (pos place)
     → slice_get others number ≡ Some (pos at) → place ≡ at
 one_place places others mark number place at p m h k =
     let e : Some (pos place) ≡ Some (pos at) = sym h ∙ ap (λ ps. slice_get ps mark) p ∙ ap (slice_get others) m ∙ k in cc (e)
 
--- a source is refused for one thing
+-- a source is refused for at most one reason
 pub one_refusal : {source : List ℕ} {refusal other : Refusal} → IsRefused source refusal → IsRefused source other → refusal ≡ other
 one_refusal {source} (ForItsText f h) (ForItsText g k) = ap Lexical (one_fault source f g h k)
 one_refusal {source} (ForItsText f h) (ForAToken tokens rule place l b) = absurd (no_fault source tokens f l h)
@@ -78,6 +78,6 @@ refused_not_accepted {source} tree (ForALimit other which s e) a =
 refused_not_accepted {source} tree (ForARule other rule mark place s e at) a =
     let f : Some (Broken rule mark) ≡ None = same_fault source other tree _ _ s a.spelled e a.obeys in cc (f)
 
--- a source is accepted as one program
+-- a source is accepted as at most one program
 pub one_accepted : (source : List ℕ) (tree other : SyntaxTree) → IsAccepted source tree → IsAccepted source other → tree ≡ other
 one_accepted source tree other a b = one_source_spelling source tree other a.spelled b.spelled

@@ -1,4 +1,4 @@
--- A reader of statements finds what the whole grammar derives, and only that, and in one way.
+-- A reader of statements finds what the whole grammar derives, and nothing else, and in one way.
 use Rattle.std.proofs.Common.{◌≡◌, ◌≢◌, ℕ, ◌≤◌, ◌+◌, List, [], ◌∷◌, ◌++◌, length, refl, sym, ap, ◌∙◌, append_assoc, length-append, arith, subst}
 use Rattle.pipe_model.specs.declared.tree.StageKind.TheVariants as kinds
 use Rattle.pipe_model.specs.declared.symbol.Symbol.{Symbol}
@@ -34,12 +34,12 @@ sound_full {longest} {ts} {e} {rest} r =
     let many : length ts ≡ length t.taken + length rest = ap length t.split ∙ length-append t.taken rest in
     record { taken = t.taken; split = t.split; derived = t.derived; short = omega (arith, many, r.short) }
 
--- a front, an expression and what closes it, put together
+-- a start, an expression and what closes it, joined
 closed_front : (front taken close rest ts : List Symbol) → ts ≡ taken ++ (close ++ rest) → front ++ ts ≡ (front ++ (taken ++ close)) ++ rest
 closed_front front taken close rest ts h =
     ap (λ x. front ++ x) (h ∙ sym (append_assoc taken close rest)) ∙ sym (append_assoc front (taken ++ close) rest)
 
--- a statement whose only part is an expression between a front and what closes it
+-- a statement whose only part is an expression between a start and what closes it
 took_simple : {longest : ℕ} {s : Statement} {e : Expression} (front close : List Symbol) (pieces : List Symbol → List Piece) (ts rest : List Symbol)
     → ((us : List Symbol) → Derives any_expression us e → DerivesStatement (pieces us) s)
     → ((us : List Symbol) → flat (pieces us) ≡ front ++ (us ++ close)) → ((us : List Symbol) → length us ≤ longest → AreShort longest (pieces us))
@@ -60,7 +60,7 @@ element_split taken other us ts rest h i =
     h ∙ ap (λ x. taken ++ close_square ∷ equals ∷ x) (i ∙ sym (append_assoc other (semicolon ∷ []) rest))
     ∙ sym (append_assoc taken (close_square ∷ equals ∷ (other ++ semicolon ∷ [])) rest)
 
--- the symbols of a test in brackets and what is behind it
+-- the symbols of a test in brackets and of what follows it
 test_split : (taken ts us rest : List Symbol) (ps : List Piece) → ts ≡ taken ++ close_round ∷ us → us ≡ flat ps ++ rest
     → ts ≡ (taken ++ close_round ∷ flat ps) ++ rest
 test_split taken ts us rest ps h i = h ∙ ap (λ x. taken ++ close_round ∷ x) i ∙ sym (append_assoc taken (close_round ∷ flat ps) rest)
@@ -175,14 +175,14 @@ mutual
 
 -- ---- what is derived is read
 
--- a full expression is read before a sign that is no `[`
+-- a full expression is read before a sign other than `[`
 pub found_full : {longest : ℕ} {ts : List Symbol} {e : Expression} (sign : ℕ) (rest : List Symbol) → sign ≢ 91 → Derives any_expression ts e → length ts ≤ longest
     → ReadsFull longest (ts ++ symbols.Sign sign ∷ rest) e (symbols.Sign sign ∷ rest)
 found_full {longest} {ts} {e} sign rest h d l =
     let many : length (ts ++ symbols.Sign sign ∷ rest) ≡ length ts + length (symbols.Sign sign ∷ rest) = length-append ts (symbols.Sign sign ∷ rest) in
     record { read = found_before_sign sign rest h d; short = omega (arith, many, l) }
 
--- whatever is written behind what closes it
+-- the same, whatever follows the sign
 found_here : {longest : ℕ} {ts : List Symbol} {e : Expression} (sign : ℕ) (close rest : List Symbol) → sign ≢ 91 → Derives any_expression ts e → length ts ≤ longest
     → ReadsFull longest ((ts ++ symbols.Sign sign ∷ close) ++ rest) e (symbols.Sign sign ∷ (close ++ rest))
 found_here {longest} {ts} {e} sign close rest h d l =
@@ -201,7 +201,7 @@ moved_part {longest} {word} {rest = rest} {ss = ss} h r = subst (λ x. ReadsPart
 moved_full : {longest : ℕ} {a b rest : List Symbol} {e : Expression} → a ≡ b → ReadsFull longest b e rest → ReadsFull longest a e rest
 moved_full {longest} {rest = rest} {e = e} h r = subst (λ x. ReadsFull longest x e rest) (sym h) r
 
--- no statement begins with the word of an else part
+-- no statement begins with the word of an `else` part
 begins_no_else : {ps : List Piece} {s : Statement} → DerivesStatement ps s → (rest : List Symbol) → NoWord 14 (flat ps ++ rest)
 begins_no_else (LetIs name d) rest = λ x. absurd (omega (arith, x))
 begins_no_else (AssignIs name d) rest = tt
@@ -220,7 +220,7 @@ begin_no_else (OneMore {ps} {qs} d ds) rest =
     subst (NoWord 14) (sym (flat_two ps qs (close_brace ∷ rest))) (begins_no_else d (flat qs ++ close_brace ∷ rest))
 
 mutual
-  -- a statement that is derived is read where no else part follows
+  -- a statement that is derived is read if no `else` part follows
   pub found_statement : {longest : ℕ} {ps : List Piece} {s : Statement} → DerivesStatement ps s → AreShort longest ps → (rest : List Symbol) → NoWord 14 rest
       → ReadsStatement longest (flat ps ++ rest) s rest
   found_statement (LetIs name d) a rest h = ReadsLet name (found_here 59 [] rest (λ x. absurd (omega (arith, x))) d a.0)

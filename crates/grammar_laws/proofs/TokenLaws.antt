@@ -17,7 +17,7 @@ use Rattle.grammar_laws.proofs.LongestSymbols.{GoesOn, one_goes_on, blank_begins
 
 -- ---- the text of a symbol
 
--- a word or a name that is a name is its own text
+-- if the symbol of a word or a name is a name, the name is the text
 word_is_text : (o : Option ℕ) (text name : List ℕ) → word_or_name o text ≡ symbols.Name name → name ≡ text
 word_is_text (Some k) text name e = cc (e)
 word_is_text None text name e = cc (e)
@@ -49,7 +49,7 @@ name_is_text (b ∷ bs) name e = by_kind (is_letter b) (list_all is_name_byte bs
     by_kind false named true false e = cc (e)
     by_kind false named false numbered e = absurd (no_name (position (λ operator. bytes_eq operator (b ∷ bs)) operators) (b ∷ bs) name e)
 
--- a symbol is that of its kind and its text
+-- a symbol has the kind and the text that its token records
 pub symbol_of_kind : (text : List ℕ) (s : Symbol) → symbol_of text ≡ Some s → symbol_as (kind_of s) text ≡ s
 symbol_of_kind text (symbols.Name name) e = ap symbols.Name (sym (name_is_text text name e))
 symbol_of_kind text (symbols.Word k) e = refl
@@ -57,7 +57,7 @@ symbol_of_kind text (symbols.Number n) e = refl
 symbol_of_kind text (symbols.Operator code) e = refl
 symbol_of_kind text (symbols.Sign b) e = refl
 
--- ---- what stands at the front of bytes
+-- ---- what bytes begin with
 
 -- the text is a blank, a comment or a token
 data Stands : List ℕ → List ℕ → Option Symbol → Type 0 where
@@ -69,7 +69,7 @@ data Stands : List ℕ → List ℕ → Option Symbol → Type 0 where
 no_blank_slash : (b c : ℕ) → is_blank b ≡ true → ((b == 47) && (c == 47)) ≡ true → ⊥
 no_blank_slash b c g h = grind (arith, nat_tests)
 
--- what begins as a comment does so with what follows
+-- text that begins a comment does so with more bytes after it
 pub comment_begins : (text rest : List ℕ) → begins_comment text ≡ true → begins_comment (text ++ rest) ≡ true
 comment_begins [] rest e = cc (e)
 comment_begins (a ∷ []) rest e = cc (e)
@@ -81,7 +81,7 @@ blank_no_comment b rest [] after g h e = cc (h)
 blank_no_comment b rest (a ∷ []) after g h e = cc (h)
 blank_no_comment b rest (a ∷ c ∷ text) after g h e = let same : b ≡ a = cc (e) in no_blank_slash a c (ap is_blank (sym same) ∙ g) h
 
--- no line feed stands in a comment
+-- a comment contains no line feed
 no_feed_inside : (x m : List ℕ) (c : ℕ) → is_line_feed c ≡ true → list_all (λ b. not (is_line_feed b)) (x ++ c ∷ m) ≡ true → ⊥
 no_feed_inside [] m c f e = let none : false ≡ true = rw f at e in cc (none)
 no_feed_inside (a ∷ x) m c f e = by_first (is_line_feed a) (no_feed_inside x m c f) e
@@ -91,7 +91,7 @@ no_feed_inside (a ∷ x) m c f e = by_first (is_line_feed a) (no_feed_inside x m
     by_first true ih e = cc (e)
     by_first false ih e = ih e
 
--- no comment goes on from another
+-- no comment extends another comment
 same_comment : (x y u v : List ℕ) → IsComment x u → IsComment y v → GoesOn x y u v → (x ≡ y) × (u ≡ v)
 same_comment x y u v h i r = by_more r.more refl
   where
@@ -102,14 +102,14 @@ same_comment x y u v h i r = by_more r.more refl
         let whole : y ≡ x ++ c ∷ m = r.front ∙ ap (λ m. x ++ m) e in
         absurd (no_feed_inside x m c (rw behind at h.ends) (rw whole at i.inside))
 
--- bytes begin with one comment at most
+-- bytes begin with at most one comment
 one_comment : (x y u v : List ℕ) → IsComment x u → IsComment y v → x ++ u ≡ y ++ v → (x ≡ y) × (u ≡ v)
 one_comment x y u v h i e = elim (one_goes_on x y u v e) [
   | inl r ↦ same_comment x y u v h i r
   | inr r ↦ (let p = same_comment y x v u i h r in (sym p.0, sym p.1))
 ]
 
--- two that are the same
+-- both texts, both rests and both symbols are equal
 record AreSame (x y u v : List ℕ) (o o' : Option Symbol) : Type 0 where
   pub text : x ≡ y
   pub rest : u ≡ v
@@ -124,7 +124,7 @@ blank_no_token b rest (c ∷ text) after s g t e = let same : b ≡ c = cc (e) i
 comment_no_token : (x u y v : List ℕ) (s : Symbol) → IsComment x u → IsToken y v s → x ++ u ≡ y ++ v → ⊥
 comment_no_token x u y v s h t e = false≢true (sym t.no_comment ∙ ap begins_comment (sym e) ∙ comment_begins x u h.begins)
 
--- one thing stands at the front of bytes
+-- bytes begin with one blank, comment or token
 one_stands : {x u y v : List ℕ} {o o' : Option Symbol} → Stands x u o → Stands y v o' → x ++ u ≡ y ++ v → AreSame x y u v o o'
 one_stands (ABlank b rest g) (ABlank c after h) e = record { text = cc (e); rest = cc (e); symbol = refl }
 one_stands (ABlank b rest g) (AComment y v h) e = absurd (blank_no_comment b rest y v g h.begins e)
@@ -140,12 +140,12 @@ one_stands (AToken x u s t) (AToken y v s' t') e =
 
 -- ---- scans of the same bytes
 
--- the token that stands at this place, if it is one
+-- the token of a text at this offset, if the text is a token
 taken : ℕ → List ℕ → Option Symbol → List Token
 taken place text None = []
 taken place text (Some s) = token_at place text s ∷ []
 
--- a scan goes past what stands at its front
+-- a scan goes past the blank, comment or token with which the bytes begin
 record IsPast (place : ℕ) (bytes : List ℕ) (tokens : List Token) (rest : List ℕ) : Type 0 where
   pub text : List ℕ
   pub behind : List ℕ
@@ -168,7 +168,7 @@ past_or_not (Comment {bytes} {tokens} text h d) =
 past_or_not (Taken {bytes} {tokens} text s t d) =
     inr (record { text = text; behind = bytes; symbol = Some s; others = tokens; stands = AToken text bytes s t; parts = refl; first = refl; scan = d })
 
--- of two scans of the same bytes, the second goes on where the first stops
+-- of two scans of the same bytes, the second continues where the first stops
 pub record GoesFurther (tokens further : List Token) (rest end : List ℕ) : Type 0 where
   pub more : List Token
   pub place : ℕ
@@ -178,14 +178,14 @@ pub record GoesFurther (tokens further : List Token) (rest end : List ℕ) : Typ
 abbrev Meet : List Token → List Token → List ℕ → List ℕ → Type 0
 Meet tokens others rest end = GoesFurther tokens others rest end ⊎ GoesFurther others tokens end rest
 
--- the same with more in front
+-- the same with the same tokens before both lists
 with_front : (xs tokens others : List Token) (rest end : List ℕ) → Meet tokens others rest end → Meet (xs ++ tokens) (xs ++ others) rest end
 with_front xs tokens others rest end (inl f) =
     inl (record { more = f.more; place = f.place; parts = ap (λ y. xs ++ y) f.parts ∙ sym (append_assoc xs tokens f.more); scan = f.scan })
 with_front xs tokens others rest end (inr f) =
     inr (record { more = f.more; place = f.place; parts = ap (λ y. xs ++ y) f.parts ∙ sym (append_assoc xs others f.more); scan = f.scan })
 
--- past the same thing, two scans meet where what is behind it does
+-- two scans that go past the same text meet if they meet after it
 past_same : (place : ℕ) (text behind bytes rest end : List ℕ) (o : Option Symbol) (tokens others : List Token)
     → Stands text behind o → ((us : List Token) → Scans (place + length text) behind us end → Meet tokens us rest end)
     → Scans place (text ++ behind) (taken place text o ++ tokens) rest
@@ -204,7 +204,7 @@ past_same place text behind bytes rest end o tokens others stands meets whole d 
       rw first (with_front (taken place text o) tokens p.others rest end (meets p.others scan)))
 ]
 
--- two scans of the same bytes from the same place: one goes on where the other stops
+-- of two scans of the same bytes from the same offset, one continues where the other stops
 pub scans_meet : {place : ℕ} {bytes other rest end : List ℕ} {tokens others : List Token} → Scans place bytes tokens rest → Scans place other others end → bytes ≡ other
     → Meet tokens others rest end
 unfolding taken
@@ -218,7 +218,7 @@ scans_meet {other} {end} {others = us} (Taken {place} {bytes} {rest} {tokens} te
 
 -- ---- one list of tokens
 
--- something stands where something stands
+-- a blank, a comment or a token has at least one byte
 stands_some : {x u : List ℕ} {o : Option Symbol} → Stands x u o → [] ≡ x ++ u → ⊥
 stands_some (ABlank b rest g) e = (let none : [] ≡ b ∷ rest = e in cc (none))
 stands_some (AComment [] rest h) e = false≢true h.begins
@@ -233,7 +233,7 @@ from_end d = elim (past_or_not d) [
   | inr p ↦ absurd (stands_some p.stands p.parts)
 ]
 
--- the tokens of a source are one list
+-- a source has one list of tokens
 pub one_list : (source : List ℕ) (tokens others : List Token) → HasTokens source tokens → HasTokens source others → tokens ≡ others
 one_list source tokens others d e = elim (scans_meet d e refl) [
   | inl f ↦ (let none = (from_end f.scan).1 in sym (f.parts ∙ ap (λ x. tokens ++ x) none ∙ append-nil tokens))
@@ -258,12 +258,12 @@ bounded_symbol place text (symbols.Number n) e w = w
 bounded_symbol place text (symbols.Operator code) e w = tt
 bounded_symbol place text (symbols.Sign b) e w = tt
 
--- nothing goes on here: nothing stands, or a symbol that is beyond its bounds
+-- a scan must stop here: the bytes begin with nothing, or with a symbol that is beyond its bounds
 data IsStop : List ℕ → Option Symbol → Type 0 where
   Nothing : {bytes : List ℕ} → BeginsNothing bytes → IsStop bytes None
   Beyond : {bytes : List ℕ} (s : Symbol) → BeginsWith bytes s → (IsWithinBounds s → ⊥) → IsStop bytes (Some s)
 
--- where nothing stands nothing does
+-- bytes that begin with nothing begin with no blank, comment or token
 nothing_at : {x u : List ℕ} {o : Option Symbol} (bytes : List ℕ) → BeginsNothing bytes → Stands x u o → bytes ≡ x ++ u → ⊥
 nothing_at [] n s e = n
 nothing_at (b ∷ bs) n (ABlank c rest g) e = false≢true (sym n.0 ∙ ap is_blank (let same : b ≡ c = cc (e) in same) ∙ g)
@@ -275,7 +275,7 @@ stop_is_some : {bytes : List ℕ} {o : Option Symbol} → IsStop bytes o → byt
 stop_is_some (Nothing {bytes} n) e = (let none : BeginsNothing [] = rw e at n in none)
 stop_is_some (Beyond s w b) e = stands_some (AToken w.text w.rest s w.token) (sym e ∙ w.parts)
 
--- one thing stops at one place
+-- bytes have at most one cause to stop
 one_thing : {bytes : List ℕ} {o o' : Option Symbol} → IsStop bytes o → IsStop bytes o' → o ≡ o'
 one_thing (Nothing n) (Nothing m) = refl
 one_thing (Nothing {bytes} n) (Beyond s w b) = absurd (nothing_at bytes n (AToken w.text w.rest s w.token) w.parts)
@@ -283,7 +283,7 @@ one_thing (Beyond s w b) (Nothing {bytes} n) = absurd (nothing_at bytes n (AToke
 one_thing (Beyond s w b) (Beyond s' w' b') =
     let same = one_stands (AToken w.text w.rest s w.token) (AToken w'.text w'.rest s' w'.token) (sym w.parts ∙ w'.parts) in same.symbol
 
--- what stands there is not taken
+-- a symbol beyond its bounds is not taken
 not_taken : (place : ℕ) (bytes : List ℕ) (tokens : List Token) (end : List ℕ) (s : Symbol) → BeginsWith bytes s → (IsWithinBounds s → ⊥) → All IsTokenWithinBounds tokens
     → IsPast place bytes tokens end → ⊥
 unfolding taken
@@ -294,7 +294,7 @@ not_taken place bytes tokens end s w b bounded p =
     let here : All IsTokenWithinBounds (token_at place w.text s ∷ p.others) = rw first at bounded in
     b (bounded_symbol place w.text s w.token.symbol (here 0 (token_at place w.text s) (omega arith)))
 
--- no scan within the bounds goes on from a stop
+-- no scan within the bounds continues from a stop
 stays : {place : ℕ} {bytes end : List ℕ} {tokens : List Token} {o : Option Symbol} → IsStop bytes o → Scans place bytes tokens end → All IsTokenWithinBounds tokens → bytes ≡ end
 stays (Nothing {bytes} n) d w = elim (past_or_not d) [
   | inl p ↦ p.0
@@ -305,23 +305,23 @@ stays {place} {end} {tokens} (Beyond {bytes} s b beyond) d w = elim (past_or_not
   | inr p ↦ absurd (not_taken place bytes tokens end s b beyond w p)
 ]
 
--- a source stops at this place
+-- the source stops at this offset
 record StopsAt (source : List ℕ) (place : ℕ) (o : Option Symbol) : Type 0 where
   pub reached : IsReached source place
   pub stop : IsStop (drop place source) o
 
--- what is bounded behind a front
+-- tokens after a prefix are bounded if all are
 bounded_behind : (front more whole : List Token) → whole ≡ front ++ more → All IsTokenWithinBounds whole → All IsTokenWithinBounds more
 bounded_behind front more whole e w = rw (← drop-append_seam front more) (All-drop IsTokenWithinBounds (length front) (front ++ more) (rw e at w))
 
--- of two stops, neither stands behind the other
+-- of two stops in one source, neither comes after the other
 same_bytes : (source : List ℕ) (p q : ℕ) (o o' : Option Symbol) → StopsAt source p o → StopsAt source q o' → drop p source ≡ drop q source
 same_bytes source p q o o' s t = elim (scans_meet s.reached.scanned t.reached.scanned refl) [
   | inl f ↦ stays s.stop f.scan (bounded_behind s.reached.before f.more t.reached.before f.parts t.reached.bounded)
   | inr f ↦ sym (stays t.stop f.scan (bounded_behind t.reached.before f.more s.reached.before f.parts s.reached.bounded))
 ]
 
--- the same bytes, if there are any, stand at the same place
+-- equal rests of a source that are not empty are at the same offset
 same_place : (source : List ℕ) (p q : ℕ) → drop p source ≡ drop q source → (drop p source ≡ [] → ⊥) → p ≡ q
 same_place source p q e some =
     by_length (drop p source) refl some
@@ -330,7 +330,7 @@ same_place source p q e some =
     by_length [] h n = absurd (n h)
     by_length (b ∷ bs) h n = omega (arith, ap length h, ap length e, length-drop p source, length-drop q source)
 
--- a source stops at one place at most
+-- a source stops at one offset at most
 one_stop : (source : List ℕ) (p q : ℕ) (o o' : Option Symbol) → StopsAt source p o → StopsAt source q o' → (p ≡ q) × (o ≡ o')
 one_stop source p q o o' s t =
     let same = same_bytes source p q o o' s t in
@@ -352,7 +352,7 @@ record IsOfStop (source : List ℕ) (f : LexicalFault) : Type 0 where
   pub stops : StopsAt source place symbol
   pub fault : f ≡ fault_of place symbol
 
--- a fault is the length of the source, or that of a stop
+-- the fault of a source is its length, or the fault of a stop
 by_length_or_stop : {source : List ℕ} {f : LexicalFault} → HasFault source f → ((f ≡ SourceTooLong) × (1048576 < length source)) ⊎ IsOfStop source f
 unfolding fault_of
 by_length_or_stop (IsTooLong h) = inl (refl, h)
@@ -370,7 +370,7 @@ by_length_or_stop (HasLongName place name r w h) = inr (record {
   fault = refl;
 })
 
--- the fault of a source is one
+-- a source has at most one fault
 pub one_fault : (source : List ℕ) (f g : LexicalFault) → HasFault source f → HasFault source g → f ≡ g
 one_fault source f g h i = by_both (by_length_or_stop h) (by_length_or_stop i)
   where
@@ -395,14 +395,14 @@ no_fault source tokens f l h = by_fault (by_length_or_stop h)
 
 -- ---- the symbols of tokens
 
--- a token's text is a symbol of its kind
+-- the text of a token is a symbol of its kind
 token_symbol : (source text rest : List ℕ) (place : ℕ) (s : Symbol) → drop place source ≡ text ++ rest → symbol_of text ≡ Some s
     → symbol_of (text_in source (token_at place text s)) ≡ Some (symbol_in source (token_at place text s))
 token_symbol source text rest place s e h =
     let same : text_in source (token_at place text s) ≡ text = ap (λ x. take (length text) x) e ∙ take-append_seam text rest in
     ap symbol_of same ∙ h ∙ sym (ap Some (ap (λ x. symbol_as (kind_of s) x) same ∙ symbol_of_kind text s h))
 
--- what is taken stands in the source
+-- the token of a text is in the source that has the text at its offset
 stands_in : (source text rest : List ℕ) (place : ℕ) (s : Symbol) → drop place source ≡ text ++ rest → symbol_of text ≡ Some s → StandsIn source (token_at place text s)
 stands_in source [] rest place s e h = (let none : None ≡ Some s = h in cc (none))
 stands_in source (b ∷ text) rest place s e h = record {
@@ -410,11 +410,11 @@ stands_in source (b ∷ text) rest place s e h = record {
   within = omega (arith, ap length e, length-drop place source, length-append (b ∷ text) rest);
 }
 
--- what stands behind a front
+-- the bytes after a prefix
 pub behind_front : (source text rest : List ℕ) (place : ℕ) → drop place source ≡ text ++ rest → drop (place + length text) source ≡ rest
 behind_front source text rest place e = sym (drop-drop (length text) place source) ∙ ap (λ x. drop (length text) x) e ∙ drop-append_seam text rest
 
--- each token of a scan stands in the source
+-- each token of a scan is in the source
 all_stand_in : {place : ℕ} {bytes rest : List ℕ} {tokens : List Token} (source : List ℕ) → Scans place bytes tokens rest → drop place source ≡ bytes
     → All (StandsIn source) tokens
 all_stand_in source (Stops place rest) e = All-nil (StandsIn source)
@@ -423,6 +423,6 @@ all_stand_in source (Comment {place} {bytes} text h d) e = all_stand_in source d
 all_stand_in source (Taken {place} {bytes} {tokens} text s t d) e =
     All-cons (StandsIn source) (token_at place text s) tokens (stands_in source text bytes place s e t.symbol) (all_stand_in source d (behind_front source text bytes place e))
 
--- each token of a source stands in it with the text of its symbol
+-- each token of a source is in it, and its text there is that of its symbol
 pub tokens_stand : (source : List ℕ) (tokens : List Token) → HasTokens source tokens → All (StandsIn source) tokens
 tokens_stand source tokens d = all_stand_in source d refl

@@ -1,4 +1,4 @@
--- A program that some source spells can be written: its names, its numbers and its operators are those of symbols.
+-- A program that some source spells can be written: its names, numbers and operators are those of symbols.
 use Rattle.std.proofs.Common.{◌≡◌, ◌∙◌, ap, sym, refl, subst, ℕ, zero, suc, ◌-◌, ◌<◌, ◌≤◌, ◌^◌, ◌≤ℤ◌, ℤ, pos, Bool, true, false, List, [], ◌∷◌, ◌++◌, ◌==◌, inl, inr, Option, Some, None, arith, cond, position, if◌then◌else◌, All, drop}
 use Rattle.std.proofs.Math.IntN.{neg_ℤ}
 use Rattle.std.specs.List.{list_all}
@@ -22,7 +22,7 @@ use Rattle.grammar_laws.proofs.Writings.{IsWritingOf, token_is_symbol}
 
 -- ---- symbols
 
--- a name that is one, a number that is not negative
+-- if the symbol is a name or a number, it can be written
 abbrev pub IsGood : Symbol → Type 0
 IsGood (symbols.Name x) = IsName x
 IsGood (symbols.Word k) = Unit {0}
@@ -48,7 +48,7 @@ back : (ts us : List Symbol) → AreGood (ts ++ us) → AreGood us
 back [] us g = g
 back (t ∷ ts) us g = back ts us (others g)
 
--- a number's text gives a natural number
+-- the text of a number gives a natural number
 is_natural : (text : List ℕ) (z : ℤ) → symbol_of text ≡ Some (symbols.Number z) → (n : ℕ) × (z ≡ pos n)
 is_natural [] z e = (let none : None ≡ Some (symbols.Number z) = e in cc (none))
 is_natural (b ∷ bs) z e = by_kind (is_letter b) (list_all is_name_byte bs) (is_digit b) (list_all is_digit bs) e
@@ -81,7 +81,7 @@ is_natural (b ∷ bs) z e = by_kind (is_letter b) (list_all is_name_byte bs) (is
 small : (n : ℕ) → pos n ≤ℤ pos (2 ^ 63 - 1) → n < 2 ^ 63
 small n h = omega (arith, ints)
 
--- a symbol of a text is good, within its bounds
+-- a symbol of a text is good if it is within its bounds
 good_symbol : (text : List ℕ) (s : Symbol) → symbol_of text ≡ Some s → IsWithinBounds s → IsGood s
 good_symbol text (symbols.Name x) e w = record { symbol = ap symbol_of (name_is_text text x e) ∙ e; short = w }
 good_symbol text (symbols.Word k) e w = tt
@@ -91,7 +91,7 @@ good_symbol text (symbols.Number z) e w =
 good_symbol text (symbols.Operator code) e w = tt
 good_symbol text (symbols.Sign b) e w = tt
 
--- so are those of a source
+-- the symbols of a scan within the bounds are good
 good_scan : {place : ℕ} {bytes rest : List ℕ} {tokens : List Token} (source : List ℕ) → Scans place bytes tokens rest → drop place source ≡ bytes
     → All IsTokenWithinBounds tokens → AreGood (symbols_in source tokens)
 good_scan source (Stops place rest) e w = None'
@@ -133,7 +133,7 @@ joined_writable code a b l h x y = by_code (code == 1) (code == 2) (λ e. grind 
     by_code false true f g = (x, y)
     by_code false false f g = (let m = g refl (f refl) in omega (arith, m), h, x, y)
 
--- what derives from good symbols can be written
+-- expressions that good symbols derive can be written
 writable : {level : ℕ} {ts : List Symbol} {e : Expression} → 1 ≤ level → Derives level ts e → AreGood ts → IsWritable e
 writable l (grammar.Numeral n) g = first g
 writable l (grammar.Named x) g = first g
@@ -212,7 +212,7 @@ writable_cells (grammar.CellIs {ps} {qs} {rs} x s v c) g =
     let valued = others (pieces_back ps _ sized) in
     (first (others g), writable_size s (pieces_front ps _ sized), writable_value v (pieces_front qs _ valued), writable_cells c (others (pieces_back qs _ valued)))
 
--- the program of good symbols can be written
+-- a program that good symbols derive can be written
 program_of_good : {ps : List Piece} {tree : SyntaxTree} → DerivesProgram ps tree → AreGood (flat ps) → IsWritableProgram tree
 program_of_good (grammar.ProgramIs {cs} {is} {bs} {ls} {ts} iterations stages steps emits cells init test body last) g =
     let three = others (others g) in

@@ -15,7 +15,7 @@ pub record IsWritingOf (source : List ℕ) (found : List Symbol) : Type 0 where
   pub lexed : IsLexed source tokens
   pub same : symbols_in source tokens ≡ found
 
--- the bytes are these symbols, each the longest at its place and within its bounds, with blanks between them
+-- the bytes are these symbols with blanks between them; each is within its bounds, and the longest symbol at its offset
 pub data Writes : List ℕ → List Symbol → Type 0 where
   Done : Writes [] []
   Space : {bytes : List ℕ} {found : List Symbol} (b : ℕ) → is_blank b ≡ true → Writes bytes found → Writes (b ∷ bytes) found
@@ -36,7 +36,7 @@ pub token_is_symbol : (source text rest : List ℕ) (place : ℕ) (s : Symbol) �
 token_is_symbol source text rest place s e h =
     ap (λ x. symbol_as (kind_of s) (take (length text) x)) e ∙ ap (λ x. symbol_as (kind_of s) x) (take-append_seam text rest) ∙ symbol_of_kind text s h
 
--- the tokens of what is written from a place on
+-- the tokens of what is written from an offset on
 pub record WrittenTokens (source : List ℕ) (place : ℕ) (bytes : List ℕ) (found : List Symbol) : Type 0 where
   pub tokens : List Token
   pub scanned : Scans place bytes tokens []

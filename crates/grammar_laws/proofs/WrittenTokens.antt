@@ -1,4 +1,4 @@
--- Texts that are one token each, with what may stand behind them.
+-- Texts that are one token each, with the bytes that may follow them.
 use Rattle.std.proofs.Common.{◌≡◌, ◌≢◌, ◌∙◌, ap, sym, refl, ℕ, zero, suc, ◌+◌, ◌-◌, ◌*◌, ◌/◌, ◌%◌, ◌<◌, ◌≤◌, ◌^◌, pos, Bool, true, false, List, [], ◌∷◌, ◌++◌, length, ◌==◌, ◌&&◌, Some, None, arith, codes, cond, position, length-append}
 use Rattle.std.specs.Fmt.{decimal}
 use Rattle.std.specs.List.{list_all}
@@ -18,22 +18,21 @@ use Rattle.grammar_laws.proofs.TokenLaws.{no_name}
 
 -- ---- words and names
 
--- a text that begins with a letter
 abbrev pub begins_letter : List ℕ → Bool
 begins_letter [] = false
 begins_letter (b ∷ bs) = is_letter b
 
--- a text that begins, and with no equals sign
+-- the text is not empty and does not begin with an equals sign
 abbrev pub Opens : List ℕ → Type 0
 Opens [] = ⊥
 Opens (c ∷ cs) = (c == 61) ≡ false
 
--- what begins with no slash begins no comment
+-- bytes that do not begin with a slash begin no comment
 pub no_comment : (b : ℕ) (bs : List ℕ) → (b == 47) ≡ false → begins_comment (b ∷ bs) ≡ false
 no_comment b [] h = refl
 no_comment b (c ∷ bs) h = rw h refl
 
--- a list with an element that fails
+-- a list with an element that fails the test
 front_fails : (p : ℕ → Bool) (bs : List ℕ) (d : ℕ) (more : List ℕ) → p d ≡ false → list_all p (bs ++ d ∷ more) ≡ false
 front_fails p [] d more h = rw h refl
 front_fails p (b ∷ bs) d more h = by_first (p b) (front_fails p bs d more h)
@@ -50,7 +49,7 @@ not_longer b bs c rest (d ∷ more) after s l n e some t =
     let fails : list_all is_name_byte (bs ++ d ∷ more) ≡ false = front_fails is_name_byte bs d more (ap is_name_byte (sym same) ∙ n) in
     let none : None ≡ Some s = rw (l, fails) at t in cc (none)
 
--- a word or a name, before a byte that stands in none
+-- a word or a name, followed by a byte that cannot be part of one
 pub word_token : (text : List ℕ) (s : Symbol) (c : ℕ) (rest : List ℕ) → begins_letter text ≡ true → symbol_of text ≡ Some s → is_name_byte c ≡ false
     → IsToken text (c ∷ rest) s
 word_token [] s c rest l t n = absurd (false≢true l)
@@ -78,7 +77,7 @@ name_begins (b ∷ bs) t = by_kind (is_letter b) (list_all is_name_byte bs) (is_
 pub name_token : (x : List ℕ) (c : ℕ) (rest : List ℕ) → IsName x → is_name_byte c ≡ false → IsToken x (c ∷ rest) (symbols.Name x)
 name_token x c rest h n = word_token x (symbols.Name x) c rest (name_begins x h.symbol) h.symbol n
 
--- and so with no equals sign
+-- a name does not begin with an equals sign
 pub name_opens : (x rest : List ℕ) → IsName x → Opens (x ++ rest)
 name_opens x rest h = by_letter x (name_begins x h.symbol)
   where
@@ -88,7 +87,7 @@ name_opens x rest h = by_letter x (name_begins x h.symbol)
 
 -- ---- numbers
 
--- what is asked of the digits of a number
+-- the bytes are the digits of the number, at least one
 abbrev AreDigitsOf : ℕ → List ℕ → Type 0
 AreDigitsOf n ds = (list_all is_digit ds ≡ true) × (number_of ds ≡ n) × (0 < length ds)
 
@@ -141,11 +140,11 @@ digits_token (b ∷ bs) n c rest h d =
       no_comment = no_comment b (bs ++ c ∷ rest) (digit_no_slash b parts.0);
     }
 
--- a number in decimal, before a byte that stands in none
+-- a number in decimal, followed by a byte that cannot be part of a name
 pub number_token : (n c : ℕ) (rest : List ℕ) → n < 2 ^ 64 → is_name_byte c ≡ false → IsToken (decimal n) (c ∷ rest) (symbols.Number (pos n))
 number_token n c rest h d = digits_token (decimal n) n c rest (digits_of_decimal n h) (no_digit c d)
 
--- the first byte of a number is no equals sign
+-- the first byte of a number is not an equals sign
 pub decimal_opens : (n : ℕ) (rest : List ℕ) → n < 2 ^ 64 → Opens (decimal n ++ rest)
 decimal_opens n rest h = by_digits (decimal n) (digits_of_decimal n h)
   where
@@ -155,7 +154,7 @@ decimal_opens n rest h = by_digits (decimal n) (digits_of_decimal n h)
 
 -- ---- operators and signs
 
--- a text that no byte makes longer
+-- a text that is no prefix of a longer symbol
 pub closed_token : (b : ℕ) (rest : List ℕ) (s : Symbol) → symbol_of (b ∷ []) ≡ Some s → ((c : ℕ) (more : List ℕ) → symbol_of (b ∷ c ∷ more) ≡ None) → (b == 47) ≡ false
     → IsToken (b ∷ []) rest s
 closed_token b rest s t closed slash = record {
@@ -168,7 +167,7 @@ closed_token b rest s t closed slash = record {
     no_longer [] after s' e some h = some refl
     no_longer (c ∷ more) after s' e some h = let none : None ≡ Some s' = sym (closed c more) ∙ h in cc (none)
 
--- a text that a space does not make longer, before one
+-- a text that a space does not extend, followed by a space
 pub spaced_token : (text rest : List ℕ) (s : Symbol) → symbol_of text ≡ Some s → ((more : List ℕ) → symbol_of (text ++ 32 ∷ more) ≡ None)
     → begins_comment (text ++ 32 ∷ rest) ≡ false → IsToken text (32 ∷ rest) s
 spaced_token text rest s t closed comment = record {
@@ -183,7 +182,7 @@ spaced_token text rest s t closed comment = record {
         let same : c ≡ 32 = cc (e) in
         let none : None ≡ Some s' = sym (closed more) ∙ ap (λ x. symbol_of (text ++ x ∷ more)) (sym same) ∙ h in cc (none)
 
--- the first operator that differs from `!` is no part of it
+-- `!`, if no equals sign follows
 pub not_token : (rest : List ℕ) → Opens rest → IsToken (33 ∷ []) rest (symbols.Sign 33)
 not_token [] h = absurd h
 not_token (c ∷ rest) h = record {
@@ -199,7 +198,7 @@ not_token (c ∷ rest) h = record {
         let apart : (61 == d) ≡ false = grind (arith, nat_tests, h, same) in
         let none : None ≡ Some s' = rw apart at t in cc (none)
 
--- a two-place operator before a space
+-- a two-place operator, followed by a space
 pub operator_token : (code : ℕ) (rest : List ℕ) → 1 ≤ code → code ≤ 13 → IsToken (operator_text code) (32 ∷ rest) (symbols.Operator code)
 operator_token zero rest l h = absurd (omega (arith, l))
 operator_token (suc zero) rest l h = spaced_token (codes "||") rest (symbols.Operator 1) refl (λ more. refl) refl

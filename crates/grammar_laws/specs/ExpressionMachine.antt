@@ -1,5 +1,5 @@
--- Expressions one symbol at a time: what still has to come, and what a symbol does to it. The grammar says what an expression is;
--- this machine says at which symbol a reader has to stop, and laws in proofs/ tie the two.
+-- A machine that reads expressions one symbol at a time; its state is a list of wants, the parts that still have to follow. The grammar
+-- defines expressions; the machine defines at which symbol a reader must stop. Laws in proofs/ relate the two.
 use Rattle.std.specs.Prelude.{◌≡◌, ℕ, List, [], ◌∷◌, ◌++◌, Bool, true, false, ◌==◌, Option, Some, None, ◌||◌, if◌then◌else◌, nat_lt, length}
 use Rattle.pipe_model.specs.declared.operator_codes.TheConstants as operator_codes
 use Rattle.pipe_model.specs.declared.sign_bytes.TheConstants as signs
@@ -8,14 +8,14 @@ use Rattle.pipe_model.specs.declared.symbol.Symbol.{Symbol}
 use Rattle.pipe_model.specs.declared.symbol.Symbol.TheVariants as symbols
 use Rattle.pipe_model.specs.Language.Grammar.{level_of}
 
--- what has to come: this sign, an operand, an index or nothing, or operators that each have an operand or nothing
+-- a part that has to follow: this sign, an operand, an optional index, or operators, each with an operand, if any
 pub data Want : Type 0 where
   Sign : ℕ → Want
   Operand : Want
   Index : Want
   Tail : Want
 
--- what a symbol does to a want: it begins it, so that the rest of it has to come; it leaves it out; or it may not come
+-- the effect of a symbol on a want: it begins the want, and the given wants remain; it skips the want; or it is not allowed
 pub data Move : Type 0 where
   Takes : List Want → Move
   Skips : Move
@@ -29,7 +29,7 @@ is_operator code = nat_lt 0 (level_of code)
 abbrev pub is_call : ℕ → Bool
 is_call word = (word == words.MORE) || ((word == words.TAKE) || (word == words.ITER))
 
--- the table of the machine
+-- the transition table
 abbrev pub move : Want → Symbol → Move
 move (Sign sign) (symbols.Sign b) = if b == sign then Takes [] else Refuses
 move (Sign sign) (symbols.Name name) = Refuses
@@ -53,13 +53,13 @@ move Tail (symbols.Word word) = Skips
 move Tail (symbols.Number n) = Skips
 move Tail (symbols.Sign b) = Skips
 
--- what has to come after a move
+-- the wants after a move
 abbrev pub stepped : Move → List Want → Option (List Want) → Option (List Want)
 stepped (Takes more) wants below = Some (more ++ wants)
 stepped Skips wants below = below
 stepped Refuses wants below = None
 
--- what has to come after a symbol, where it may come
+-- the wants after a symbol, if the symbol is allowed
 abbrev pub step : List Want → Symbol → Option (List Want)
 step [] t = None
 step (want ∷ wants) t = stepped (move want t) wants (step wants t)
@@ -68,12 +68,12 @@ abbrev pub and_run : Option (List Want) → (List Want → Option (List Want)) �
 and_run None go = None
 and_run (Some wants) go = go wants
 
--- what has to come after symbols, where they may come
+-- the wants after symbols, if all are allowed
 abbrev pub run : List Symbol → List Want → Option (List Want)
 run [] wants = Some wants
 run (t ∷ ts) wants = and_run (step wants t) (run ts)
 
--- nothing has to come
+-- all wants are optional
 abbrev pub may_end : List Want → Bool
 may_end [] = true
 may_end (Sign sign ∷ wants) = false
@@ -81,12 +81,12 @@ may_end (Operand ∷ wants) = false
 may_end (Index ∷ wants) = may_end wants
 may_end (Tail ∷ wants) = may_end wants
 
--- how a reading ends: it is done, and these symbols are left, or it is stuck with so many left, 0 where they end too early
+-- how a reading ends: it is done and leaves these symbols, or it is stuck with n symbols left; n = 0 if the symbols end too early
 pub data Ending : Type 0 where
   Done : List Symbol → Ending
   Stuck : ℕ → Ending
 
--- the ending at symbols that may not come
+-- the result at a symbol that is not allowed, given whether the reading may end there
 abbrev pub ended : Bool → List Symbol → Ending
 ended true ts = Done ts
 ended false ts = Stuck (length ts)
@@ -95,11 +95,11 @@ abbrev pub ending_on : Option (List Want) → Ending → (List Want → Ending) 
 ending_on None here go = here
 ending_on (Some wants) here go = go wants
 
--- how the longest reading of the wants ends
+-- the result of the longest reading of the wants
 abbrev pub ending : List Symbol → List Want → Ending
 ending [] wants = ended (may_end wants) []
 ending (t ∷ ts) wants = ending_on (step wants t) (ended (may_end wants) (t ∷ ts)) (ending ts)
 
--- whatever has to come below, a reader of these wants gets stuck with so many symbols left
+-- a reader of these wants gets stuck with `left` symbols left, whatever wants follow
 pub record IsStuck (wants : List Want) (ts : List Symbol) (left : ℕ) : Type 0 where
   pub stuck : (below : List Want) → ending ts (wants ++ below) ≡ Stuck left

@@ -1,5 +1,5 @@
--- Programs one symbol at a time: what still has to come, with full expressions left to the machine of expressions, which count their symbols.
--- The grammar says what a program is; this machine says at which symbol a reader has to stop, and why, and laws in proofs/ tie the two.
+-- A machine that reads programs one symbol at a time. Full expressions are read by the machine of expressions, and their symbols are counted.
+-- The grammar defines programs; the machine defines at which symbol a reader must stop, and why. Laws in proofs/ relate the two.
 use Rattle.std.specs.Prelude.{◌≡◌, ℕ, suc, List, [], ◌∷◌, ◌++◌, Bool, true, false, ◌==◌, Option, Some, None, ◌&&◌, ◌||◌, if◌then◌else◌, nat_le, ℤ, pos, negsuc, length}
 use Rattle.pipe_model.specs.declared.operator_codes.TheConstants as operator_codes
 use Rattle.pipe_model.specs.declared.sign_bytes.TheConstants as signs
@@ -8,24 +8,24 @@ use Rattle.pipe_model.specs.declared.symbol.Symbol.{Symbol}
 use Rattle.pipe_model.specs.declared.symbol.Symbol.TheVariants as symbols
 use Rattle.grammar_laws.specs.ExpressionMachine as expression
 
--- what has to come; `StageNumber`, `Statements`, `Part` (by its word), `Cells` and `Size` may be nothing
+-- a part that has to follow; `StageNumber`, `Statements`, `Part` (with its word), `Cells` and `Size` are optional
 pub data Want : Type 0 where
   Sign : ℕ → Want
   Word : ℕ → Want
   AnyName : Want
   AnyNumber : Want
-  Natural : Want  -- a number that is not negative
+  Natural : Want  -- a number from 0 on
   FullExpression : Want
   StageNumber : Want
-  Target : Want  -- what stands behind a name that is assigned to
+  Target : Want  -- the rest of an assignment, after the name
   Statements : Want
   Part : ℕ → Want
   Cells : Want
   Size : Want
   Value : Want
 
--- what a symbol does to a want: it begins it, so that the rest of it has to come; it begins a full expression;
--- it leaves the want out; or it may not come
+-- the effect of a symbol on a want: it begins the want, and the given wants remain; it begins a full expression;
+-- it skips the want; or it is not allowed
 pub data Move : Type 0 where
   Takes : List Want → Move
   Enters : Move
@@ -36,7 +36,7 @@ pub data Move : Type 0 where
 abbrev pub block : List Want
 block = Sign signs.OPEN_BRACE ∷ Statements ∷ Sign signs.CLOSE_BRACE ∷ []
 
--- what a statement begins with its word
+-- the move for the word with which a statement begins
 abbrev pub statement_move : ℕ → Move
 statement_move word =
     if word == words.LET then Takes (AnyName ∷ Sign signs.EQUALS ∷ FullExpression ∷ Sign signs.SEMICOLON ∷ Statements ∷ [])
@@ -45,12 +45,12 @@ statement_move word =
     else (if word == words.EMIT then Takes (FullExpression ∷ Sign signs.SEMICOLON ∷ Statements ∷ [])
     else (if (word == words.PIPE_WAIT) || (word == words.PIPE_CONTINUE) then Takes (Sign signs.OPEN_ROUND ∷ StageNumber ∷ Sign signs.CLOSE_ROUND ∷ Sign signs.SEMICOLON ∷ Statements ∷ []) else Skips))))
 
--- a number that is not negative may come where it has to
+-- the move for a number where a number from 0 on is wanted
 abbrev pub natural_move : ℤ → Move
 natural_move (pos n) = Takes []
 natural_move (negsuc n) = Refuses
 
--- the table of the machine
+-- the transition table
 abbrev pub move : Want → Symbol → Move
 move (Sign sign) (symbols.Sign b) = if b == sign then Takes [] else Refuses
 move (Sign sign) (symbols.Name name) = Refuses
@@ -116,39 +116,39 @@ move Value (symbols.Name name) = Refuses
 move Value (symbols.Word k) = Refuses
 move Value (symbols.Sign b) = Refuses
 
--- where the machine stands: outside full expressions, or inside one, behind so many of its symbols, with what of it has to come
+-- outside full expressions, with these wants; or inside one, after n of its symbols, with its wants and those of the program
 pub data MachineState : Type 0 where
   Outside : List Want → MachineState
   Inside : ℕ → List expression.Want → List Want → MachineState
 
--- what a full expression has to be
+-- the wants of a full expression
 abbrev pub whole : List expression.Want
 whole = expression.Operand ∷ expression.Tail ∷ []
 
--- behind the first symbol of a full expression
+-- the state after the first symbol of a full expression
 abbrev pub entered : Option (List expression.Want) → List Want → Option MachineState
 entered None wants = None
 entered (Some inner) wants = Some (Inside 1 inner wants)
 
--- where the machine stands after a move
+-- the state after a move
 abbrev pub stepped : Move → Symbol → List Want → Option MachineState → Option MachineState
 stepped (Takes more) t wants below = Some (Outside (more ++ wants))
 stepped Enters t wants below = entered (expression.step whole t) wants
 stepped Skips t wants below = below
 stepped Refuses t wants below = None
 
--- where the machine stands after a symbol that no full expression goes on with
+-- the state after a symbol that does not continue a full expression
 abbrev pub step : List Want → Symbol → Option MachineState
 step [] t = None
 step (want ∷ wants) t = stepped (move want t) t wants (step wants t)
 
--- where the machine stands after a symbol inside a full expression, which goes on or, where it may, has ended
+-- the state after a symbol inside a full expression: the symbol continues it, or the expression may end before the symbol
 abbrev pub continued : Option (List expression.Want) → Bool → ℕ → List Want → Option MachineState → Option MachineState
 continued (Some inner) may_end n wants outside = Some (Inside (suc n) inner wants)
 continued None true n wants outside = outside
 continued None false n wants outside = None
 
--- where the machine stands after a symbol, where it may come
+-- the state after a symbol, if the symbol is allowed
 abbrev pub next : MachineState → Symbol → Option MachineState
 next (Outside wants) t = step wants t
 next (Inside n inner wants) t = continued (expression.step inner t) (expression.may_end inner) n wants (step wants t)
@@ -157,12 +157,12 @@ abbrev pub and_run : Option MachineState → (MachineState → Option MachineSta
 and_run None go = None
 and_run (Some s) go = go s
 
--- where the machine stands after symbols, where they may come
+-- the state after symbols, if all are allowed
 abbrev pub run : List Symbol → MachineState → Option MachineState
 run [] s = Some s
 run (t ∷ ts) s = and_run (next s t) (run ts)
 
--- nothing has to come
+-- all wants are optional
 abbrev pub may_end : List Want → Bool
 may_end [] = true
 may_end (Sign sign ∷ wants) = false
@@ -184,14 +184,14 @@ abbrev pub is_final : MachineState → Bool
 is_final (Outside wants) = may_end wants
 is_final (Inside n inner wants) = expression.may_end inner && may_end wants
 
--- what becomes of symbols: they are accepted, or with so many of them left the first of these may not come (0 left: they end too
--- early), or it is one too many of a full expression
+-- the result for symbols: they are accepted; the first of the last n symbols is not allowed (n = 0: the symbols end too early);
+-- or the first of the last n symbols makes a full expression too long
 pub data Verdict : Type 0 where
   Accepted : Verdict
   Unexpected : ℕ → Verdict
   TooLong : ℕ → Verdict
 
--- a full expression has at most so many symbols
+-- continues only if the full expression has at most `longest` symbols so far
 abbrev pub judged_in : ℕ → MachineState → ℕ → (MachineState → Verdict) → Verdict
 judged_in longest (Outside wants) left go = go (Outside wants)
 judged_in longest (Inside n inner wants) left go = if nat_le n longest then go (Inside n inner wants) else TooLong left
@@ -200,17 +200,17 @@ abbrev pub judged : ℕ → Option MachineState → ℕ → (MachineState → Ve
 judged longest None left go = Unexpected left
 judged longest (Some s) left go = judged_in longest s left go
 
--- what becomes of symbols whose full expressions may have so many symbols
+-- the verdict on symbols, if full expressions may have at most `longest` symbols
 abbrev pub judge : ℕ → List Symbol → MachineState → Verdict
 judge longest [] s = if is_final s then Accepted else Unexpected 0
 judge longest (t ∷ ts) s = judged longest (next s t) (length (t ∷ ts)) (judge longest ts)
 
--- what a program has to be
+-- the wants of a program
 abbrev pub program : List Want
 program =
     Word words.LIMITS ∷ Word words.ITERATIONS ∷ AnyNumber ∷ Sign signs.COMMA ∷ Word words.STAGES ∷ AnyNumber ∷ Sign signs.COMMA ∷ Word words.STEPS ∷ AnyNumber ∷ Sign signs.COMMA ∷ Word words.EMITS ∷ AnyNumber ∷ Sign signs.SEMICOLON
     ∷ Cells ∷ Part words.INIT ∷ Word words.PIPE_WHILE ∷ Sign signs.OPEN_ROUND ∷ FullExpression ∷ Sign signs.CLOSE_ROUND ∷ Sign signs.OPEN_BRACE ∷ Statements ∷ Sign signs.CLOSE_BRACE ∷ Part words.FINAL ∷ []
 
--- whatever has to come below, symbols that begin with these wants are refused so
+-- the machine rejects symbols at these wants with this verdict, whatever wants follow
 pub record IsRejected (longest : ℕ) (wants : List Want) (ts : List Symbol) (verdict : Verdict) : Type 0 where
   pub refused : (below : List Want) → judge longest ts (Outside (wants ++ below)) ≡ verdict

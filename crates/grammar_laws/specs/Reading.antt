@@ -1,5 +1,5 @@
--- Reading by the whole grammar: what a reader takes from the front of the symbols and what it leaves. The grammar says which pieces
--- derive a tree; this says where each part ends, by the symbol that stands behind it. Both agree, as laws in proofs/ say.
+-- Reading by the whole grammar: which symbols a reader consumes and which it leaves. The grammar defines which pieces derive a tree;
+-- this defines where each part ends, by the symbol that follows it. Both agree, by laws in proofs/.
 use Rattle.std.specs.Prelude.{◌≡◌, ◌≢◌, ◌≤◌, ◌+◌, ℕ, suc, ℤ, pos, List, [], ◌∷◌, ◌++◌, length, Option, Some, None}
 use Rattle.pipe_model.specs.declared.operator_codes.TheConstants as operator_codes
 use Rattle.pipe_model.specs.declared.sign_bytes.TheConstants as signs
@@ -13,7 +13,7 @@ use Rattle.pipe_model.specs.Language.SyntaxTree.{Expression, Number, Name, Eleme
 use Rattle.pipe_model.specs.Language.Grammar.{any_expression, operand_level, level_of, declaration, flat, limits_before}
 use Rattle.pipe_model.specs.Language.Words.{word_cell, word_pipe_while, word_pipe_wait, word_pipe_continue, word_let, word_if, word_while, word_emit, word_more, word_take, word_iter, minus, exclamation, open_round, close_round, semicolon, equals, open_square, close_square, open_brace, close_brace}
 
--- the level of the operator at the front, 0 where there is none
+-- the level of the operator with which the symbols begin, 0 if there is none
 abbrev pub next_level : List Symbol → ℕ
 next_level [] = 0
 next_level (symbols.Name name ∷ ts) = 0
@@ -22,7 +22,7 @@ next_level (symbols.Number n ∷ ts) = 0
 next_level (symbols.Operator code ∷ ts) = level_of code
 next_level (symbols.Sign b ∷ ts) = 0
 
--- this sign does not stand at the front
+-- the symbols do not begin with this sign
 abbrev pub NoSign : ℕ → List Symbol → Type 0
 NoSign sign [] = Unit {0}
 NoSign sign (symbols.Name name ∷ ts) = Unit {0}
@@ -31,7 +31,7 @@ NoSign sign (symbols.Number n ∷ ts) = Unit {0}
 NoSign sign (symbols.Operator code ∷ ts) = Unit {0}
 NoSign sign (symbols.Sign b ∷ ts) = b ≢ sign
 
--- this word does not stand at the front
+-- the symbols do not begin with this word
 abbrev pub NoWord : ℕ → List Symbol → Type 0
 NoWord word [] = Unit {0}
 NoWord word (symbols.Name name ∷ ts) = Unit {0}
@@ -41,7 +41,7 @@ NoWord word (symbols.Operator code ∷ ts) = Unit {0}
 NoWord word (symbols.Sign b ∷ ts) = Unit {0}
 
 mutual
-  -- an expression of the level stands at the front of the symbols, and the last list is left
+  -- the symbols begin with an expression of the level, and the last list is left
   pub data Reads : ℕ → List Symbol → Expression → List Symbol → Type 0 where
     ReadsNumeral : (n : ℤ) (rest : List Symbol) → Reads operand_level (symbols.Number n ∷ rest) (Number n) rest
     ReadsName : (name : List ℕ) (rest : List Symbol) → NoSign signs.OPEN_SQUARE rest → Reads operand_level (symbols.Name name ∷ rest) (Name name) rest
@@ -55,19 +55,19 @@ mutual
     ReadsBracketed : {ts rest : List Symbol} {e : Expression} → Reads any_expression ts e (close_round ∷ rest) → Reads operand_level (open_round ∷ ts) e rest
     ReadsChain : {level : ℕ} {ts mid rest : List Symbol} {a e : Expression} → Reads (suc level) ts a mid → Extends level a mid e rest → Reads level ts e rest
 
-  -- operators of the level, each with its right side, extend the expression, as long as there are any
+  -- operators of the level, each with its right operand, extend the expression as long as there are any
   pub data Extends : ℕ → Expression → List Symbol → Expression → List Symbol → Type 0 where
     Ends : {level : ℕ} {a : Expression} (ts : List Symbol) → next_level ts ≢ level → Extends level a ts a ts
     Joins : {level : ℕ} {a b e : Expression} {ts mid rest : List Symbol} (code : ℕ) → level_of code ≡ level → Reads (suc level) ts b mid
         → Extends level (binary_expression code a b) mid e rest → Extends level a (symbols.Operator code ∷ ts) e rest
 
--- a full expression of at most so many symbols
+-- a full expression of at most `longest` symbols
 pub record ReadsFull (longest : ℕ) (ts : List Symbol) (e : Expression) (rest : List Symbol) : Type 0 where
   pub read : Reads any_expression ts e rest
   pub short : length ts ≤ length rest + longest
 
 mutual
-  -- a statement whose full expressions have at most so many symbols
+  -- a statement whose full expressions have at most `longest` symbols
   pub data ReadsStatement (longest : ℕ) : List Symbol → Statement → List Symbol → Type 0 where
     ReadsLet : {ts rest : List Symbol} {e : Expression} (name : List ℕ) → ReadsFull longest ts e (semicolon ∷ rest)
         → ReadsStatement longest (word_let ∷ symbols.Name name ∷ equals ∷ ts) (Let name e) rest
@@ -103,13 +103,13 @@ mutual
   pub data ReadsBlock (longest : ℕ) : List Symbol → Statements → List Symbol → Type 0 where
     ReadsBraces : {ts rest : List Symbol} {ss : Statements} → ReadsStatements longest ts ss rest → ReadsBlock longest (open_brace ∷ ts) ss rest
 
-  -- a part that may be missing: its word and a block
+  -- an optional part: its word and a block
   pub data ReadsPart (longest : ℕ) : ℕ → List Symbol → Statements → List Symbol → Type 0 where
     ReadsNoPart : {word : ℕ} (ts : List Symbol) → NoWord word ts → ReadsPart longest word ts Empty ts
     ReadsPartIs : {word : ℕ} {ts rest : List Symbol} {ss : Statements} → ReadsBlock longest ts ss rest
         → ReadsPart longest word (symbols.Word word ∷ ts) ss rest
 
--- the size of an array, which may be missing
+-- the optional size of an array
 pub data ReadsSize : List Symbol → Option ℤ → List Symbol → Type 0 where
   ReadsNoSize : (ts : List Symbol) → NoSign signs.OPEN_SQUARE ts → ReadsSize ts None ts
   ReadsSizeIs : (n : ℤ) (rest : List Symbol) → ReadsSize (open_square ∷ symbols.Number n ∷ close_square ∷ rest) (Some n) rest
@@ -119,18 +119,18 @@ pub data ReadsValue : List Symbol → ℤ → List Symbol → Type 0 where
   ReadsValueIs : (n : ℤ) (rest : List Symbol) → ReadsValue (symbols.Number n ∷ rest) n rest
   ReadsNegativeValue : (n : ℕ) (rest : List Symbol) → ReadsValue (minus ∷ symbols.Number (pos n) ∷ rest) (neg_ℤ (pos n)) rest
 
--- the declaration of a cell, behind its word
+-- the declaration of a cell, after its word
 pub data ReadsCell : List Symbol → Declaration → List Symbol → Type 0 where
   ReadsCellIs : {ts us rest : List Symbol} {size : Option ℤ} {value : ℤ} (name : List ℕ) → ReadsSize ts size (equals ∷ us)
       → ReadsValue us value (semicolon ∷ rest) → ReadsCell (symbols.Name name ∷ ts) (declaration name size value) rest
 
--- declarations up to the first symbol that is not their word
+-- declarations, up to the first symbol other than their word
 pub data ReadsCells : List Symbol → List Declaration → List Symbol → Type 0 where
   ReadsNoCell : (ts : List Symbol) → NoWord words.CELL ts → ReadsCells ts [] ts
   ReadsCellThen : {ts mid rest : List Symbol} {d : Declaration} {ds : List Declaration} → ReadsCell ts d mid → ReadsCells mid ds rest
       → ReadsCells (word_cell ∷ ts) (d ∷ ds) rest
 
--- a program, with nothing behind it
+-- a program, with no symbols after it
 pub data ReadsProgram (longest : ℕ) : List Symbol → SyntaxTree → Type 0 where
   ReadsAll : {cs is ts us vs : List Symbol} {cells : List Declaration} {init body last : Statements} {test : Expression} (iterations stages steps emits : ℤ)
       → ReadsCells cs cells is → ReadsPart longest words.INIT is init (word_pipe_while ∷ open_round ∷ ts) → ReadsFull longest ts test (close_round ∷ us)

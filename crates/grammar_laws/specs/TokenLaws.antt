@@ -1,13 +1,13 @@
--- The laws of tokens and of lexical faults.
+-- Laws of tokens and of lexical faults.
 use Rattle.std.specs.Prelude.{◌≡◌, ℕ, List, All}
 use Rattle.pipe_model.specs.declared.token.Token.{Token}
 use Rattle.pipe_model.specs.Language.Tokens.{HasFault, HasTokens, IsLexed, LexicalFault, StandsIn}
 
--- a source has one list of tokens at most
+-- a source has at most one list of tokens
 abbrev pub SourcesHaveOneListOfTokens : Type 0
 SourcesHaveOneListOfTokens = (source : List ℕ) (tokens others : List Token) → HasTokens source tokens → HasTokens source others → tokens ≡ others
 
--- a source has one fault at most
+-- a source has at most one fault
 abbrev pub SourcesHaveOneFault : Type 0
 SourcesHaveOneFault = (source : List ℕ) (fault other : LexicalFault) → HasFault source fault → HasFault source other → fault ≡ other
 
@@ -15,6 +15,6 @@ SourcesHaveOneFault = (source : List ℕ) (fault other : LexicalFault) → HasFa
 abbrev pub SourcesWithTokensHaveNoFault : Type 0
 SourcesWithTokensHaveNoFault = (source : List ℕ) (tokens : List Token) (fault : LexicalFault) → IsLexed source tokens → HasFault source fault → ⊥
 
--- each token of a source stands in it with the text of its symbol
+-- each token of a source is in it, and its text there is that of its symbol
 abbrev pub TokensStandInTheirSource : Type 0
 TokensStandInTheirSource = (source : List ℕ) (tokens : List Token) → HasTokens source tokens → All (StandsIn source) tokens

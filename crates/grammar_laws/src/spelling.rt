@@ -1,18 +1,18 @@
-//! Spelling: of symbols, and of the sources whose tokens they are.
+//! Laws of spelling, by symbols and by sources.
 
 ghost use Rattle.grammar_laws.specs.SpellingLaws.{SymbolsSpellOneProgram, SourcesSpellOneProgram, SymbolsHaveOneFirstFault, ProgramsHaveNoFault};
 
-/// Symbols spell one program at most.
+/// Symbols spell at most one program.
 pub fn symbols_spell_one_program()
     ensures { SymbolsSpellOneProgram }
 {}
 
-/// A source spells one program at most.
+/// A source spells at most one program.
 pub fn sources_spell_one_program()
     ensures { SourcesSpellOneProgram }
 {}
 
-/// Symbols have one first fault at most, and none where they spell a program.
+/// Symbols have at most one first fault, and none if they spell a program.
 pub fn symbols_have_one_first_fault()
     ensures one { SymbolsHaveOneFirstFault }
     ensures none { ProgramsHaveNoFault }

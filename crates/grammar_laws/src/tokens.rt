@@ -1,13 +1,13 @@
-//! Tokens and lexical faults.
+//! Laws of tokens and of lexical faults.
 
 ghost use Rattle.grammar_laws.specs.TokenLaws.{SourcesHaveOneListOfTokens, SourcesHaveOneFault, SourcesWithTokensHaveNoFault, TokensStandInTheirSource};
 
-/// A source has one list of tokens at most.
+/// A source has at most one list of tokens.
 pub fn sources_have_one_list_of_tokens()
     ensures { SourcesHaveOneListOfTokens }
 {}
 
-/// A source has one lexical fault at most.
+/// A source has at most one lexical fault.
 pub fn sources_have_one_fault()
     ensures { SourcesHaveOneFault }
 {}
@@ -17,7 +17,7 @@ pub fn sources_with_tokens_have_no_fault()
     ensures { SourcesWithTokensHaveNoFault }
 {}
 
-/// Each token of a source stands in it, and its text there is that of its symbol.
+/// Each token of a source is in it, and its text there is that of its symbol.
 pub fn tokens_stand_in_their_source()
     ensures { TokensStandInTheirSource }
 {}

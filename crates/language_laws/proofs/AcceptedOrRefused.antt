@@ -11,7 +11,7 @@ use Rattle.pipe_parser.specs.ParsingLaw.{IsProgramOrFault}
 use Rattle.pipe_parser.proofs.EachProgram.{program_or_fault}
 use Rattle.language_laws.proofs.MarkPlaces.{place_of_broken}
 
--- the source is accepted as some program or refused for something
+-- the source is accepted as some program, or refused for some reason
 abbrev AcceptedOrRefused : List ℕ → Type 0
 AcceptedOrRefused source = ((tree : SyntaxTree) × IsAccepted source tree) ⊎ ((refusal : Refusal) × IsRefused source refusal)
 
@@ -29,7 +29,7 @@ by_grammar source tokens l (inr f) =
     let place = fault_place source tokens f.1 in
     inr (Syntactic f.0 place, ForAToken tokens f.0 place l (record { before = f.1; breaks = f.2; place_is = refl }))
 
--- a source is accepted or refused
+-- each source is accepted or refused
 pub accepted_or_refused : (source : List ℕ) → AcceptedOrRefused source
 accepted_or_refused source =
     elim (lexed_or_fault source) [

@@ -18,7 +18,7 @@ use Rattle.language_laws.proofs.Straight.{IsStraight, Returns, Raises, Steps, Ge
 use Rattle.language_laws.proofs.Straight.{either as straight_either}
 use Rattle.pipe_model.specs.declared.trap.Trap.{Trap}
 
--- from stage n on numbers rise, and what is returned has the property at the stage that is then current
+-- stage numbers rise from stage n on; a result has the property P at the stage that is then current
 pub data Rises {A : Type 0} (P : Bool → ℤ → A → Type 0) : Bool → ℤ → Interaction A → Type 0 where
   RisesReturn : {first : Bool} {n : ℤ} {a : A} → P first n a → Rises P first n (Return a)
   RisesRaise : {first : Bool} {n : ℤ} (t : Trap) → Rises P first n (Raise t)
@@ -37,7 +37,7 @@ rises-bind (RisesGet c r) h = RisesGet c (λ v. rises-bind (r v) h)
 rises-bind (RisesSet c v r) h = RisesSet c v (rises-bind r h)
 rises-bind (RisesStage k l r) h = RisesStage k l (rises-bind r h)
 
--- a tree without stages, and another after it
+-- a tree without stages, followed by another tree
 pub straight-then : {A B : Type 0} {P : A → Type 0} {Q : Bool → ℤ → B → Type 0} {first : Bool} {n : ℤ} {d : Interaction A} {f : A → Interaction B}
     → IsStraight P d → ((a : A) → P a → Rises Q first n (f a)) → Rises Q first n (bind d f)
 straight-then (Returns {a} p) h = h a p
@@ -46,22 +46,22 @@ straight-then (Steps s) h = RisesStep (straight-then s h)
 straight-then (Gets c s) h = RisesGet c (λ v. straight-then (s v) h)
 straight-then (Sets c v s) h = RisesSet c v (straight-then s h)
 
--- one of two trees, the first where the test is true
+-- one of two trees: the first if the test is true
 either : {A : Type 0} {P : Bool → ℤ → A → Type 0} {first : Bool} {n : ℤ} (b : Bool) {x y : Interaction A} → (b ≡ true → Rises P first n x) → Rises P first n y → Rises P first n (if b then x else y)
 either true s t = s refl
 either false s t = t
 
--- one of two trees, by a number
+-- one of two trees, chosen by a number
 pub either_by_zero : {A : Type 0} {P : Bool → ℤ → A → Type 0} {first : Bool} {n : ℤ} (v : ℤ) {x y : Interaction A} → Rises P first n x → Rises P first n y → Rises P first n (if_zero v x y)
 either_by_zero (pos zero) s t = s
 either_by_zero (pos (suc m)) s t = t
 either_by_zero (negsuc m) s t = t
 
--- the environment knows the current stage's number
+-- the environment has the number of the current stage
 abbrev pub KnowsStage : Bool → ℤ → Environment → Type 0
 KnowsStage first n env = env.stage.number ≡ n
 
--- the position knows it
+-- the position has the number of the current stage
 abbrev pub IsPosition : Bool → ℤ → StagePosition → Type 0
 IsPosition first n here = here.number ≡ n
 
@@ -86,7 +86,7 @@ rises-assign env None None x v first n at = RisesRaise _
 straight-emit : (limit : ℕ) (v : ℤ) → IsStraight Anything (emit limit v)
 straight-emit limit v = Gets 1 (λ count. straight_either Anything (int_eq count (pos limit)) _ _ (Raises _) (Sets 1 v (Returns tt)))
 
--- the turns of a loop, by its body
+-- the turns of a loop whose body rises
 rises-turns : (turns : ℕ) (test : Environment → Interaction ℤ) (body : Environment → Interaction Environment) (env : Environment) (first : Bool) (n : ℤ)
     → ((now : Environment) → IsStraight Anything (test now)) → ((now : Environment) (f : Bool) (m : ℤ) → now.stage.number ≡ m → Rises KnowsStage f m (body now))
     → env.stage.number ≡ n → Rises KnowsStage first n (loop_turns turns test body env)
@@ -96,7 +96,7 @@ rises-turns (suc turns) test body env first n straight rises at =
     (λ f m after known. rises-turns turns test body (leave_block env after) f m straight rises known))))
 
 mutual
-  -- statements go on at rising numbers
+  -- statements continue at rising numbers
   pub rises-execute : (w : Setting) (s : Statement) (env : Environment) (first : Bool) (n : ℤ) → env.stage.number ≡ n → Rises KnowsStage first n (execute w s env)
   rises-execute w (Let x e) env first n at = straight-then (straight-evaluate w env.locals e) (λ v h. RisesStep (RisesReturn at))
   rises-execute w (Assign x e) env first n at =
@@ -121,11 +121,11 @@ mutual
   rises-execute_all w (Then s ss) env first n at =
       rises-bind (rises-execute w s env first n at) (λ f m after known. rises-execute_all w ss after f m known)
 
--- an end that is allowed: only instance 0 closes the loop
+-- an allowed end: only instance 0 closes the loop
 abbrev pub EndsRightly : Bool → ℤ → ColumnEnd → Type 0
 EndsRightly first n e = e ≡ ends.Closed → first ≡ true
 
--- the budget changes no stage
+-- the budget does not change the stages
 pub legal-with_budget : {first : Bool} {n : ℤ} {d : Interaction ColumnEnd} (budget left : ℕ) → Rises EndsRightly first n d → HasLegalStages first n (with_budget budget left d)
 legal-with_budget budget left (RisesReturn p) = p
 legal-with_budget budget left (RisesRaise t) = λ e. cc (e)

@@ -1,4 +1,4 @@
--- The mark at which a program breaks a rule has its place in the source that spells the program.
+-- If a program breaks a rule at a mark, that mark has an offset in each source that spells the program.
 use Rattle.std.proofs.Common.{◌≡◌, refl, ℕ, zero, suc, ◌+◌, ◌<◌, ℤ, pos, Bool, true, false, List, [], ◌∷◌, length, slice_get, Option, Some, None, if◌then◌else◌, arith}
 use Rattle.pipe_model.specs.declared.token.Token.{Token}
 use Rattle.pipe_model.specs.Language.CheckingRules.{Fault, Broken, CheckingRule, broken_at, fault_of, fault_or, first_fault, limit_fault_or, first_limit_out}
@@ -10,19 +10,19 @@ use Rattle.language_laws.proofs.MarkedTokens.{marks_have_places}
 
 -- ---- the mark of a broken rule is one of the marks
 
--- a rule that is broken at the first mark or behind it is broken at one of so many
+-- a rule that is broken at the first mark or at a later one is broken at one of all marks
 broken_here : (o : Option CheckingRule) (rest : Option Fault) (n many mark : ℕ) (rule : CheckingRule) → (rest ≡ Some (Broken rule mark) → mark < n + 1 + many)
     → fault_or o n rest ≡ Some (Broken rule mark) → mark < n + (1 + many)
 broken_here (Some r) rest n many mark rule behind h = let same : n ≡ mark = cc (h) in omega (arith, same)
 broken_here None rest n many mark rule behind h = let within = behind h in omega (arith, within)
 
--- a rule that is broken at a mark is broken at one of these
+-- if the first fault of the marks is a broken rule, its mark is one of them
 broken_among : (n mark : ℕ) (marks : List Mark) (rule : CheckingRule) → first_fault n marks ≡ Some (Broken rule mark) → mark < n + length marks
 broken_among n mark [] rule h = cc (h)
 broken_among n mark (m ∷ marks) rule h =
     let within = broken_here (broken_at m) (first_fault (n + 1) marks) n (length marks) mark rule (broken_among (n + 1) mark marks rule) h in omega (arith, within)
 
--- where a rule is broken, no limit is out of its range
+-- if a rule is broken, no limit is out of its range
 behind_limits : (o : Option ℕ) (rest : Option Fault) (rule : CheckingRule) (mark : ℕ) → limit_fault_or o rest ≡ Some (Broken rule mark) → rest ≡ Some (Broken rule mark)
 behind_limits None rest rule mark h = h
 behind_limits (Some which) rest rule mark h = cc (h)
@@ -33,25 +33,25 @@ broken_within tree rule mark h =
     let within = broken_among 0 mark (marks_of tree) rule (behind_limits (first_limit_out tree.limits) (first_fault 0 (marks_of tree)) rule mark h) in
     omega (arith, within)
 
--- ---- each of the places is a number of bytes
+-- ---- each mark has an offset
 
--- the place with this number is so many bytes
+-- the list has an offset, a natural number, for this mark
 abbrev HasPlace : List ℤ → ℕ → Type 0
 HasPlace places mark = (place : ℕ) × (slice_get places mark ≡ Some (pos place))
 
--- the places with those of one more token
+-- the offsets with those of one more token
 one_more_place : (b : Bool) (place : ℕ) (places : List ℤ) (mark : ℕ) → ((k : ℕ) → k < length places → HasPlace places k)
     → mark < length (if b then pos place ∷ places else places) → HasPlace (if b then pos place ∷ places else places) mark
 one_more_place false place places mark behind h = behind mark h
 one_more_place true place places zero behind h = (place, refl)
 one_more_place true place places (suc k) behind h = behind k (omega (arith, h))
 
--- the place with a number below their count
+-- each index below the number of marked tokens has an offset
 place_of_mark : (tokens : List Token) (mark : ℕ) → mark < length (mark_places tokens) → HasPlace (mark_places tokens) mark
 place_of_mark [] mark h = absurd (omega (arith, h))
 place_of_mark (token ∷ tokens) mark h = one_more_place (is_mark token.kind) token.place (mark_places tokens) mark (place_of_mark tokens) h
 
--- the mark at which the program breaks a rule has a place in the source
+-- the mark at which a program breaks a rule has an offset in the source
 pub place_of_broken : (source : List ℕ) (tree : SyntaxTree) (s : SourceSpells source tree) (rule : CheckingRule) (mark : ℕ) → fault_of tree ≡ Some (Broken rule mark)
     → (place : ℕ) × (slice_get (mark_places s.tokens) mark ≡ Some (pos place))
 place_of_broken source tree s rule mark h =

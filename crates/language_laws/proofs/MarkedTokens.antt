@@ -1,4 +1,4 @@
--- The marks of a program that a source spells are, one by one, those of its tokens.
+-- If a source spells a program, its marked tokens are the marks of the program, one by one.
 use Rattle.std.proofs.Common.{◌≡◌, ◌∙◌, ap, sym, refl, ℕ, ℤ, pos, Bool, true, false, List, [], ◌∷◌, ◌++◌, length, arith, inl, inr, if◌then◌else◌, ◌==◌, ◌||◌}
 use Rattle.std.proofs.lemmas.Bool.Decides.{nat_tests}
 use Rattle.pipe_model.specs.declared.symbol.Symbol.{Symbol}
@@ -14,7 +14,7 @@ use Rattle.pipe_model.specs.Language.Tokens.{text_in, symbol_as, symbols_in}
 use Rattle.language_laws.specs.MarkLaws.{OccursAs, HaveMarks, NoToken, OtherToken, MarkToken}
 use Rattle.language_laws.proofs.SpelledMarks.{MarkText, NameText, IterText, StageText, text_at, texts_of, marked_text, texts_in, program_texts}
 
--- ---- what occurs, by the text there
+-- ---- the kinds of occurrences, by the text at the mark
 
 occurs_as_name : (o : Occurrence) (x : List ℕ) → text_at o ≡ NameText x → OccursAs o (symbols.Name x)
 occurs_as_name (DeclaredCell y size) x h = cc (h)
@@ -42,15 +42,15 @@ occurs_as_stage StageWord s w h = w
 
 -- ---- tokens
 
--- a token of this kind and length at this place
+-- a token of this kind and length at this offset
 abbrev token_of : TokenKind → (place size : ℕ) → Token
 token_of kind place size = record { kind = kind; place = place; length = size }
 
--- the tokens behind have their marks, whichever these are
+-- tokens whose texts are those of marks have these marks
 record Behind (source : List ℕ) (tokens : List Token) : Type 0 where
   pub marks : (ms : List Mark) → texts_of ms ≡ texts_in (symbols_in source tokens) → HaveMarks source tokens ms (mark_places tokens)
 
--- a token that is a mark, before others
+-- a marked token before others
 first_mark : (source : List ℕ) (token : Token) (tokens : List Token) (text : MarkText) (ms : List Mark) → is_mark token.kind ≡ true
     → ((o : Occurrence) → text_at o ≡ text → OccursAs o (symbol_as token.kind (text_in source token)))
     → texts_of ms ≡ text ∷ texts_in (symbols_in source tokens) → Behind source tokens
@@ -58,7 +58,7 @@ first_mark : (source : List ℕ) (token : Token) (tokens : List Token) (text : M
 first_mark source token tokens text [] h o e b = cc (e)
 first_mark source token tokens text (m ∷ ms) h o e b = MarkToken token m h (o m.occurrence (cc (e))) (b.marks ms (cc (e)))
 
--- a token that is a reserved word, before others
+-- a token that is a reserved word before others
 first_word : (source : List ℕ) (k place size : ℕ) (tokens : List Token) (ms : List Mark)
     → texts_of ms ≡ marked_text (symbols.Word k) ++ texts_in (symbols_in source tokens)
     → Behind source tokens → HaveMarks source (token_of (kinds.Word k) place size ∷ tokens) ms
@@ -83,7 +83,7 @@ first_word source k place size tokens ms e b =
     by_word false true false f g h i t = first_mark source _ tokens StageText ms i (stage_word (inr (ap symbols.Word (g refl)))) t b
     by_word false false false f g h i t = OtherToken _ i (b.marks ms t)
 
--- a token, before others
+-- a token before others
 first_token : (source : List ℕ) (kind : TokenKind) (place size : ℕ) (tokens : List Token) (ms : List Mark)
     → texts_of ms ≡ texts_in (symbols_in source (token_of kind place size ∷ tokens)) → Behind source tokens
     → HaveMarks source (token_of kind place size ∷ tokens) ms (mark_places (token_of kind place size ∷ tokens))
@@ -94,7 +94,7 @@ first_token source (kinds.Number n) place size tokens ms e b = OtherToken _ refl
 first_token source (kinds.Operator code) place size tokens ms e b = OtherToken _ refl (b.marks ms e)
 first_token source (kinds.Sign c) place size tokens ms e b = OtherToken _ refl (b.marks ms e)
 
--- tokens with the texts of marks have these marks
+-- tokens whose texts are those of marks have these marks
 have_marks : (source : List ℕ) (tokens : List Token) → Behind source tokens
 have_marks source [] = record { marks = none }
   where
@@ -105,7 +105,7 @@ have_marks source (token ∷ tokens) = record { marks = λ ms e. first_token sou
 
 -- ---- programs
 
--- so have those of a source the marks of its program
+-- the tokens of a source have the marks of its program
 pub source_marks : (source : List ℕ) (tree : SyntaxTree) (s : SourceSpells source tree) → HaveMarks source s.tokens (marks_of tree) (mark_places s.tokens)
 source_marks source tree s = (have_marks source s.tokens).marks (marks_of tree) (program_texts s.spelled.derived ∙ ap texts_in (sym s.spelled.split))
 
@@ -114,6 +114,6 @@ as_many NoToken = refl
 as_many (OtherToken token h m) = as_many m
 as_many (MarkToken token mark h o m) = let same = as_many m in omega (arith, same)
 
--- each mark has a place
+-- each mark has an offset
 pub marks_have_places : (source : List ℕ) (tree : SyntaxTree) (s : SourceSpells source tree) → length (marks_of tree) ≡ length (mark_places s.tokens)
 marks_have_places source tree s = as_many (source_marks source tree s)

@@ -13,7 +13,7 @@ use Rattle.language_laws.proofs.SpelledSizes.{measured_program}
 use Rattle.language_laws.proofs.TokenCounts.{tokens_within}
 use Rattle.language_laws.proofs.WritableOperators.{program_known, not_negative, no_negative_size}
 
--- its size is bounded as the length of the source is
+-- the size of the program is bounded because the length of the source is
 pub spelled_is_spellable : (source : List ℕ) (tree : SyntaxTree) → SourceSpells source tree → IsSpellable tree
 spelled_is_spellable source tree s =
     let of : IsWritingOf source (symbols_in source s.tokens) = record { tokens = s.tokens; lexed = s.lexed; same = refl } in

@@ -1,4 +1,4 @@
--- The marks of a program are, one by one, those symbols that are marks of the symbols that derive it.
+-- If symbols derive a program, the marked symbols are the marks of the program, one by one.
 use Rattle.std.proofs.Common.{◌≡◌, ◌∙◌, ap, sym, refl, ℕ, ◌≤◌, ℤ, Bool, true, false, List, [], ◌∷◌, ◌++◌, append_assoc, append-nil, length, length-append, map, arith, if◌then◌else◌, ◌==◌, ◌||◌, Option}
 use Rattle.std.proofs.lemmas.List.{map-append, length-map}
 use Rattle.pipe_model.specs.declared.symbol.Symbol.{Symbol}
@@ -12,7 +12,7 @@ use Rattle.pipe_model.specs.Language.Grammar.{any_expression, Derives, Numeral, 
 use Rattle.pipe_model.specs.Language.Words.{semicolon, equals, close_round, close_square, close_brace}
 use Rattle.grammar_laws.proofs.Pieces.{flat_append}
 
--- ---- what the text has at a mark
+-- ---- the text at a mark
 
 -- a name, `iter`, or the word of a stage statement
 pub data MarkText : Type 0 where
@@ -20,7 +20,7 @@ pub data MarkText : Type 0 where
   IterText : MarkText
   StageText : MarkText
 
--- what the text has where this occurs
+-- the text at such an occurrence
 abbrev pub text_at : Occurrence → MarkText
 text_at (marks.DeclaredCell x size) = NameText x
 text_at (marks.DeclaredLocal x) = NameText x
@@ -29,11 +29,11 @@ text_at (marks.Indexed x) = NameText x
 text_at marks.IterWord = IterText
 text_at marks.StageWord = StageText
 
--- what it has at these marks
+-- the texts at these marks
 abbrev pub texts_of : List Mark → List MarkText
 texts_of ms = map (λ (m : Mark). text_at m.occurrence) ms
 
--- the text of a symbol that is a mark
+-- the text of the symbol, if it is a mark
 abbrev pub marked_text : Symbol → List MarkText
 marked_text (symbols.Name x) = NameText x ∷ []
 marked_text (symbols.Word k) = if k == 19 then IterText ∷ [] else (if (k == 9) || (k == 10) then StageText ∷ [] else [])
@@ -41,12 +41,12 @@ marked_text (symbols.Number n) = []
 marked_text (symbols.Operator code) = []
 marked_text (symbols.Sign b) = []
 
--- the texts of those of the symbols that are marks, in order
+-- the texts of the marked symbols, in order
 abbrev pub texts_in : List Symbol → List MarkText
 texts_in [] = []
 texts_in (t ∷ ts) = marked_text t ++ texts_in ts
 
--- ---- symbols one after the other
+-- ---- symbols in order
 
 texts_append : (ts us : List Symbol) → texts_in (ts ++ us) ≡ texts_in ts ++ texts_in us
 texts_append [] us = refl
@@ -55,15 +55,15 @@ texts_append (t ∷ ts) us = ap (λ x. marked_text t ++ x) (texts_append ts us) 
 texts_flat : (ps qs : List Piece) → texts_in (flat (ps ++ qs)) ≡ texts_in (flat ps) ++ texts_in (flat qs)
 texts_flat ps qs = ap texts_in (flat_append ps qs) ∙ texts_append (flat ps) (flat qs)
 
--- marks one after the other
+-- marks in order
 texts_both : (ms ns : List Mark) → texts_of (ms ++ ns) ≡ texts_of ms ++ texts_of ns
 texts_both ms ns = map-append (λ (m : Mark). text_at m.occurrence) ms ns
 
--- symbols behind that are no marks
+-- symbols without marks at the end
 quiet_end : (ts us : List Symbol) → texts_in us ≡ [] → texts_in (ts ++ us) ≡ texts_in ts
 quiet_end ts us h = texts_append ts us ∙ ap (λ x. texts_in ts ++ x) h ∙ append-nil (texts_in ts)
 
--- the marks of two parts are those of their symbols
+-- the marks of two parts are the marks of their symbols
 of_both : (ms ns : List Mark) (ts us : List Symbol) → texts_of ms ≡ texts_in ts → texts_of ns ≡ texts_in us → texts_of (ms ++ ns) ≡ texts_in (ts ++ us)
 of_both ms ns ts us h i = texts_both ms ns ∙ ap (λ x. x ++ texts_of ns) h ∙ ap (λ x. texts_in ts ++ x) i ∙ sym (texts_append ts us)
 
@@ -83,7 +83,7 @@ joined_texts code scope a b = by_code (code == 1) (code == 2)
     by_code false true = refl
     by_code false false = refl
 
--- the marks of an expression
+-- the marks of an expression are those of its symbols
 expression_texts : {level : ℕ} {ts : List Symbol} {e : Expression} (scope : Scope) → Derives level ts e → texts_of (marks_of_expression scope e) ≡ texts_in ts
 expression_texts scope (Numeral n) = refl
 expression_texts scope (Named x) = refl
@@ -100,7 +100,7 @@ expression_texts scope (Joined {level} {left} {right} {a} {b} code e x y) =
     ∙ of_both (marks_of_expression scope a) (marks_of_expression scope b) left (symbols.Operator code ∷ right)
     (expression_texts scope x) (expression_texts scope y)
 
--- an expression before symbols that are no marks, and before other marks
+-- an expression followed by symbols without marks, or by other marks
 last_texts : {ts : List Symbol} {e : Expression} (scope : Scope) (us : List Symbol) → Derives any_expression ts e → texts_in us ≡ []
     → texts_of (marks_of_expression scope e) ≡ texts_in (ts ++ us)
 last_texts {ts} scope us d h = expression_texts scope d ∙ sym (quiet_end ts us h)
@@ -156,7 +156,7 @@ value_texts : {ps : List Piece} {value : ℤ} → DerivesValue ps value → text
 value_texts (ValueIs n) = refl
 value_texts (NegativeValueIs n) = refl
 
--- pieces in front that are no marks
+-- pieces without marks at the beginning
 quiet_front : (ps qs : List Piece) → texts_in (flat ps) ≡ [] → texts_in (flat qs) ≡ texts_in (flat (ps ++ qs))
 quiet_front ps qs h = sym (texts_flat ps qs ∙ ap (λ x. x ++ texts_in (flat qs)) h)
 
@@ -168,7 +168,7 @@ cells_texts before (CellIs {ps} {qs} {rs} {size} {value} x s v c) =
     (cells_texts (before ++ declaration x size value ∷ []) c ∙ quiet_front qs (Single semicolon ∷ rs) (value_texts v)
     ∙ quiet_front ps (Single equals ∷ (qs ++ Single semicolon ∷ rs)) (size_texts s))
 
--- the marks of a program
+-- the marks of a program are those of its symbols
 pub program_texts : {ps : List Piece} {tree : SyntaxTree} → DerivesProgram ps tree → texts_of (marks_of tree) ≡ texts_in (flat ps)
 program_texts (ProgramIs {cs} {is} {bs} {ls} {ts} {cells} {init} {body} {last} {test} iterations stages steps emits c i t b l) =
     of_pieces declared _ cs _ (cells_texts [] c)
@@ -188,7 +188,7 @@ program_texts (ProgramIs {cs} {is} {bs} {ls} {ts} {cells} {init} {body} {last} {
     ended : List Mark
     ended = marks_of_statements (opening regions.Last cells) last
 
--- ---- how many they are
+-- ---- the number of marks
 
 few_texts : (ts : List Symbol) → length (texts_in ts) ≤ length ts
 few_texts [] = omega arith

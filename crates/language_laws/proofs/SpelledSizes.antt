@@ -1,4 +1,4 @@
--- How large a program is beside the symbols that derive it: it has no more nodes of expressions and no more statements than they are.
+-- The size of a program, compared with the symbols that derive it: it has at most as many expression nodes and statements as symbols.
 use Rattle.std.proofs.Common.{◌≡◌, refl, ℕ, ◌+◌, ◌≤◌, ℤ, Bool, true, false, List, [], ◌∷◌, ◌++◌, length, length-append, arith, All, if◌then◌else◌, ◌==◌}
 use Rattle.std.specs.Prelude.{sum_by}
 use Rattle.std.proofs.lemmas.List.Elements.{All-nil, All-cons, All-append}
@@ -22,7 +22,7 @@ joined_nodes code a b = by_code (code == 1) (code == 2)
     by_code false true = refl
     by_code false false = refl
 
--- an expression has no more nodes than symbols
+-- an expression has at most as many nodes as symbols
 pub nodes_within : {level : ℕ} {ts : List Symbol} {e : Expression} → Derives level ts e → node_count e ≤ length ts
 nodes_within (Numeral n) = omega arith
 nodes_within (Named x) = omega arith
@@ -52,7 +52,7 @@ nodes_within (Joined {level} {left} {right} {a} {b} code e x y) =
 flat_length : (ps qs : List Piece) → length (flat (ps ++ qs)) ≡ length (flat ps) + length (flat qs)
 flat_length ps qs = rw (flat_append ps qs) (length-append (flat ps) (flat qs))
 
--- the full expressions of the pieces are these, and they are so many statements
+-- the full expressions have at most as many nodes, and the statements are at most as many, as the pieces have symbols
 pub record Measured (ps : List Piece) (es : List Expression) (statements : ℕ) : Type 0 where
   pub nodes : sum_by node_count es ≤ length (flat ps)
   pub few : statements ≤ length (flat ps)
@@ -90,7 +90,7 @@ both {ps} {qs} {es} {fs} m o =
       short = λ h. All-append (λ e. node_count e ≤ 256) es fs (m.short (short_front 256 ps qs h)) (o.short (short_back 256 ps qs h));
     }
 
--- a last symbol
+-- a symbol at the end
 closed : {ps : List Piece} {es : List Expression} {n : ℕ} (t : Symbol) → Measured ps es n → Measured (ps ++ Single t ∷ []) es n
 closed {ps} t m =
     let split = flat_length ps (Single t ∷ []) in
@@ -100,7 +100,7 @@ closed {ps} t m =
       short = λ h. m.short (short_front 256 ps (Single t ∷ []) h);
     }
 
--- pieces in front that are no statement
+-- pieces without statements at the beginning
 behind : {qs : List Piece} {es : List Expression} {n : ℕ} (ps : List Piece) → Measured qs es n → Measured (ps ++ qs) es n
 behind {qs} ps m =
     let split = flat_length ps qs in
@@ -136,7 +136,7 @@ mutual
 
 -- ---- programs
 
--- how many statements a program has
+-- the number of statements of a program
 abbrev pub statements_in_all : SyntaxTree → ℕ
 statements_in_all tree = statement_counts tree.init + (statement_counts tree.body + statement_counts tree.last)
 
@@ -145,7 +145,7 @@ limits_measured : {ps : List Piece} {es : List Expression} {n : ℕ} (iterations
 limits_measured iterations stages steps emits m =
     plain _ (plain _ (plain _ (plain _ (plain _ (plain _ (plain _ (plain _ (plain _ (plain _ (plain _ (plain _ (plain _ m))))))))))))
 
--- a program, beside the pieces that derive it
+-- a program, compared with the pieces that derive it
 pub measured_program : {ps : List Piece} {tree : SyntaxTree} → DerivesProgram ps tree → Measured ps (expressions_of tree) (statements_in_all tree)
 measured_program (ProgramIs {cs} iterations stages steps emits cells init test body last) =
     limits_measured iterations stages steps emits

@@ -1,4 +1,4 @@
--- Trees that name no next stage: expressions are such trees.
+-- Trees that name no next stage; the trees of expressions are such.
 use Rattle.std.proofs.Common.{◌==◌, ℕ, zero, suc, ℤ, pos, negsuc, Bool, true, false, List, Option, Some, None, if◌then◌else◌, nat_lt, length}
 use Rattle.std.specs.Prelude.{int_div, int_rem}
 use Rattle.std.proofs.Math.IntN.{◌+ℤ◌, ◌-ℤ◌, ◌*ℤ◌, neg_ℤ}
@@ -7,7 +7,7 @@ use Rattle.pipe_model.specs.Language.Evaluation.{Local, CellRange, Setting, eval
 use Rattle.pipe_model.specs.Language.Interaction.{Interaction, Return, Raise, Step, Get, Set, bind}
 use Rattle.pipe_model.specs.Language.SyntaxTree.{Expression, Number, Name, Element, And, Or, Binary, Unary, More, Take, Iter}
 
--- the tree names no next stage, and what it returns has the property
+-- the tree names no next stage, and its result has the property P
 pub data IsStraight {A : Type 0} (P : A → Type 0) : Interaction A → Type 0 where
   Returns : {a : A} → P a → IsStraight P (Return a)
   Raises : (t : Trap) → IsStraight P (Raise t)
@@ -19,7 +19,7 @@ pub data IsStraight {A : Type 0} (P : A → Type 0) : Interaction A → Type 0 w
 abbrev pub Anything : {A : Type 0} → A → Type 0
 Anything a = Unit {0}
 
--- one straight tree after another
+-- one straight tree after another is straight
 pub straight-bind : {A B : Type 0} {P : A → Type 0} {Q : B → Type 0} {d : Interaction A} {f : A → Interaction B} → IsStraight P d → ((a : A) → P a → IsStraight Q (f a)) → IsStraight Q (bind d f)
 straight-bind (Returns {a} p) h = h a p
 straight-bind (Raises t) h = Raises t
@@ -27,18 +27,18 @@ straight-bind (Steps s) h = Steps (straight-bind s h)
 straight-bind (Gets c s) h = Gets c (λ v. straight-bind (s v) h)
 straight-bind (Sets c v s) h = Sets c v (straight-bind s h)
 
--- either of two straight trees
+-- one of two straight trees, chosen by a test
 pub either : {A : Type 0} (P : A → Type 0) (b : Bool) (x y : Interaction A) → IsStraight P x → IsStraight P y → IsStraight P (if b then x else y)
 either P true x y s t = s
 either P false x y s t = t
 
--- the same by a number
+-- one of two straight trees, chosen by a number
 pub either_by_zero : {A : Type 0} (P : A → Type 0) (v : ℤ) (x y : Interaction A) → IsStraight P x → IsStraight P y → IsStraight P (if_zero v x y)
 either_by_zero P (pos zero) x y s t = s
 either_by_zero P (pos (suc n)) x y s t = t
 either_by_zero P (negsuc n) x y s t = t
 
--- a number that fits is returned
+-- `fitting` names no stage: it returns the number if it is an `i64`
 pub straight-fitting : (v : ℤ) → IsStraight Anything (fitting v)
 straight-fitting v = either Anything (is_i64 v) _ _ (Returns tt) (Raises _)
 
@@ -66,7 +66,7 @@ straight-element_in : (first size : ℕ) (i : ℤ) → IsStraight Anything (elem
 straight-element_in first size (pos i) = either Anything (nat_lt i size) _ _ (Returns tt) (Raises _)
 straight-element_in first size (negsuc i) = Raises _
 
--- the cell of an element is found without a stage
+-- `element_of` names no stage
 pub straight-element_of : (range : Option CellRange) (i : ℤ) → IsStraight Anything (element_of range i)
 straight-element_of None i = Raises _
 straight-element_of (Some range) i = straight-element_in range.first range.size i

@@ -5,7 +5,7 @@ use Rattle.pipe_model.specs.Language.Tokens.{Scans, Stops, Blank, Comment, Taken
 use Rattle.pipe_model.specs.declared.symbol.Symbol.{Symbol}
 use Rattle.pipe_model.specs.declared.token.Token.{Token}
 
--- the text of a symbol has a byte
+-- the text of a symbol is not empty
 some_byte : (text : List ℕ) (s : Symbol) → symbol_of text ≡ Some s → 0 < length text
 some_byte [] s e = let none : None ≡ Some s = e in cc (none)
 some_byte (b ∷ bs) s e = omega arith
@@ -23,6 +23,6 @@ scanned_within (Taken {bytes = bytes} text s t d) =
     let some = some_byte text s t.symbol in
     omega (arith, few, many, some)
 
--- no more tokens than bytes
+-- a source has at most as many tokens as bytes
 pub tokens_within : (source : List ℕ) (tokens : List Token) → HasTokens source tokens → length tokens ≤ length source
 tokens_within source tokens h = let few = scanned_within h in omega (arith, few)

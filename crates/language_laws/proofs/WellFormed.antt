@@ -16,7 +16,7 @@ use Rattle.language_laws.proofs.LegalStages.{Rises, RisesReturn, RisesRaise, Ris
 use Rattle.language_laws.proofs.Straight.{IsStraight, Returns, Raises, Steps, Gets, Sets, straight-bind, straight-evaluate}
 use Rattle.language_laws.proofs.Straight.{either_by_zero as straight_by_zero}
 
--- one of two trees after the test
+-- one of two trees after the test, if both rise
 rises_either : (first : Bool) (n : ℤ) (b : Bool) (x y : Interaction ColumnEnd) → Rises EndsRightly first n x → Rises EndsRightly first n y → Rises EndsRightly first n (if b then x else y)
 rises_either first n true x y s t = s
 rises_either first n false x y s t = t
@@ -28,11 +28,11 @@ rises-run_iteration w test body =
     (rises_either true (pos 0) (int_eq (pos w.world.iteration) w.world.iterations) _ _ (RisesRaise traps.IterLimit)
     (rises-bind (rises-execute_all w body first_environment true (pos 0) refl) (λ f m env known. RisesReturn (λ e. cc (e)))))))
 
--- an end that closes the loop
+-- the end closes the loop
 abbrev IsClosing : ColumnEnd → Type 0
 IsClosing e = closes_at_once e ≡ true
 
--- a tree that names no stage and returns closing ends closes the loop
+-- a tree that names no stage and returns only ends that close the loop closes the loop
 closes-with_budget : {d : Interaction ColumnEnd} (budget left : ℕ) → IsStraight IsClosing d → AlwaysClosesLoop (with_budget budget left d)
 closes-with_budget budget left (Returns p) = p
 closes-with_budget budget left (Raises t) = refl
@@ -41,19 +41,19 @@ closes-with_budget budget (suc left) (Steps s) = closes-with_budget budget left 
 closes-with_budget budget left (Gets c s) = λ v. closes-with_budget budget left (s v)
 closes-with_budget budget left (Sets c v s) = closes-with_budget budget left s
 
--- the iteration after the last that is allowed names no stage and closes the loop
+-- the iteration after the last allowed one names no stage and closes the loop
 closes-run_iteration : (w : Setting) (test : Expression) (body : Statements) → pos w.world.iteration ≡ w.world.iterations → IsStraight IsClosing (run_iteration w test body)
 closes-run_iteration w test body last =
     straight-bind (straight-evaluate w [] test) (λ v h. Steps (straight_by_zero IsClosing v _ _ (Returns refl)
     (let t : int_eq (pos w.world.iteration) w.world.iterations ≡ true = (Decides-int_eq (pos w.world.iteration) w.world.iterations).1 last in
     rw t (Raises traps.IterLimit))))
 
--- a number from 1 on is its natural number
+-- a number between 1 and 65536 equals its natural number
 natural_is : (z : ℤ) → is_between (pos 1) (pos 65536) z ≡ true → pos (natural z) ≡ z
 natural_is (pos n) h = refl
 natural_is (negsuc n) h = cc (h)
 
--- where no limit is out of its range, the first test of the first limit passed
+-- if no limit is out of its range, the test of the first limit passes
 first_in_range : (ok : Bool) (rest : Option ℕ) → (if not ok then Some 1 else rest) ≡ None → ok ≡ true
 first_in_range true rest h = refl
 first_in_range false rest h = cc (h)
@@ -63,7 +63,7 @@ no_limit_out : (o : Option ℕ) (rest : Option Fault) → limit_fault_or o rest 
 no_limit_out None rest h = refl
 no_limit_out (Some which) rest h = cc (h)
 
--- the iterations of a program without a fault are in their range
+-- the iteration limit of a program without a fault is in its range
 iterations_in_range : (tree : SyntaxTree) → fault_of tree ≡ None → is_between (pos 1) (pos 65536) tree.limits.iterations ≡ true
 iterations_in_range tree h = first_in_range (is_between (pos 1) (pos 65536) tree.limits.iterations) _ (no_limit_out (first_limit_out tree.limits) _ h)
 

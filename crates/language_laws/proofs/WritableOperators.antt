@@ -1,4 +1,4 @@
--- A program that can be written has known operators, and no negative number where the grammar has no sign.
+-- A program that can be written has only known operators, and no negative number where the grammar has no sign.
 use Rattle.std.proofs.Common.{◌≡◌, refl, ℕ, ◌≤◌, ◌≤ℤ◌, ℤ, pos, true, List, [], ◌∷◌, ◌++◌, ◌&&◌, inl, inr, ◌⊎◌, Option, Some, None, nat_le, arith, All}
 use Rattle.std.proofs.lemmas.Bool.{and_from}
 use Rattle.std.proofs.lemmas.Bool.Decides.{nat_tests}

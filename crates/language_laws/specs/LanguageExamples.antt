@@ -1,4 +1,4 @@
--- Worked examples: small programs, what their serial elisions come to, and a line of source with its symbols and its statement.
+-- Worked examples: small programs and the results of their serial elisions, and a line of source with its symbols and its statement.
 use Rattle.std.specs.Prelude.{◌≡◌, ℕ, ℤ, pos, List, [], ◌∷◌, Option, Some, None, codes}
 use Rattle.pipe_model.specs.declared.node.Kind.TheVariants as kinds
 use Rattle.pipe_model.specs.declared.tree.StageKind.TheVariants as stage_kinds
@@ -35,7 +35,7 @@ t = codes "t"
 abbrev pub plain_cell : List ℕ → ℤ → Declaration
 plain_cell name value = declaration name None value
 
--- a + b, and a < b
+-- `plus` is a + b, `less` is a < b
 abbrev pub plus : Expression → Expression → Expression
 plus a b = Binary 9 a b
 
@@ -85,25 +85,25 @@ ComesTo tree output trap = (serial_output (pipeline_of tree []) ≡ output) × (
 abbrev pub trap_at : Trap → ℕ → ℕ → ℤ → TrapAt
 trap_at trap i k number = record { place = At (at i k) number; trap = trap }
 
--- a loop that ends by its test
+-- a trap in instance k of iteration i, with its stage number
 abbrev pub CountingEnds : Type 0
 CountingEnds = ComesTo (counting (pos 2)) (pos 1 ∷ pos 2 ∷ []) None
 
--- a loop that goes on after the last iteration that is allowed
+-- a loop that continues after the last allowed iteration
 abbrev pub CountingTraps : Type 0
 CountingTraps = ComesTo (counting (pos 3)) (pos 1 ∷ pos 2 ∷ []) (Some (trap_at traps.IterLimit 2 0 (pos 0)))
 
--- two steps are enough for a number and the test of the loop, and one is not
+-- a number and the test of the loop take two steps; a budget of one is too small
 abbrev pub StepsAreCounted : Type 0
 StepsAreCounted = ComesTo (idle (pos 2)) [] None × ComesTo (idle (pos 1)) [] (Some (trap_at traps.Budget 0 0 (pos 0)))
 
--- the iterations of prefix sums have two stages each, and the one that closes the loop has one
+-- the iterations of the prefix sums have two stages each; the iteration that closes the loop has one
 abbrev pub PrefixSumsHaveStages : Type 0
 PrefixSumsHaveStages =
     let two = node_of kinds.Zero (pos 0) ∷ node_of kinds.Wait (pos 1) ∷ [] in
     ComesTo prefix_sums (pos 1 ∷ pos 3 ∷ pos 6 ∷ []) None × (serial_columns (pipeline_of prefix_sums []) ≡ two ∷ two ∷ two ∷ (node_of kinds.Zero (pos 0) ∷ []) ∷ [])
 
--- lines are printed so
+-- the printed lines of an output and of a trap
 abbrev pub LinesArePrinted : Type 0
 LinesArePrinted = (output_lines (pos 1 ∷ pos 3 ∷ []) ≡ codes "1\n3\n") × (trap_line (trap_at traps.IterLimit 2 0 (pos 0)) ≡ codes "trap IterLimit at 2/0\n")
 
@@ -121,7 +121,7 @@ let_tokens =
 abbrev pub let_symbols : List Symbol
 let_symbols = word_let ∷ symbols.Name t ∷ equals ∷ symbols.Name n ∷ semicolon ∷ []
 
--- the text has these tokens, which are these symbols, and the symbols are pieces that derive this statement
+-- the text has these tokens and symbols, and the symbols are those of pieces that derive this statement
 abbrev pub LetIsSpelled : Type 0
 LetIsSpelled =
     HasTokens let_text let_tokens × (symbols_in let_text let_tokens ≡ let_symbols)

@@ -1,4 +1,4 @@
--- The marks of a program that a source spells are those of its tokens that are marks, one by one.
+-- If a source spells a program, its marked tokens are the marks of the program, one by one.
 use Rattle.std.specs.Prelude.{◌≡◌, ℕ, ℤ, pos, true, false, List, [], ◌∷◌, ◌⊎◌, length}
 use Rattle.pipe_model.specs.declared.symbol.Symbol.{Symbol}
 use Rattle.pipe_model.specs.declared.symbol.Symbol.TheVariants as symbols
@@ -10,7 +10,7 @@ use Rattle.pipe_model.specs.Language.SyntaxTree.{SyntaxTree}
 use Rattle.pipe_model.specs.Language.Tokens.{symbol_in}
 use Rattle.pipe_model.specs.Language.Words.{word_pipe_wait, word_pipe_continue, word_iter}
 
--- what occurs is this symbol of the text
+-- the symbol is the text at such an occurrence
 abbrev pub OccursAs : Occurrence → Symbol → Type 0
 OccursAs (DeclaredCell x size) s = s ≡ symbols.Name x
 OccursAs (DeclaredLocal x) s = s ≡ symbols.Name x
@@ -19,7 +19,7 @@ OccursAs (Indexed x) s = s ≡ symbols.Name x
 OccursAs IterWord s = s ≡ word_iter
 OccursAs StageWord s = (s ≡ word_pipe_wait) ⊎ (s ≡ word_pipe_continue)
 
--- those of the source's tokens that are marks are these marks, in order, at these places
+-- the marked tokens of the source are these marks, in order, at these offsets
 pub data HaveMarks (source : List ℕ) : List Token → List Mark → List ℤ → Type 0 where
   NoToken : HaveMarks source [] [] []
   OtherToken : {tokens : List Token} {marks : List Mark} {places : List ℤ} (token : Token) → is_mark token.kind ≡ false
@@ -28,10 +28,10 @@ pub data HaveMarks (source : List ℕ) : List Token → List Mark → List ℤ �
       → OccursAs mark.occurrence (symbol_in source token) → HaveMarks source tokens marks places
       → HaveMarks source (token ∷ tokens) (mark ∷ marks) (pos token.place ∷ places)
 
--- the marks of a program that a source spells are as many as those of its tokens, so each has its place
+-- a program has as many marks as its source has marked tokens, so each mark has an offset
 abbrev pub MarksAreThoseOfTokens : Type 0
 MarksAreThoseOfTokens = (source : List ℕ) (tree : SyntaxTree) (s : SourceSpells source tree) → length (marks_of tree) ≡ length (mark_places s.tokens)
 
--- and each is the mark that its token is
+-- each mark of a program is that of its token
 abbrev pub MarksOccurAsTokens : Type 0
 MarksOccurAsTokens = (source : List ℕ) (tree : SyntaxTree) (s : SourceSpells source tree) → HaveMarks source s.tokens (marks_of tree) (mark_places s.tokens)

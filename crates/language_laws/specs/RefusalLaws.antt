@@ -1,9 +1,9 @@
--- The laws of refusals: each source is accepted as one program or refused for one thing, and never both.
+-- Laws of refusals: each source is accepted as one program or refused for one reason, and never both.
 use Rattle.std.specs.Prelude.{◌≡◌, ℕ, List, ◌⊎◌}
 use Rattle.pipe_model.specs.Language.SourceRefusals.{IsAccepted, Refusal, IsRefused}
 use Rattle.pipe_model.specs.Language.SyntaxTree.{SyntaxTree}
 
--- a source is refused for one thing at most
+-- a source is refused for at most one reason
 abbrev pub SourcesHaveOneRefusal : Type 0
 SourcesHaveOneRefusal = (source : List ℕ) (refusal other : Refusal) → IsRefused source refusal → IsRefused source other → refusal ≡ other
 
@@ -11,7 +11,7 @@ SourcesHaveOneRefusal = (source : List ℕ) (refusal other : Refusal) → IsRefu
 abbrev pub RefusedSourcesAreNotAccepted : Type 0
 RefusedSourcesAreNotAccepted = (source : List ℕ) (refusal : Refusal) (tree : SyntaxTree) → IsRefused source refusal → IsAccepted source tree → ⊥
 
--- a source is accepted as one program at most
+-- a source is accepted as at most one program
 abbrev pub SourcesAreAcceptedAsOneProgram : Type 0
 SourcesAreAcceptedAsOneProgram = (source : List ℕ) (tree other : SyntaxTree) → IsAccepted source tree → IsAccepted source other → tree ≡ other
 

@@ -1,4 +1,4 @@
--- What the check of a program may take for granted holds of every program that a source spells.
+-- Every program that a source spells has the properties that the checker of programs assumes.
 use Rattle.std.specs.Prelude.{ℕ, List}
 use Rattle.pipe_model.specs.Language.SourceSpelling.{SourceSpells}
 use Rattle.pipe_model.specs.Language.SpellablePrograms.{IsSpellable}

@@ -7,22 +7,23 @@ pub fn counting_ends()
     ensures { CountingEnds }
 {}
 
-/// A loop that would count to 3 in two iterations emits 1 and 2 and traps in the test of iteration 2.
+/// A loop that would count to 3 within a limit of two iterations emits 1 and 2 and traps in the
+/// test of iteration 2.
 pub fn counting_traps()
     ensures { CountingTraps }
 {}
 
-/// A test that is a number takes two steps: its own and that of the loop.
+/// A test that is a number takes two steps: one for the number and one for the loop.
 pub fn steps_are_counted()
     ensures { StepsAreCounted }
 {}
 
-/// Prefix sums in a second stage that waits: its output and its columns.
+/// The output and the columns of prefix sums that are computed in a second stage that waits.
 pub fn prefix_sums_have_stages()
     ensures { PrefixSumsHaveStages }
 {}
 
-/// The lines of an output and of a trap.
+/// The printed lines of an output and of a trap.
 pub fn lines_are_printed()
     ensures { LinesArePrinted }
 {}

@@ -1,5 +1,5 @@
-//! Laws of the language's definitions, and worked examples: each function has an empty body, and its contract is the
-//! law or the example.
+//! Laws of the language's definitions, and worked examples. There is no code here: each public
+//! function has an empty body, and its contract is the law or the example.
 #![tactic(auto)]
 
 pub mod examples;

@@ -2,7 +2,8 @@
 
 ghost use Rattle.language_laws.specs.MarkLaws.{MarksAreThoseOfTokens, MarksOccurAsTokens};
 
-/// The marks of a program are those of the tokens of its source, one by one, each at its place.
+/// If a source spells a program, its marked tokens are the marks of the program, one by one, and
+/// each mark has the offset of its token.
 pub fn marks_are_those_of_tokens()
     ensures as_many { MarksAreThoseOfTokens }
     ensures one_by_one { MarksOccurAsTokens }

@@ -1,8 +1,8 @@
-//! Which sources are accepted, and what the others are refused for.
+//! Which sources are accepted, and why the others are refused.
 
 ghost use Rattle.language_laws.specs.RefusalLaws.{SourcesHaveOneRefusal, RefusedSourcesAreNotAccepted, SourcesAreAcceptedAsOneProgram, SourcesAreAcceptedOrRefused};
 
-/// A source is refused for one thing at most.
+/// A source is refused for at most one reason.
 pub fn sources_have_one_refusal()
     ensures { SourcesHaveOneRefusal }
 {}
@@ -12,7 +12,7 @@ pub fn refused_sources_are_not_accepted()
     ensures { RefusedSourcesAreNotAccepted }
 {}
 
-/// A source is accepted as one program at most.
+/// A source is accepted as at most one program.
 pub fn sources_are_accepted_as_one_program()
     ensures { SourcesAreAcceptedAsOneProgram }
 {}

@@ -1,8 +1,9 @@
-//! What holds of every program that a source spells.
+//! Properties of every program that a source spells.
 
 ghost use Rattle.language_laws.specs.SpellableLaws.{SpelledProgramsAreSpellable};
 
-/// A program that a source spells has known operators and no negative size, and is within the bounds of one.
+/// A program that a source spells has only known operators and no negative size, and its size is
+/// within the bound on spellable programs.
 pub fn spelled_programs_are_spellable()
     ensures { SpelledProgramsAreSpellable }
 {}

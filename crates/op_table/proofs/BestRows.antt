@@ -1,18 +1,18 @@
--- The longest symbol of a table, row by row.
+-- The search for the longest symbol of a table, row by row.
 use Rattle.std.proofs.Common.{ℕ, ◌<◌, ◌≤◌, List, [], ◌∷◌, ◌++◌, length, refl, arith, Option, Some, None, IfSome, IfNone, Contains}
 use Rattle.std.proofs.lemmas.List.Elements.{All-push, All-weaker, Contains-append_left, Contains-append_right}
 use Rattle.op_table.specs.declared.table.OpRow.{OpRow}
 use Rattle.op_table.specs.Tables.{text_of, StartsWith, IsLongestMatch, HasNoSymbol, IsBest, Outdoes}
 
--- the last row stands in the table
+-- a list contains its last row
 pub last_stands : (rows : List OpRow) (row : OpRow) → Contains (rows ++ row ∷ []) row
 last_stands rows row = Contains-append_right rows (row ∷ []) row (0, omega arith, refl)
 
--- the row's symbol is no longer front of the bytes than that of another
+-- the bytes do not begin with a symbol of `other` that is longer than that of `row`
 abbrev NoLonger : List ℕ → OpRow → OpRow → Type 0
 NoLonger bytes row other = StartsWith (text_of other) bytes → length (text_of other) ≤ length (text_of row)
 
--- a row whose symbol is a longer front than the best so far is the best
+-- a row whose symbol begins the bytes and is longer than that of the best row so far is the best
 pub takes : (rows : List OpRow) (bytes : List ℕ) (best : Option OpRow) (row : OpRow) → IsBest rows bytes best → StartsWith (text_of row) bytes → Outdoes row best
     → IsBest (rows ++ row ∷ []) bytes (Some row)
 takes rows bytes None row b f o = record {
@@ -28,7 +28,7 @@ takes rows bytes (Some best) row b f o = record {
       (λ front. omega arith);
 }
 
--- otherwise the best stays
+-- otherwise the best row so far stays the best
 pub keeps : (rows : List OpRow) (bytes : List ℕ) (best : Option OpRow) (row : OpRow) → IsBest rows bytes best → (StartsWith (text_of row) bytes → Outdoes row best → ⊥)
     → IsBest (rows ++ row ∷ []) bytes best
 keeps rows bytes None row b n = All-push (λ other. StartsWith (text_of other) bytes → ⊥) rows row b (λ front. n front tt)
@@ -41,12 +41,12 @@ keeps rows bytes (Some best) row b n = record {
     not_less : (x y : ℕ) → (x < y → ⊥) → y ≤ x
     not_less x y h = omega (arith, h)
 
--- the best of all rows
+-- the best of all rows has the longest symbol
 pub best_is_longest : (rows : List OpRow) (bytes : List ℕ) (best : Option OpRow) → IsBest rows bytes best → IfSome best (λ row. IsLongestMatch rows bytes row)
 best_is_longest rows bytes None b = tt
 best_is_longest rows bytes (Some row) b = b
 
--- where there is none
+-- if there is no best row, the bytes begin with no symbol
 pub best_is_none : (rows : List OpRow) (bytes : List ℕ) (best : Option OpRow) → IsBest rows bytes best → IfNone best (HasNoSymbol rows bytes)
 best_is_none rows bytes None b = b
 best_is_none rows bytes (Some row) b = tt

@@ -11,7 +11,7 @@ use Rattle.op_table.specs.declared.operators.TheConstants.{OPS}
 use Rattle.op_table.specs.Tables.{text_of}
 use Rattle.op_table.proofs.TableRules.{obeys}
 
--- what is computed alike of all rows is alike at each
+-- functions with equal results on all rows have equal results at each index
 at_place : {A : Type 0} (f g : OpRow → A) (rows : List OpRow) → map f rows ≡ map g rows → (k : ℕ) (d : OpRow) → k < length rows → f (get_or rows k d) ≡ g (get_or rows k d)
 at_place f g [] e k d within = absurd (omega arith)
 at_place f g (row ∷ rows) e zero d within = let first : f row ∷ map f rows ≡ g row ∷ map g rows = e in cc (first)
@@ -21,15 +21,15 @@ at_place f g (row ∷ rows) e (suc k) d within =
 pub at_row : {A : Type 0} (f g : OpRow → A) (row : OpRow) → map f OPS.rows ≡ map g OPS.rows → Contains OPS.rows row → f row ≡ g row
 at_row f g row e h = rw (← h.2) (at_place f g OPS.rows e h.0 row h.1)
 
--- the symbol of a row is the operator of its code
+-- the symbol of a row is read as the operator of its code
 pub row_symbol : (row : OpRow) → Contains OPS.rows row → punctuation_symbol (text_of row) ≡ Some (symbols.Operator row.code)
 row_symbol row h = at_row (λ row. punctuation_symbol (text_of row)) (λ row. Some (symbols.Operator row.code)) row refl h
 
--- its text has as many bytes as it says
+-- the symbol has `length` bytes
 pub row_length : (row : OpRow) → Contains OPS.rows row → length (text_of row) ≡ row.length
 row_length row h = at_row (λ row. length (text_of row)) (λ row. row.length) row refl h
 
--- an operator of the language
+-- the text and the code are those of a row
 pub record IsOperator (text : List ℕ) (code : ℕ) : Type 0 where
   pub row : OpRow
   pub among : Contains OPS.rows row
@@ -39,22 +39,22 @@ pub record IsOperator (text : List ℕ) (code : ℕ) : Type 0 where
 no_row : OpRow
 no_row = record { symbol = []; length = 0; level = 0; code = 0 }
 
--- within a list no default counts
+-- within a list the default does not matter
 default_alike : (rows : List OpRow) (k : ℕ) (d e : OpRow) → k < length rows → get_or rows k e ≡ get_or rows k d
 default_alike [] k d e within = absurd (omega arith)
 default_alike (row ∷ rows) zero d e within = refl
 default_alike (row ∷ rows) (suc k) d e within = default_alike rows k d e (omega arith)
 
--- the text at each place is that of the operator there
+-- row k has the text of operator k
 at_operator : (k : ℕ) → k < 13 → text_of (get_or OPS.rows k no_row) ≡ get_or operators k []
 at_operator k within =
     let texts : map text_of OPS.rows ≡ operators = refl in sym (get_or-map text_of OPS.rows k no_row [] within) ∙ ap (λ x. get_or x k []) texts
 
--- and its code is one more
+-- row k has code k + 1
 at_code : (k : ℕ) → k < 13 → (get_or OPS.rows k no_row).code ≡ k + 1
 at_code k within = (obeys OPS.rows refl).codes k no_row within
 
--- a text that stands among the operators is that of a row
+-- a text in the list of operators is that of a row
 pub operator_row : (text : List ℕ) (k : ℕ) → position (λ operator. bytes_eq operator text) operators ≡ Some k → IsOperator text (k + 1)
 operator_row text k e =
     let p = position-Some (λ operator. bytes_eq operator text) operators k [] e in

@@ -1,4 +1,4 @@
--- The test of a whole table gives its rules at each row.
+-- A table that passes the test as a whole obeys the rules at each row.
 use Rattle.std.proofs.Common.{◌≡◌, ◌≢◌, ◌∙◌, ap, sym, ℕ, ◌+◌, ◌<◌, ◌≤◌, true, not, List, [], ◌∷◌, length, get_or, zero, suc, arith, All}
 use Rattle.std.specs.List.{list_all}
 use Rattle.std.specs.Str.{bytes_eq}
@@ -11,7 +11,7 @@ use Rattle.op_table.specs.declared.table.OpRow.{OpRow}
 use Rattle.op_table.specs.Tables.{text_of}
 use Rattle.op_table.specs.Rules.{is_row_with, obey_from, ObeysRules}
 
--- what the test of a row says
+-- the facts that the test of a row shows
 record IsRowWith (code : ℕ) (row : OpRow) : Type 0 where
   pub same : row.code ≡ code
   pub length : (1 ≤ row.length) × (row.length ≤ 2)
@@ -20,7 +20,7 @@ record IsRowWith (code : ℕ) (row : OpRow) : Type 0 where
 row_with : (code : ℕ) (row : OpRow) → is_row_with code row ≡ true → IsRowWith code row
 row_with code row h = record { same = grind (arith, nat_tests); length = grind (arith, nat_tests); level = grind (arith, nat_tests) }
 
--- what the test of a table says of its first row and of the others
+-- the facts that the test of a table shows about its first row and the other rows
 record OfFirst (code : ℕ) (row : OpRow) (rows : List OpRow) : Type 0 where
   pub here : IsRowWith code row
   pub differs : list_all (λ other. not (bytes_eq (text_of row) (text_of other))) rows ≡ true

@@ -1,4 +1,4 @@
--- Tables of operators: the symbol of a row, the longest symbol with which bytes begin, and the row of a code.
+-- Tables of operators: the symbol of a row, the longest symbol that is a prefix of given bytes, and the row of a code.
 use Rattle.std.specs.Prelude.{◌≡◌, ℕ, ◌<◌, ◌≤◌, ◌++◌, List, length, take, Option, Some, None, Contains, All}
 use Rattle.op_table.specs.declared.table.OpRow.{OpRow}
 
@@ -6,17 +6,17 @@ use Rattle.op_table.specs.declared.table.OpRow.{OpRow}
 abbrev pub text_of : OpRow → List ℕ
 text_of row = take row.length row.symbol
 
--- the bytes begin with the text
+-- the text is a prefix of the bytes
 abbrev pub StartsWith : List ℕ → List ℕ → Type 0
 StartsWith text bytes = (rest : List ℕ) × (bytes ≡ text ++ rest)
 
--- the row stands in the table, the bytes begin with its symbol, and with no longer one of the table
+-- the table has the row; the bytes begin with its symbol, and with no longer symbol of the table
 pub record IsLongestMatch (rows : List OpRow) (bytes : List ℕ) (row : OpRow) : Type 0 where
   pub among : Contains rows row
   pub front : StartsWith (text_of row) bytes
   pub longest : All (λ other. StartsWith (text_of other) bytes → length (text_of other) ≤ length (text_of row)) rows
 
--- the code is that of the longest symbol with which the bytes begin
+-- the code belongs to the longest symbol with which the bytes begin
 pub record HasLongest (rows : List OpRow) (bytes : List ℕ) (code : ℕ) : Type 0 where
   pub row : OpRow
   pub longest : IsLongestMatch rows bytes row
@@ -26,7 +26,7 @@ pub record HasLongest (rows : List OpRow) (bytes : List ℕ) (code : ℕ) : Type
 abbrev pub HasNoSymbol : List OpRow → List ℕ → Type 0
 HasNoSymbol rows bytes = All (λ row. StartsWith (text_of row) bytes → ⊥) rows
 
--- the row stands in the table and has the code
+-- the table has the row, and the row has the code
 pub record HasCode (rows : List OpRow) (code : ℕ) (row : OpRow) : Type 0 where
   pub among : Contains rows row
   pub same : row.code ≡ code
@@ -35,12 +35,12 @@ pub record HasCode (rows : List OpRow) (code : ℕ) (row : OpRow) : Type 0 where
 abbrev pub HasNoCode : List OpRow → ℕ → Type 0
 HasNoCode rows code = All (λ row. row.code ≡ code → ⊥) rows
 
--- the row's symbol is longer than that of another row, if there is one
+-- the symbol of the row is longer than that of the other row, if there is one
 abbrev pub Outdoes : OpRow → Option OpRow → Type 0
 Outdoes row None = Unit {0}
 Outdoes row (Some other) = length (text_of other) < length (text_of row)
 
--- the row has the longest symbol with which the bytes begin; there is none where they begin with no symbol
+-- the row has the longest symbol with which the bytes begin; `None` if they begin with no symbol
 abbrev pub IsBest : List OpRow → List ℕ → Option OpRow → Type 0
 IsBest rows bytes None = HasNoSymbol rows bytes
 IsBest rows bytes (Some row) = IsLongestMatch rows bytes row

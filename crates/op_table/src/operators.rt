@@ -2,9 +2,9 @@
 
 use crate::table::{OpRow, OpTable};
 
-/// Hands the operators to the macro `$then`, behind its own arguments in round brackets: of each the code, the symbol in
-/// two bytes, how many of them count, and the level. So `$then` writes one arm or one row for each. A new operator is a
-/// new line here.
+/// Passes the operators to the macro `$then`, after its own arguments in round brackets. Each
+/// operator has its code, the two bytes of its symbol, how many of them count, and its level;
+/// `$then` writes one arm or one row for each. To add an operator, add a line here.
 #[macro_export]
 macro_rules! operators {
     ($then:ident $(, $argument:expr)*) => {

@@ -13,7 +13,8 @@ pub fn operators_obey_the_rules()
     ensures { ObeysRules OPS.rows }
 {}
 
-/// The symbols are the operators of the language in the order of their codes, and each has the level of its code.
+/// The symbols are the operators of the language in the order of their codes, and each has the
+/// level of its code.
 pub fn operators_are_those_of_the_language()
     ensures symbols { map text_of OPS.rows ≡ operators }
     ensures levels { All (λ row. row.level ≡ level_of row.code) OPS.rows }

@@ -1,11 +1,11 @@
-//! Tables of operators, and what is found in them.
+//! Tables of operators, with search by symbol and by code.
 
 ghost use Rattle.std.specs.Prelude.{◌≡◌, IfNone, IfSome};
 ghost use Rattle.std.specs.Bool.{Decides};
 ghost use Rattle.op_table.specs.Tables.{text_of, StartsWith, HasLongest, HasNoSymbol, HasCode, HasNoCode, IsLongestMatch, Outdoes};
 
-/// An operator: the bytes of its symbol and how many of them count, 1 or 2; its level, where a higher level binds more
-/// tightly; and its code.
+/// An operator: the bytes of its symbol and how many of them count, 1 or 2; its level, where a
+/// higher level binds more tightly; and its code.
 #[derive(Clone, Copy, PartialEq, Eq, Debug)]
 pub struct OpRow {
     pub symbol: [u8; 2],
@@ -21,7 +21,7 @@ pub struct OpTable<const N: usize> {
 }
 
 impl OpRow {
-    /// The bytes of the symbol.
+    /// Returns the bytes of the symbol.
     pub fn text(&self) -> &[u8]
         ensures { result.now ≡ text_of self.now }
     {
@@ -47,7 +47,8 @@ impl OpRow {
 }
 
 impl<const N: usize> OpTable<N> {
-    /// The code of the longest symbol of the table that is a prefix of the bytes; `None` where no symbol is.
+    /// Returns the code of the longest symbol of the table that is a prefix of the bytes; `None` if
+    /// no symbol is.
     pub fn find(&self, bytes: &[u8]) -> Option<u8>
         ensures some { IfSome result (λ code. HasLongest self.now.rows bytes.now code) }
         ensures none { IfNone result (HasNoSymbol self.now.rows bytes.now) }
@@ -55,7 +56,7 @@ impl<const N: usize> OpTable<N> {
         self.longest(bytes).map(|row| row.code)
     }
 
-    // A row whose symbol is the longest prefix of the bytes.
+    // The row with the longest symbol that is a prefix of the bytes.
     fn longest(&self, bytes: &[u8]) -> Option<OpRow>
         ensures some { IfSome result (λ row. IsLongestMatch self.now.rows bytes.now row) }
         ensures none { IfNone result (HasNoSymbol self.now.rows bytes.now) }
@@ -69,7 +70,7 @@ impl<const N: usize> OpTable<N> {
         best
     }
 
-    /// A row that has the code; `None` where no row has.
+    /// Returns a row that has the code; `None` if no row has it.
     pub fn row(&self, code: u8) -> Option<&OpRow>
         ensures some { IfSome result (λ row. HasCode self.now.rows code row.now) }
         ensures none { IfNone result (HasNoCode self.now.rows code) }

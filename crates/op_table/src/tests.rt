@@ -1,6 +1,6 @@
 use crate::operators::OPS;
 
-// Bytes, and the code of the operator with which they begin.
+// Bytes, and the code of the operator with which they begin, if any.
 const FRONTS: [(&str, Option<u8>); 23] = [
     ("<=x", Some(6)),
     ("<x", Some(5)),
@@ -27,7 +27,7 @@ const FRONTS: [(&str, Option<u8>); 23] = [
     (" +", None),
 ];
 
-// Codes, and their levels.
+// Codes, and their levels, if there are such operators.
 const LEVELS: [(u8, Option<u8>); 9] = [
     (0, None),
     (1, Some(1)),

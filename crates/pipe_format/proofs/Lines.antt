@@ -1,4 +1,4 @@
--- The text of a statement, part after part.
+-- The text of a statement, part by part.
 use Rattle.std.proofs.Common.{◌≡◌, ◌∙◌, ap, sym, ℕ, ◌+◌, ◌<◌, List, [], ◌∷◌, ◌++◌, append_assoc, length, replicate, drop, get_or, codes, true, false, ◌==◌, Result, Ok, Err, OnOk, arith}
 use Rattle.std.proofs.lemmas.Bool.Decides.{nat_tests}
 use Rattle.std.proofs.lemmas.List.{append-nil, at_drop_more}
@@ -6,7 +6,7 @@ use Rattle.pipe_model.specs.declared.tree.Stmt.{Stmt}
 use Rattle.pipe_model.specs.Language.CanonicalText.{else_text, expression_text, line, statement_text, statements_text}
 use Rattle.pipe_model.specs.Language.SyntaxTree.{Expression, If, While, Statements, statement_of, statements_of}
 
--- what follows from a fact of an answer without error holds of that answer too
+-- a consequence of a fact about the value of `Ok` holds of it too
 pub on_ok : {A E P Q : Type 0} (r : Result A E) → (P → Q) → OnOk r P → OnOk r Q
 on_ok (Ok x) f h = f h
 on_ok (Err e) f h = h
@@ -17,7 +17,7 @@ pub while_by_parts : (n : ℕ) (e : Expression) (body : Statements) (before open
     → filled ≡ opened ++ statements_text (n + 2) body → closed ≡ filled ++ line n (codes "}") → closed ≡ before ++ statement_text n (While e body)
 while_by_parts n e body before opened filled closed a b c = rw (c, b, a) (simp append_assoc)
 
--- a choice: the same, with an else part before the line that closes it
+-- an `if`: the same, with an `else` part before the line that closes it
 pub if_by_parts : (n : ℕ) (e : Expression) (then other : Statements) (before opened filled chosen closed : List ℕ)
     → opened ≡ before ++ (replicate n 32 ++ (codes "if (" ++ (expression_text e ++ codes ") {\n")))
     → filled ≡ opened ++ statements_text (n + 2) then
@@ -25,27 +25,27 @@ pub if_by_parts : (n : ℕ) (e : Expression) (then other : Statements) (before o
     → closed ≡ chosen ++ line n (codes "}") → closed ≡ before ++ statement_text n (If e then other)
 if_by_parts n e then other before opened filled chosen closed a b c d = rw (d, c, b, a) (simp append_assoc)
 
--- an else part that is not empty
+-- an `else` part that is not empty
 pub else_by_parts : (n : ℕ) (other : List Stmt) (filled opened chosen : List ℕ) → 0 < length other
     → opened ≡ filled ++ line n (codes "} else {") → chosen ≡ opened ++ statements_text (n + 2) (statements_of other)
     → chosen ≡ filled ++ else_text n (statements_of other) (statements_text (n + 2) (statements_of other))
 else_by_parts n [] filled opened chosen h a b = absurd (omega arith)
 else_by_parts n (s ∷ ss) filled opened chosen h a b = rw (b, a) (simp append_assoc)
 
--- an else part that is empty
+-- an `else` part that is empty
 pub no_else : (n : ℕ) (other : List Stmt) (filled : List ℕ) → length other ≡ 0
     → filled ≡ filled ++ else_text n (statements_of other) (statements_text (n + 2) (statements_of other))
 no_else n [] filled h = simp append-nil
 no_else n (s ∷ ss) filled h = absurd (omega arith)
 
--- the statements from a place on: the one there, and those behind it
+-- the text of the statements from index i on is that of statement i and of those after it
 pub statements_step : (n : ℕ) (ss : List Stmt) (i : ℕ) (s : Stmt) → i < length ss → s ≡ get_or ss i s
     → statements_text n (statements_of (drop i ss)) ≡ statement_text n (statement_of s) ++ statements_text n (statements_of (drop (i + 1) ss))
 statements_step n ss i s h e =
     at_drop_more (λ more. statements_text n (statements_of more)) ss i s h
     ∙ ap (λ (m : Stmt). statement_text n (statement_of m) ++ statements_text n (statements_of (drop (i + 1) ss))) (sym e)
 
--- what the test of an empty list says
+-- a list that is not found empty has an element
 pub has_some : (xs : List Stmt) (n : ℕ) → n ≡ length xs → false ≡ (n == 0) → 0 < length xs
 has_some xs n e h = grind (arith, nat_tests)
 

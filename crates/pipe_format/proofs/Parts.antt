@@ -1,4 +1,4 @@
--- The text of the parts of a program, piece after piece.
+-- The text of the parts of a program, part by part.
 use Rattle.std.proofs.Common.{◌≡◌, ℕ, ◌<◌, List, [], ◌∷◌, ◌++◌, append_assoc, length, codes, arith}
 use Rattle.std.specs.Fmt.{signed_decimal}
 use Rattle.pipe_model.specs.declared.tree.Limits.{Limits}
@@ -6,7 +6,7 @@ use Rattle.pipe_model.specs.declared.tree.Stmt.{Stmt}
 use Rattle.pipe_model.specs.Language.CanonicalText.{expression_text, limits_text, line, loop_text, part_text, statements_text}
 use Rattle.pipe_model.specs.Language.SyntaxTree.{Expression, Statements, statements_of}
 
--- the line of limits, field after field
+-- the line of limits, field by field
 pub limits_by_parts : (limits : Limits) (before one two three four end : List ℕ)
     → one ≡ before ++ (codes "limits iterations " ++ signed_decimal limits.iterations) → two ≡ one ++ (codes ", stages " ++ signed_decimal limits.stages)
     → three ≡ two ++ (codes ", steps " ++ signed_decimal limits.steps) → four ≡ three ++ (codes ", emits " ++ signed_decimal limits.emits)

@@ -1,4 +1,4 @@
--- The text of a program spells it as sources do.
+-- The text of a program spells it.
 use Rattle.std.proofs.Common.{◌≡◌, sym, subst, ℕ, ◌≤◌, List, length}
 use Rattle.pipe_model.specs.Language.CanonicalText.{program_text}
 use Rattle.pipe_model.specs.Language.SourceSpelling.{SourceSpells}

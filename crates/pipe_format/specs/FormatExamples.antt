@@ -10,11 +10,11 @@ pub record FormatExample : Type 0 where
   pub expression : Expression
   pub text : List ℕ
 
--- each expression has the text that stands beside it
+-- each expression has the text of its example
 abbrev pub HaveTexts : List FormatExample → Type 0
 HaveTexts examples = map (λ example. expression_text example.expression) examples ≡ map (λ example. example.text) examples
 
--- a line of these examples
+-- an example, by its parts
 abbrev example : Expression → List ℕ → FormatExample
 example e text = record { expression = e; text = text }
 
@@ -28,7 +28,7 @@ b = Name (codes "b")
 abbrev c : Expression
 c = Name (codes "c")
 
--- brackets stand where the tree needs them
+-- round brackets only where the tree needs them
 abbrev pub brackets : List FormatExample
 brackets =
     example (Binary 11 (Binary 9 a b) c) (codes "(a + b) * c")
@@ -53,7 +53,7 @@ operands =
     ∷ example More (codes "more()")
     ∷ []
 
--- a block's lines stand two spaces deeper, and an empty else part is left out
+-- the lines of a block are indented by two more spaces, and an empty `else` part is omitted
 abbrev pub BlocksAreIndented : Type 0
 BlocksAreIndented =
     statement_text 2 (If a (Then (While (Element (codes "b") c) Empty) Empty) Empty) ≡ codes "  if (a) {\n    while (b[c]) {\n    }\n  }\n"

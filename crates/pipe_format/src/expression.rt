@@ -12,6 +12,7 @@ use pipe_model::name::Name;
 use pipe_model::operator_codes::NEGATIVE;
 use pipe_model::tree::Expr;
 
+// The level of operands, which bind more tightly than every two-place operator.
 macro_rules! level_by_code {
     (($code:expr) $($row:literal $symbol:literal $length:literal $level:literal;)*) => {
         match $code {
@@ -30,28 +31,27 @@ macro_rules! symbol_by_code {
     };
 }
 
-/// The level of the two-place operator of a code; 0 where no operator has the code.
+// The level of the two-place operator of a code; 0 if no operator has the code.
 fn level_of(code: u8) -> u8
     ensures { result ≡ level_of code }
 {
     op_table::operators!(level_by_code, code)
 }
 
-/// The symbol of the two-place operator of a code; empty where no operator has the code.
+// The symbol of the two-place operator of a code; empty if no operator has the code.
 fn symbol_of(code: u8) -> &'static [u8]
     ensures { result.now ≡ operator_text code }
 {
     op_table::operators!(symbol_by_code, code)
 }
 
-/// The symbol of the one-place operator of a code.
 fn one_place_symbol(code: u8) -> &'static [u8]
     ensures { result.now ≡ one_place_text code }
 {
     if code == NEGATIVE { b"-" } else { b"!" }
 }
 
-/// How tightly an expression holds together: as its two-place operator binds, if it is one.
+// The level of the expression's two-place operator, or of operands if it has none.
 fn level_in(e: &Expr) -> u8
     ensures { result ≡ level_in (expression_of e.now) }
 {
@@ -61,7 +61,7 @@ fn level_in(e: &Expr) -> u8
     }
 }
 
-/// Adds an element of an array, from its name and its index.
+/// Appends an element of an array. Returns an error only if memory runs out.
 #[cycle(expression)]
 pub fn push_element(text: &mut Vec<u8>, name: &Name, index: &Expr) -> Result<(), NoMemory>
     ensures { OnOk result (text.new.items
@@ -74,7 +74,7 @@ pub fn push_element(text: &mut Vec<u8>, name: &Name, index: &Expr) -> Result<(),
     Ok(())
 }
 
-/// Adds an expression where a level is needed: in round brackets where its own is lower.
+// Appends an expression where a level is needed: in round brackets if its own level is lower.
 #[cycle(expression)]
 fn push_at_level(text: &mut Vec<u8>, needed: u8, e: &Expr) -> Result<(), NoMemory>
     ensures { OnOk result (text.new.items
@@ -89,7 +89,7 @@ fn push_at_level(text: &mut Vec<u8>, needed: u8, e: &Expr) -> Result<(), NoMemor
     Ok(())
 }
 
-/// Adds an expression.
+/// Appends an expression. Returns an error only if memory runs out.
 #[cycle(expression)]
 pub fn push_expression(text: &mut Vec<u8>, e: &Expr) -> Result<(), NoMemory>
     ensures { OnOk result (text.new.items ≡ text.old.items ++ expression_text (expression_of e.now)) }

@@ -1,23 +1,24 @@
-//! A law of the canonical text, and worked examples: each function has an empty body, and its contract is the law or
-//! the examples.
+//! A law of the canonical text, and worked examples. Each function has an empty body, and its
+//! contract is the law or the examples.
 
 ghost use Rattle.std.specs.Prelude.{◌≡◌};
 ghost use Rattle.pipe_format.specs.FormatExamples.{BlocksAreIndented, HaveTexts, bare_loop, bare_loop_text, brackets, operands, sums, sums_text};
 ghost use Rattle.pipe_format.specs.TextLaws.{ReadingsHaveTheSameText};
 ghost use Rattle.pipe_model.specs.Language.CanonicalText.{program_text};
 
-/// The text of a program that some source spells is the text of the program that is read from it.
+/// If some source spells a program and its text is not too long for a source, the program read from
+/// the text has the same text.
 pub fn readings_have_the_same_text()
     ensures { ReadingsHaveTheSameText }
 {}
 
-/// Brackets stand where the tree needs them.
+/// Round brackets are only where the tree needs them.
 pub fn brackets_are_needed()
     ensures brackets { HaveTexts brackets }
     ensures operands { HaveTexts operands }
 {}
 
-/// A block's lines stand two spaces deeper, and an empty else part is left out.
+/// The lines of a block are indented by two more spaces, and an empty `else` part is omitted.
 pub fn blocks_are_indented()
     ensures { BlocksAreIndented }
 {}

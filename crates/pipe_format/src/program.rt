@@ -14,7 +14,7 @@ use pipe_model::memory::NoMemory;
 use pipe_model::tree::{Block, Declaration, Expr, Limits, Program};
 use std::alloc::Global;
 
-/// Adds bytes and a number behind them.
+// Appends bytes and then a number.
 fn push_field(text: &mut Vec<u8>, before: &[u8], number: i64) -> Result<(), NoMemory>
     ensures { OnOk result (text.new.items ≡ text.old.items ++ (before.now ++ signed_decimal number)) }
 {
@@ -22,7 +22,6 @@ fn push_field(text: &mut Vec<u8>, before: &[u8], number: i64) -> Result<(), NoMe
     push_number(text, number)
 }
 
-/// Adds the line of limits.
 fn push_limits(text: &mut Vec<u8>, limits: &Limits) -> Result<(), NoMemory>
     ensures { OnOk result (text.new.items ≡ text.old.items ++ limits_text limits.now) }
 {
@@ -34,7 +33,6 @@ fn push_limits(text: &mut Vec<u8>, limits: &Limits) -> Result<(), NoMemory>
     Ok(())
 }
 
-/// Adds the size of an array, where there is one.
 fn push_size(text: &mut Vec<u8>, size: Option<i64>) -> Result<(), NoMemory>
     ensures { OnOk result (text.new.items ≡ text.old.items ++ size_text size) }
 {
@@ -46,7 +44,6 @@ fn push_size(text: &mut Vec<u8>, size: Option<i64>) -> Result<(), NoMemory>
     Ok(())
 }
 
-/// Adds the line of a declared cell.
 fn push_cell(text: &mut Vec<u8>, cell: &Declaration) -> Result<(), NoMemory>
     ensures { OnOk result (text.new.items ≡ text.old.items ++ cell_text cell.now) }
 {
@@ -58,7 +55,6 @@ fn push_cell(text: &mut Vec<u8>, cell: &Declaration) -> Result<(), NoMemory>
     Ok(())
 }
 
-/// Adds the lines of declared cells.
 fn push_cells(text: &mut Vec<u8>, cells: &[Declaration]) -> Result<(), NoMemory>
     ensures { OnOk result (text.new.items ≡ text.old.items ++ flat_map cell_text cells.now) }
 {
@@ -68,7 +64,7 @@ fn push_cells(text: &mut Vec<u8>, cells: &[Declaration]) -> Result<(), NoMemory>
     Ok(())
 }
 
-/// Adds a part of the program, where it is not empty: its word, and its block.
+// Appends a part, its word and its block; nothing if the block is empty.
 fn push_part(text: &mut Vec<u8>, word: &[u8], block: &Block) -> Result<(), NoMemory>
     ensures { OnOk result (text.new.items
         ≡ text.old.items ++ part_text word.now (statements_of block.now.statements.items)) }
@@ -82,7 +78,6 @@ fn push_part(text: &mut Vec<u8>, word: &[u8], block: &Block) -> Result<(), NoMem
     push_line(text, 0, b"}")
 }
 
-/// Adds the loop.
 fn push_loop(text: &mut Vec<u8>, test: &Expr, body: &Block) -> Result<(), NoMemory>
     ensures { OnOk result (text.new.items
         ≡ text.old.items ++ loop_text (expression_of test.now) (statements_of body.now.statements.items)) }
@@ -92,8 +87,9 @@ fn push_loop(text: &mut Vec<u8>, test: &Expr, body: &Block) -> Result<(), NoMemo
     push_line(text, 0, b"}")
 }
 
-/// The canonical text of a program. If some source spells the program, and the text is not longer than a source may be,
-/// the text spells it too. The only error is want of memory.
+/// Returns the canonical text of a program. If some source spells the program, and the text is not
+/// longer than a source may be, the text spells the program too. Returns an error only if memory
+/// runs out.
 pub fn format(alloc: Global, program: &Program) -> Result<Bytes, NoMemory>
     ensures text { IfOk result (λ text. text ≡ program_text (tree_of program.now)) }
     ensures spells { IfOk result (λ text. SpellsAsSources (tree_of program.now) text) }

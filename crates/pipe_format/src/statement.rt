@@ -10,7 +10,8 @@ use pipe_model::memory::NoMemory;
 use pipe_model::name::Name;
 use pipe_model::tree::{Block, Expr, StageKind, Stmt};
 
-/// Adds an expression between bytes, behind so many spaces.
+/// Appends `indent` spaces, then the expression between the bytes `before` and `behind`. Returns an
+/// error only if memory runs out.
 pub fn push_between(
     text: &mut Vec<u8>,
     indent: usize,
@@ -27,7 +28,6 @@ pub fn push_between(
     Ok(())
 }
 
-/// Adds the line of a declaration of a local.
 fn push_let(text: &mut Vec<u8>, indent: usize, name: &Name, e: &Expr) -> Result<(), NoMemory>
     ensures { OnOk result (text.new.items
         ≡ text.old.items ++ statement_text indent (Let name.now (expression_of e.now))) }
@@ -37,7 +37,6 @@ fn push_let(text: &mut Vec<u8>, indent: usize, name: &Name, e: &Expr) -> Result<
     push_between(text, 0, b" = ", e, b";\n")
 }
 
-/// Adds the line of an assignment to a local or a plain cell.
 fn push_assign(text: &mut Vec<u8>, indent: usize, name: &Name, e: &Expr) -> Result<(), NoMemory>
     ensures { OnOk result (text.new.items
         ≡ text.old.items ++ statement_text indent (Assign name.now (expression_of e.now))) }
@@ -46,7 +45,6 @@ fn push_assign(text: &mut Vec<u8>, indent: usize, name: &Name, e: &Expr) -> Resu
     push_between(text, 0, b" = ", e, b";\n")
 }
 
-/// Adds the line of an assignment to an element of an array.
 fn push_assign_element(
     text: &mut Vec<u8>,
     indent: usize,
@@ -62,7 +60,6 @@ fn push_assign_element(
     push_between(text, 0, b" = ", e, b";\n")
 }
 
-/// The word of a statement that names a next stage.
 fn stage_word(kind: StageKind) -> &'static [u8]
     ensures { result.now ≡ stage_word kind }
 {
@@ -72,7 +69,6 @@ fn stage_word(kind: StageKind) -> &'static [u8]
     }
 }
 
-/// Adds the line of a statement that names a next stage, with or without a number.
 fn push_stage(
     text: &mut Vec<u8>,
     indent: usize,
@@ -88,7 +84,7 @@ fn push_stage(
     }
 }
 
-/// Adds a statement, its lines indented by so many spaces.
+// Appends the lines of a statement, each after `indent` spaces.
 #[cycle(block)]
 fn push_statement(text: &mut Vec<u8>, indent: usize, s: &Stmt) -> Result<(), NoMemory>
     ensures { OnOk result (text.new.items ≡ text.old.items ++ statement_text indent (statement_of s.now)) }
@@ -117,13 +113,14 @@ fn push_statement(text: &mut Vec<u8>, indent: usize, s: &Stmt) -> Result<(), NoM
     }
 }
 
-/// Adds the statements of a block, two spaces deeper than the line that opens it.
+/// Appends the statements of a block, indented by two spaces more than the line that opens it.
+/// Returns an error only if memory runs out.
 #[cycle(block)]
 pub fn push_block(text: &mut Vec<u8>, indent: usize, block: &Block) -> Result<(), NoMemory>
     ensures { OnOk result (text.new.items
         ≡ text.old.items ++ statements_text (indent + 2) (statements_of block.now.statements.items)) }
 {
-    // no memory has room for a line of more spaces than a `usize` counts
+    // Memory cannot hold a line of more spaces than a `usize` can count.
     let deeper = indent.checked_add(2).ok_or(NoMemory)?;
     for s in &block.statements {
         push_statement(text, deeper, s)?;

@@ -1,5 +1,6 @@
-// One program in which all stands that a text may have. That its text is the canonical one is proved, and worked examples tell what
-// texts programs have (`law`). A run shows that the text comes, and not want of memory.
+// One program with every form that a text can have. Proofs show that its text is canonical, and
+// worked examples in `law` show which texts programs have. This run shows that `format` returns a
+// text and not an error.
 
 use crate::program::format;
 use pipe_model::memory::NoMemory;

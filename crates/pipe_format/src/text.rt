@@ -7,14 +7,15 @@ ghost use Rattle.pipe_model.specs.Language.CanonicalText.{line};
 use pipe_model::memory::NoMemory;
 use std::io::Write;
 
-/// Adds a number in decimal, with `-` before a negative one.
+/// Appends a number in decimal, with `-` if it is negative. Returns an error only if memory runs
+/// out.
 pub fn push_number(text: &mut Vec<u8>, number: i64) -> Result<(), NoMemory>
     ensures { OnOk result (text.new.items ≡ text.old.items ++ signed_decimal number) }
 {
     write!(text, "{number}").map_err(|_| NoMemory)
 }
 
-/// Adds bytes behind so many spaces.
+/// Appends `indent` spaces and then the bytes. Returns an error only if memory runs out.
 pub fn push_indented(text: &mut Vec<u8>, indent: usize, bytes: &[u8]) -> Result<(), NoMemory>
     ensures { OnOk result (text.new.items ≡ text.old.items ++ (replicate indent 32 ++ bytes.now)) }
 {
@@ -25,7 +26,8 @@ pub fn push_indented(text: &mut Vec<u8>, indent: usize, bytes: &[u8]) -> Result<
     Ok(())
 }
 
-/// Adds a line of these bytes behind so many spaces.
+/// Appends a line: `indent` spaces, the bytes and a line feed. Returns an error only if memory runs
+/// out.
 pub fn push_line(text: &mut Vec<u8>, indent: usize, bytes: &[u8]) -> Result<(), NoMemory>
     ensures { OnOk result (text.new.items ≡ text.old.items ++ line indent bytes.now) }
 {

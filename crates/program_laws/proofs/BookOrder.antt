@@ -90,7 +90,7 @@ ticket_split (x ∷ xs) b u (suc n) t e = elim (ticket_split xs b u n t e) [
   | inr new ↦ (let l = new.1 in inr (new.0, omega (arith, l), new.2))
 ]
 
--- if none was appended
+-- the same if no ticket was appended
 ticket_same : (xs : List ℕ) (n t : ℕ) → ticket_at (xs ++ []) n ≡ Some t → ticket_at xs n ≡ Some t
 ticket_same xs n t e = subst (λ l. ticket_at l n ≡ Some t) (append-nil xs) e
 
@@ -131,7 +131,7 @@ module _ (bs : List BookEntry) (b : BookEntry) where
       let e = m.is in
       (h.0, subst (λ l. ticket_at l k ≡ Some h.0) (sym (start_tickets-append i bs (b ∷ []))) h.1, omega (arith, w, e))
 
-  -- an instance that starts with the last entry starts after the end of one that had ended
+  -- an instance that starts with the last entry starts after each instance that had ended
   starts_last : ((x : BookEntry) → Among x bs → x.ticket < b.ticket) → (h j i k t : ℕ) → start_ticket_of (bs ++ b ∷ []) i k ≡ Some t → t ≡ b.ticket → j < length (end_tickets h bs)
       → StartsAfterEnd (bs ++ b ∷ []) h j i k
   starts_last last h j i k t e new l =

@@ -115,7 +115,7 @@ frugal-evaluate w locals Iter = FrugalStep (FrugalReturn _)
 
 -- ---- trees with stages
 
--- the same of a tree that names at most `room` next stages; its result has the property P at the room that is left
+-- the same for a tree that names at most `room` next stages; its result has the property P for the remaining room
 pub data IsBounded {A : Type 0} (P : ℕ → A → Type 0) : ℕ → ℕ → Interaction A → Type 0 where
   BoundReturn : {credit room : ℕ} {a : A} → P room a → IsBounded P credit room (Return a)
   BoundRaise : {credit room : ℕ} (t : Trap) → IsBounded P credit room (Raise t)
@@ -162,7 +162,7 @@ bounded_by_zero (pos zero) s t = s
 bounded_by_zero (pos (suc n)) s t = t
 bounded_by_zero (negsuc n) s t = t
 
--- the instances so far and those for which there is room are the limit
+-- the number of instances so far, plus the remaining room, is the limit
 abbrev pub FitsIn : ℕ → ℕ → Environment → Type 0
 FitsIn stages room env = stages ≤ env.stage.count + room
 
@@ -323,7 +323,7 @@ sum_all last stages each n one le = elim (cases_lt last n) [
       omega (arith, rest, small, m, q))
 ]
 
--- the first of two faults is None if the result is
+-- if the first of two faults is `None`, the test passed and the rest is `None`
 test_passed : {A : Type 0} (ok : Bool) (v : A) (rest : Option A) → (if not ok then Some v else rest) ≡ None → (ok ≡ true) × (rest ≡ None)
 test_passed true v rest h = (refl, h)
 test_passed false v rest h = absurd (cc)

@@ -90,7 +90,7 @@ without_accesses-push (x ∷ es) e = by_test (is_access x) refl (without_accesse
     by_test true t h = rw t h
     by_test false t h = rw t (ap (λ l. x ∷ l) h)
 
--- an event that is an access
+-- one more event, which may be an access
 control_after_one : (p : Pipeline) (limit : ℕ) (events : List Event) (s : State) (e : Event) → Allowed p limit s e → HasControlRun limit events s
     → (b : Bool) → is_access e ≡ b → HasControlRun limit (events ++ e ∷ []) (next_state s e)
 control_after_one p limit events s (Access i a) h k true t =

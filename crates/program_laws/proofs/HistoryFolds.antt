@@ -10,7 +10,7 @@ use Rattle.run_laws.proofs.ListOrders.PrecedingPlaces.{below_path}
 use Rattle.pipe_model.specs.Orders.HistoryStates.{HistoryState, empty_state, found_or, history_from, noted}
 use Rattle.program_laws.specs.HistoryStateLaws.{HistoriesAreStates, SearchesNameDifferentAccesses, twice_columns, twice_accesses}
 
--- the race that was found, or else the other
+-- the race that was found, or otherwise the other one
 abbrev either_race : Option FoundRace → Option FoundRace → Option FoundRace
 either_race (Some race) rest = Some race
 either_race None rest = rest

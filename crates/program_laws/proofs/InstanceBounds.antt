@@ -142,7 +142,7 @@ count_all last stages n one le = elim (cases_lt last n) [
       omega (arith, rest, small))
 ]
 
--- no iteration comes after the one that always closes the loop
+-- no iteration follows the one that always closes the loop
 within_last : (p : Pipeline) (limit : ℕ) (events : List Event) (s : State) → Run p limit events s → AlwaysClosesLoop (p.behaviour p.last_iteration)
     → length s.frames ≤ p.last_iteration + 1
 within_last p limit events s r closing = elim (cases_lt (p.last_iteration + 1) (length s.frames)) [

@@ -73,7 +73,7 @@ abbrev mutual
   NamesNone (syntax.Stage kind e) = ⊥
   NamesNone (NextStage kind) = ⊥
 
-  -- nor do statements in order
+  -- the same for statements in order
   NameNone : Statements → Type 0
   NameNone Empty = Unit {0}
   NameNone (Then s ss) = NamesNone s × NameNone ss

@@ -26,7 +26,7 @@ use Rattle.program_laws.specs.ScheduleLaws.{FinishedRunsHaveNoCandidate, Schedul
 use Rattle.program_laws.proofs.BoundedWork.{program_runs_are_bounded}
 use Rattle.program_laws.proofs.Candidates.{candidate_is_good, played_runs_are_runs, runs_have_candidates}
 
--- a frame that closes the loop has none after it
+-- a frame does not both close and continue the loop
 closed_or_goes_on : (w : Status) (nodes : List Node) → ClosesLoop w nodes → ContinuesLoop w nodes → ⊥
 closed_or_goes_on Running nodes s g = s
 closed_or_goes_on (Pending k n) nodes s g = s
@@ -34,7 +34,7 @@ closed_or_goes_on (Completed e) nodes s g =
     let wide = g s.0 in
     let one = s.1 in omega (arith, wide, one)
 
--- nothing but a stop is allowed after the end
+-- after the end only a stop is allowed
 finished_allows_none : (p : Pipeline) (limit : ℕ) (events : List Event) (s : State) (e : Event) → Run p limit events s → IsFinished s → e ≢ Stop
     → Allowed p limit s e → ⊥
 finished_allows_none p limit events s e r fin apart h = by_event e h apart

@@ -29,19 +29,19 @@ use Rattle.program_laws.specs.ProgramRunLaws.{IsSerialProgram, RaceFreeProgramRu
 abbrev pub WriteTheSame : List Access → List Access → Type 0
 WriteTheSame b d = (c : ℕ) → written c b ≡ written c d
 
--- so do the lists with the same accesses before and after them
+-- the same lists with the same accesses before and after them
 pub same_between : (front b d rest : List Access) → WriteTheSame b d → WriteTheSame (front ++ (b ++ rest)) (front ++ (d ++ rest))
 same_between front b d rest h = λ c.
     written-append c front (b ++ rest) ∙ ap (λ l. written c front ++ l)
     (written-append c b rest ∙ ap (λ l. l ++ written c rest) (h c) ∙ sym (written-append c d rest))
     ∙ sym (written-append c front (d ++ rest))
 
--- with the same accesses before them
+-- the same lists with the same accesses before them
 pub same_after : (front b d : List Access) → WriteTheSame b d → WriteTheSame (front ++ b) (front ++ d)
 same_after front b d h = λ c.
     written-append c front b ∙ ap (λ l. written c front ++ l) (h c) ∙ sym (written-append c front d)
 
--- with the same accesses after them
+-- the same lists with the same accesses after them
 pub same_before : (b d rest : List Access) → WriteTheSame b d → WriteTheSame (b ++ rest) (d ++ rest)
 same_before b d rest h = λ c.
     written-append c b rest ∙ ap (λ l. l ++ written c rest) (h c) ∙ sym (written-append c d rest)
@@ -105,7 +105,7 @@ well_formed_after w h = record { legal = h.legal; closes = h.closes }
 pub loop_traces_are : (w : WholeProgram) → is_some (init_trap w) ≡ false → loop_traces w ≡ serial_traces (loop_after_init w)
 loop_traces_are w e = unless_false (is_some (init_trap w)) (serial_traces (loop_after_init w)) e
 
--- and if it trapped
+-- the traces of the loop if `init` trapped
 pub no_loop_traces : (w : WholeProgram) → is_some (init_trap w) ≡ true → loop_traces w ≡ []
 no_loop_traces w e = unless_true (is_some (init_trap w)) (serial_traces (loop_after_init w)) e
 

@@ -99,7 +99,7 @@ evaluate-with_turns w turns locals More = refl
 evaluate-with_turns w turns locals Take = refl
 evaluate-with_turns w turns locals Iter = refl
 
--- the instances so far and those for which there is room are the limit
+-- the number of instances so far, plus the remaining room, is the limit
 abbrev pub HasRoom : ℕ → ℕ → ℕ → Environment → Type 0
 HasRoom stages left room env = stages ≤ env.stage.count + room
 
@@ -201,7 +201,7 @@ mutual
       (straight-same budget k room (straight-fitting (env.stage.number +ℤ pos 1)) (λ l v le any. same-go_to_stage budget w.world.stages l room kind env.stage v has))
       (λ l2 r2 stage le2 has2. SameReturn has2))
 
-  -- so do statements one after the other
+  -- the same for statements in order
   pub same-execute_all : (budget : ℕ) (w : Setting) (n m : ℕ) (ss : Statements) (env : Environment) (left room : ℕ) → w.world.stages ≤ env.stage.count + room
       → left + budget * room < n → left + budget * room < m
       → SameWithin budget (HasRoom w.world.stages) left room (execute_all (with_turns n w) ss env) (execute_all (with_turns m w) ss env)
@@ -230,7 +230,7 @@ same-run_iteration budget w n m test body left room has ln lm =
     (same-bind budget (same-execute_all budget w n m body first_environment k room has (omega (arith, ln, le, lk)) (omega (arith, lm, le, lk)))
     (λ l2 r2 env le2 has2. SameReturn tt))))))
 
--- so does a part
+-- the same for `init` and `final`
 pub same-execute_part : (budget : ℕ) (w : Setting) (n m : ℕ) (statements : Statements) (left room : ℕ) → w.world.stages ≤ 1 + room
     → left + budget * room < n → left + budget * room < m
     → SameWithin budget AnyEnd left room (execute_part (with_turns n w) statements) (execute_part (with_turns m w) statements)

@@ -57,7 +57,7 @@ negative x = Unary 1 x
 abbrev pub negation : Expression → Expression
 negation x = Unary 2 x
 
--- 1 / 0, which traps where it is evaluated
+-- 1 / 0, which traps when it is evaluated
 abbrev pub failing : Expression
 failing = quotient (number 1) (number 0)
 

@@ -35,7 +35,7 @@ ArraysAreRead =
     (pos 5 ∷ pos 7 ∷ pos 5 ∷ []) (Some (trap_in_final traps.Index))
     × EmitsAndTraps (Element a (number 2) ∷ Element a (number 3) ∷ []) (pos 5 ∷ []) traps.Index
 
--- each comparison, where it holds and where it does not
+-- each comparison, with operands for which it holds and operands for which it does not
 abbrev pub ComparisonsCompute : Type 0
 ComparisonsCompute =
     Emits (equal (number 2) (number 2) ∷ equal (number 2) (number 3) ∷ unequal (number 2) (number 3) ∷ unequal (number 2) (number 2) ∷ []) (pos 1 ∷ pos 0 ∷ pos 1 ∷ pos 0 ∷ [])
@@ -51,7 +51,7 @@ ArithmeticComputes =
     (negsuc 2 ∷ negsuc 0 ∷ negsuc 2 ∷ pos 1 ∷ [])
     × Emits (negative (number 4) ∷ negation (number 4) ∷ negation (number 0) ∷ []) (negsuc 3 ∷ pos 0 ∷ pos 1 ∷ [])
 
--- a result that is no i64, the quotient and the remainder of the least number and -1 among them
+-- a result that is no i64; among them are the quotient and the remainder of the least number and -1
 abbrev pub ResultsOverflow : Type 0
 ResultsOverflow =
     EmitsAndTraps (plus greatest_number (number 1) ∷ []) [] traps.Overflow

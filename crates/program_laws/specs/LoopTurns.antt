@@ -27,7 +27,7 @@ MoreTurnsChangeNothing =
     → natural tree.limits.stages * (natural tree.limits.steps + 1) ≤ turns
     → iteration_with tree input turns i ≡ (pipeline_of tree input).behaviour i
 
--- so are `init` and `final`
+-- the same for `init` and `final`
 abbrev pub MoreTurnsChangeNoPart : Type 0
 MoreTurnsChangeNoPart =
     (tree : SyntaxTree) (input : List ℤ) (turns : ℕ) (statements : Statements) → 1 ≤ natural tree.limits.stages

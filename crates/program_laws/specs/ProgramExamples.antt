@@ -78,7 +78,7 @@ prepared steps = record {
   last = Empty;
 }
 
--- the loop sees what `init` wrote; the four steps of `init` do not count against the budget of an iteration, which takes ten
+-- the loop reads what `init` wrote; the four steps of `init` do not count against the budget of an iteration, which takes ten
 abbrev pub InitPreparesTheLoop : Type 0
 InitPreparesTheLoop =
     HasOutputAndTrap (prepared 10) [] (pos 5 ∷ pos 6 ∷ pos 7 ∷ []) None

@@ -37,12 +37,12 @@ exit_status [] None = 0
 exit_status [] (Some t) = 3
 exit_status (r ∷ rs) trap = 2
 
--- what the call prints
+-- the printed text: the text of the reports if there are any, and otherwise the output and the trap
 abbrev pub printed_text : List Report → List ℕ → List ℤ → Option TrapAt → List ℕ
 printed_text [] races output trap = output_lines output ++ trap_lines trap
 printed_text (r ∷ rs) races output trap = races
 
--- a call that has made a finished run of an accepted program, and prints right reports of it, or else the run's own output and trap, meets the headline
+-- a call that makes a finished run of an accepted program and prints right reports, or else the run's output and trap, meets the headline
 abbrev pub RunsMeetTheHeadline : Type 0
 RunsMeetTheHeadline =
     (source : List ℕ) (tree : SyntaxTree) (input : List ℤ) (limit : ℕ) (log : RunLog) (reports : List Report) (races : List ℕ) → IsAccepted source tree

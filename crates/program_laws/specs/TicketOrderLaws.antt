@@ -17,7 +17,7 @@ OrderedTicketsMerge =
     (columns : List (List Node)) (book : List BookEntry) (shards : ℕ → List ShardEntry) (made : ℕ → ℕ → List TimedAction)
     → TicketsAreInOrder columns book shards made → InTicketOrder book made
 
--- an instance that has started did so after the end of each instance that precedes it in the dag, also along redundant edges
+-- an instance starts after the end of each instance that precedes it in the dag, also along redundant edges
 abbrev pub PrecedingInstancesEndFirst : Type 0
 PrecedingInstancesEndFirst =
     (columns : List (List Node)) (book : List BookEntry) (shards : ℕ → List ShardEntry) (made : ℕ → ℕ → List TimedAction)
@@ -32,7 +32,7 @@ BooksOrderInstances =
     → AllPairs (λ (a : BookEntry) (b : BookEntry). a.ticket < b.ticket) book
     → InstancesAreOrdered (own_columns c) book
 
--- so with such a book it is enough that tickets rise in each log
+-- for such a book, tickets are in order if they rise in each log
 abbrev pub RisingTicketsAreInOrder : Type 0
 RisingTicketsAreInOrder =
     (limit : ℕ) (book : List BookEntry) (shards : ℕ → List ShardEntry) (made : ℕ → ℕ → List TimedAction) (c : State)

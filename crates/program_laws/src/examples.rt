@@ -1,4 +1,5 @@
-//! Worked examples of expressions, statements, whole programs and schedules, which the checker computes.
+//! Worked examples of expressions, statements, whole programs and schedules, which the checker
+//! computes.
 
 ghost use Rattle.program_laws.specs.ExpressionExamples.{ArithmeticComputes, ArraysAreRead, ComparisonsCompute, DivisorsAreNotZero};
 ghost use Rattle.program_laws.specs.ExpressionExamples.{InputsAreTaken, IterationsAreNumbered, NamesAreRead, ResultsOverflow};
@@ -120,7 +121,7 @@ pub fn traps_close_the_loop()
     ensures { TrapsCloseTheLoop }
 {}
 
-/// The loop sees what `init` wrote, and `init` has a budget of its own.
+/// The loop reads what `init` wrote, and `init` has a budget of its own.
 pub fn init_prepares_the_loop()
     ensures { InitPreparesTheLoop }
 {}

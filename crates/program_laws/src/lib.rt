@@ -1,7 +1,7 @@
 //! Laws of whole programs, schedules, the control part, histories and tickets.
 //!
-//! There is no code here. Each public function has an empty body, and its contract is one law about the
-//! definitions of `pipe_model`; `specs/` states the laws, and `proofs/` proves them.
+//! There is no code here. Each public function has an empty body, and its contract is one law about
+//! the definitions of `pipe_model`; `specs/` states the laws, and `proofs/` proves them.
 #![tactic(auto)]
 
 pub mod cell_histories;

@@ -3,8 +3,8 @@
 ghost use Rattle.program_laws.specs.ScheduleLaws.{AllowedEventsAreNext, CandidatesAreAllowed, FinishedRunsHaveNoCandidate};
 ghost use Rattle.program_laws.specs.ScheduleLaws.{PlayedRunsAreRuns, RunsHaveCandidates, SchedulesFinish, SchedulesPlayRuns};
 
-/// In every run of a well-formed pipeline that was not stopped, an event other than a stop is allowed exactly if it is
-/// the next event of an iteration or the beginning of the next iteration.
+/// In every run of a well-formed pipeline that was not stopped, an event other than a stop is
+/// allowed exactly if it is the next event of an iteration or the beginning of the next iteration.
 pub fn allowed_events_are_next()
     ensures { AllowedEventsAreNext }
 {}
@@ -15,13 +15,14 @@ pub fn candidates_are_allowed()
     ensures { CandidatesAreAllowed }
 {}
 
-/// A run that is neither finished nor stopped has a candidate, if there is at least one worker and the limit is at
-/// least 1.
+/// A run that is neither finished nor stopped has a candidate, if there is at least one worker and
+/// the limit is at least 1.
 pub fn runs_have_candidates()
     ensures { RunsHaveCandidates }
 {}
 
-/// Events that are candidates, one by one, are a run, and after each of them at most `workers` instances run.
+/// Events that are candidates, one by one, are a run, and after each of them at most `workers`
+/// instances run.
 #[tactic(auto, using(crate::proofs::Candidates::played_runs_are_runs))]
 pub fn played_runs_are_runs()
     ensures { PlayedRunsAreRuns }

@@ -9,13 +9,14 @@ pub fn ordered_tickets_merge()
     ensures { OrderedTicketsMerge }
 {}
 
-/// If tickets are in order, an instance starts after the end of each instance that precedes it in the dag.
+/// If tickets are in order, an instance starts after the end of each instance that precedes it in
+/// the dag.
 pub fn preceding_instances_end_first()
     ensures { PrecedingInstancesEndFirst }
 {}
 
-/// If the tickets of a book rise, its instances end after their starts, and start after the ends of their parents; so
-/// tickets are in order if they rise in each log.
+/// If the tickets of a book rise, its instances end after their starts, and start after the ends of
+/// their parents; so tickets are in order if they rise in each log.
 #[tactic(auto, using(crate::proofs::BookOrder::books_order_instances, crate::proofs::BookOrder::rising_tickets_are_in_order))]
 pub fn books_order_instances()
     ensures instances { BooksOrderInstances }

@@ -1,4 +1,4 @@
--- The state of the serial elision while it goes over the tree of a program, and what an interaction tree makes of it
+-- The state of the serial elision at a point of a program's tree, and how an interaction tree changes it
 -- (interaction trees: Xia et al., "Interaction Trees", POPL 2020).
 use Rattle.std.specs.Prelude.{ℕ, ℤ, pos, List, [], ◌∷◌, ◌++◌, ◌-◌, length}
 use Rattle.pipe_model.specs.declared.access.Access.{Access}
@@ -15,13 +15,13 @@ use Rattle.pipe_model.specs.Language.Interaction.{Interaction, Interpreted, Retu
 use Rattle.pipe_model.specs.Runs.State.{accesses_of}
 use Rattle.pipe_model.specs.Pipelines.Store.{InitialStore, value_after}
 
--- what no step changes: the store before the first access, and the limits on instances of an iteration and on steps of an instance
+-- the constant part: the store before the first access, and the limits on instances of an iteration and on steps of an instance
 pub record Basis : Type 0 where
   pub store : InitialStore
   pub stages : ℕ
   pub budget : ℕ
 
--- the state: all accesses so far, and of the current iteration its number, its instances, and the steps that are left
+-- all accesses so far, and of the current iteration its number, its instances and the remaining steps
 pub record ElisionState : Type 0 where
   pub basis : Basis
   pub accesses : List NodeAccess
@@ -33,7 +33,7 @@ pub record ElisionState : Type 0 where
 abbrev pub first_node : Node
 first_node = node_of Zero (pos 0)
 
--- the stage in which the last of the instances is
+-- the stage of the last instance
 abbrev pub position_of : List Node → StagePosition
 position_of nodes = record { number = (node_at nodes (length nodes - 1)).number; count = length nodes }
 
@@ -45,11 +45,11 @@ cell_value k c = value_after k.basis.store (accesses_of k.accesses) c
 abbrev pub made_here : ElisionState → Access → NodeAccess
 made_here k a = record { node = at k.iteration (length k.nodes - 1); access = a }
 
--- one access more
+-- the state after another access
 abbrev pub with_access : ElisionState → Access → ElisionState
 with_access k a = record k { accesses = k.accesses ++ made_here k a ∷ [] }
 
--- what a tree does, each read answered by the cells
+-- the result of a tree; each read returns the value of the cell
 abbrev pub perform : {A : Type 0} → Interaction A → ElisionState → Interpreted ElisionState A
 perform (Return a) k = Returned a k
 perform (Raise t) k = Raised t k
@@ -58,12 +58,12 @@ perform (Get c go) k = perform (go (cell_value k c)) (with_access k (read_access
 perform (Set c v d) k = perform d (with_access k (write_access c v))
 perform (Stage kind n d) k = perform d (record k { nodes = k.nodes ++ node_of kind n ∷ []; left = k.basis.budget })
 
--- the end of an iteration that ends so
+-- the end of an iteration with this result
 abbrev pub end_of : Interpreted ElisionState ColumnEnd → ColumnEnd
 end_of (Returned e k) = e
 end_of (Raised t k) = ends.Trapped t
 
--- the state at the end
+-- the final state of this result
 abbrev pub state_of : {A : Type 0} → Interpreted ElisionState A → ElisionState
 state_of (Returned a k) = k
 state_of (Raised t k) = k

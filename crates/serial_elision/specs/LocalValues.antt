@@ -1,4 +1,4 @@
--- Locals as the definitions see them.
+-- Locals as the definitions of the language see them.
 use Rattle.std.specs.Prelude.{List, map}
 use Rattle.pipe_model.specs.Language.Evaluation.{Local}
 use Rattle.serial_elision.specs.declared.locals.Local.{Local as Kept_local}

@@ -1,5 +1,5 @@
--- The programs whose loop the elision runs, told by their trees. Each program of the first form that breaks no rule is one of them;
--- that such a program has nothing before and after its loop, and names that are known, is not needed to run it.
+-- The programs whose loop the elision can run, defined by their trees. Each program of the first form that breaks no rule is one of them.
+-- To run it, it does not matter that such a program has nothing before and after its loop, and only known names.
 use Rattle.std.specs.Prelude.{◌≡◌, ◌≤◌, ◌≤ℤ◌, ◌⊎◌, ℕ, pos, length, All, None}
 use Rattle.pipe_model.specs.declared.tree.Declaration.{Declaration}
 use Rattle.pipe_model.specs.Language.CheckingRules.{first_limit_out}
@@ -33,12 +33,11 @@ IsRunnableStatement (AssignElement x i e) = ⊥
 IsRunnableStatement (If e a b) = ⊥
 IsRunnableStatement (While e a) = ⊥
 
--- each statement is one of these
 abbrev pub AreRunnable : Statements → Type 0
 AreRunnable Empty = Unit {0}
 AreRunnable (Then s ss) = IsRunnableStatement s × AreRunnable ss
 
--- a plain cell, and no array
+-- the cell is not an array
 abbrev pub IsPlainCell : Declaration → Type 0
 IsPlainCell d = d.size ≡ None
 

@@ -1,4 +1,4 @@
-//! The iterations of the loop, one after the other.
+//! The iterations of the loop, in order.
 
 ghost use Rattle.std.specs.Prelude.{◌≡◌, ◌≤◌, ◌^◌, ◌≤ℤ◌, ◌∷◌, [], pos, length, All, IfOk, IsTrue};
 ghost use Rattle.pipe_model.specs.Language.Evaluation as evaluation;
@@ -26,7 +26,7 @@ use pipe_model::trap::{Trap, TrapAt};
 use pipe_model::tree::{Declaration, Program};
 use std::alloc::Global;
 
-// the body of an iteration
+// Runs the body of an iteration, after the step of the test.
 fn run_body(alloc: Global, place: &Place, store: &mut Store) -> Result<ColumnEnd, Halt>
     requires runnable { AreRunnable (statements_of place.now.program.now.body.statements.items) }
     requires basis { store.old.basis ≡ basis_of (tree_of place.now.program.now) }
@@ -42,7 +42,7 @@ fn run_body(alloc: Global, place: &Place, store: &mut Store) -> Result<ColumnEnd
     Ok(ColumnEnd::End)
 }
 
-// the step of the loop's test with this value, and the body where it goes on
+// Takes the step of the loop's test with value `v`, and runs the body if the loop continues.
 fn run_after_test(
     alloc: Global,
     place: &Place,
@@ -68,7 +68,7 @@ fn run_after_test(
     run_body(alloc, place, store)
 }
 
-// an iteration, up to its end or a trap
+// Runs an iteration to its end or to a trap.
 fn run_whole(alloc: Global, place: &Place, store: &mut Store) -> Result<ColumnEnd, Halt>
     requires runnable { IsRunnable (tree_of place.now.program.now) }
     requires basis { store.old.basis ≡ basis_of (tree_of place.now.program.now) }
@@ -83,7 +83,7 @@ fn run_whole(alloc: Global, place: &Place, store: &mut Store) -> Result<ColumnEn
     run_after_test(alloc, place, v, store)
 }
 
-// how an iteration ends
+// Runs an iteration; a trap is an end.
 fn run_iteration(alloc: Global, place: &Place, store: &mut Store) -> Result<ColumnEnd, NoMemory>
     requires runnable { IsRunnable (tree_of place.now.program.now) }
     requires basis { store.old.basis ≡ basis_of (tree_of place.now.program.now) }
@@ -100,7 +100,8 @@ fn run_iteration(alloc: Global, place: &Place, store: &mut Store) -> Result<Colu
     }
 }
 
-// the columns of the iterations, up to the one that closes the loop, and the least trap
+// Runs the iterations up to the one that closes the loop. Returns their columns and the trap of the
+// least iteration that has one.
 fn run_loop(
     alloc: Global,
     program: &Program,
@@ -139,7 +140,7 @@ fn run_loop(
     Ok((columns, trap))
 }
 
-// the declared values, cell after cell, behind the input's cursor and the output
+// The initial values: 0 for the input's cursor and for the output, then the declared values.
 fn initial_values(alloc: Global, cells: &[Declaration]) -> Result<Vec<i64>, NoMemory>
     requires plain { All IsPlainCell cells.now }
     requires few { length cells.now ≤ 65536 }
@@ -154,7 +155,7 @@ fn initial_values(alloc: Global, cells: &[Declaration]) -> Result<Vec<i64>, NoMe
     Ok(values)
 }
 
-// the number of a limit
+// A limit as a number.
 fn number_of(limit: i64) -> u32
     requires low { pos 0 ≤ℤ limit }
     requires high { limit ≤ℤ pos 1048576 }
@@ -163,7 +164,7 @@ fn number_of(limit: i64) -> u32
     limit as u32
 }
 
-// the store before the first iteration
+// The store before the first iteration.
 fn store_for(alloc: Global, program: &Program) -> Result<Store, NoMemory>
     requires { IsRunnable (tree_of program.now) }
     ensures basis { IfOk result (λ store. store.basis ≡ basis_of (tree_of program.now)) }
@@ -180,23 +181,24 @@ fn store_for(alloc: Global, program: &Program) -> Result<Store, NoMemory>
     )
 }
 
-/// What the serial elision of a program comes to.
+/// The result of a serial elision.
 #[derive(Drop)]
 pub struct SerialRun {
     /// The emitted numbers, in order.
     pub output: Numbers,
-    /// The trap of the least iteration that ended by one, with its place.
+    /// The trap of the least iteration that ended with one, and where it trapped.
     pub trap: Option<TrapAt>,
-    /// The stage instances of each iteration, and how it ended.
+    /// The stage instances of each iteration, and its end.
     pub columns: Columns,
     /// The accesses with their stage instances, in the order in which they were made.
     pub accesses: NodeAccesses,
 }
 
-/// Runs the loop of a program on an input as its serial elision: the iterations one after the other, each to its
-/// end, up to the one that closes the loop. What stands before and after the loop is not run; a program of the
-/// first form, which this is for, has nothing there. A trap is no error: it ends its iteration, and in instance 0
-/// the loop. The one error is want of memory.
+/// Runs the loop of a program on an input as its serial elision: one iteration after the other,
+/// each to its end, up to the one that closes the loop. Does not run what is before and after the
+/// loop; a program of the first form, for which this is made, has nothing there. A trap is not an
+/// error: it ends its iteration, and in instance 0 also the loop. Returns an error only if memory
+/// runs out.
 pub fn run_tree(alloc: Global, program: &Program, input: &Numbers) -> Result<SerialRun, NoMemory>
     requires { IsRunnable (tree_of program.now) }
     ensures output { IfOk result (λ run. run.output ≡ serial_output (pipeline_of (tree_of program.now) input.now)) }

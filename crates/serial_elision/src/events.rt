@@ -13,14 +13,14 @@ use pipe_model::memory::NoMemory;
 use pipe_model::node::Node;
 use std::alloc::Global;
 
-// whether the access is made by the instance of the iteration at this place
+// Whether the access was made by instance `index` of the iteration.
 fn is_made_by(access: &NodeAccess, iteration: u32, index: usize) -> bool
     ensures { result ≡ is_made_by iteration index access.now }
 {
     access.node.iteration == iteration && access.node.index as usize == index
 }
 
-// how many accesses at the front the instance of the iteration at this place makes
+// The number of leading accesses that were made by instance `index` of the iteration.
 fn own_count(accesses: &[NodeAccess], iteration: u32, index: usize) -> usize
     ensures counted { result ≡ own_count iteration index accesses.now }
     ensures within { result ≤ length accesses.now }
@@ -31,7 +31,6 @@ fn own_count(accesses: &[NodeAccess], iteration: u32, index: usize) -> usize
         .count()
 }
 
-// adds the events of accesses of the iteration
 fn push_accesses(
     events: &mut Events,
     iteration: u32,
@@ -45,7 +44,7 @@ fn push_accesses(
     Ok(())
 }
 
-// adds the events by which an instance is named and entered
+// Appends the events with which an instance is named and entered; none for instance 0.
 fn push_entry(events: &mut Events, iteration: u32, index: usize, node: Node) -> Result<(), NoMemory>
     ensures { OnOk result (events.new ≡ events.old ++ entry_events iteration index node) }
 {
@@ -56,7 +55,7 @@ fn push_entry(events: &mut Events, iteration: u32, index: usize, node: Node) -> 
     Ok(())
 }
 
-// adds the events of the iteration's instances, and tells which accesses they leave
+// Appends the events of the iteration's instances. Returns the accesses that remain.
 fn push_column<'a>(
     events: &mut Events,
     iteration: u32,
@@ -76,7 +75,6 @@ fn push_column<'a>(
     Ok(rest)
 }
 
-// adds the end of the iteration, where it has one
 fn push_end(events: &mut Events, iteration: u32, end: Option<ColumnEnd>) -> Result<(), NoMemory>
     ensures { OnOk result (events.new ≡ events.old ++ end_events iteration end) }
 {
@@ -86,7 +84,8 @@ fn push_end(events: &mut Events, iteration: u32, end: Option<ColumnEnd>) -> Resu
     Ok(())
 }
 
-// how many events there are at most: two for each column and each instance, and one for each access
+// An upper bound on the number of events: two for each column and each instance, and one for each
+// access.
 fn most_events(columns: &[Column], accesses: usize) -> usize {
     let mut most = accesses;
     for column in columns {
@@ -97,8 +96,9 @@ fn most_events(columns: &[Column], accesses: usize) -> usize {
     most
 }
 
-/// The events of a serial elision, told by its columns, of which there are at most 2^32, and its accesses: one iteration
-/// after the other, each stage entered as soon as it is named. Fails for want of memory alone.
+/// Returns the events of a serial elision, given its columns, of which there must be at most 2^32,
+/// and its accesses: one iteration after the other; each stage is entered as soon as it is named.
+/// Returns an error only if memory runs out.
 pub fn serial_events(
     alloc: Global,
     columns: &Columns,

@@ -1,4 +1,4 @@
-//! Ends before the end.
+//! Early ends of execution.
 
 ghost use Rattle.std.specs.Prelude.{◌≡◌};
 
@@ -6,12 +6,12 @@ use pipe_model::memory::NoMemory;
 use pipe_model::trap::Trap;
 use std::alloc::AllocFailed;
 
-/// Why a part of a program was left before its end.
+/// Why execution stopped early.
 #[derive(Drop)]
 pub enum Halt {
-    /// The language's own end of a step that cannot be made.
+    /// The end that the language defines for a step that cannot be executed.
     Trap(Trap),
-    /// Memory was refused.
+    /// Out of memory.
     NoMemory,
 }
 

@@ -32,7 +32,7 @@ impl Model for Locals {
 }
 
 impl Locals {
-    /// No locals.
+    /// Returns an empty list of locals.
     pub fn new(alloc: Global) -> Self
         ensures { result ≡ [] }
     {
@@ -41,7 +41,7 @@ impl Locals {
         }
     }
 
-    /// The value of the local of this name, where there is one.
+    /// Returns the value of the local of this name, if there is one.
     pub fn value(&self, name: &Name) -> Option<i64>
         ensures { result ≡ local_value self.now name.now }
     {
@@ -53,7 +53,7 @@ impl Locals {
         None
     }
 
-    /// Gives the local of this name a new value; where there is none, nothing changes.
+    /// Assigns to the local of this name. Without such a local nothing changes.
     pub fn assign(&mut self, name: &Name, value: i64)
         ensures { self.new ≡ updated_locals self.old name.now value }
     {
@@ -66,7 +66,7 @@ impl Locals {
         }
     }
 
-    /// Declares a local behind the others; where memory is refused nothing changes.
+    /// Appends a local. On `Err`, which is returned only if memory runs out, nothing changes.
     pub fn declare(&mut self, alloc: Global, name: &Name, value: i64) -> Result<(), NoMemory>
         ensures ok { OnOk result (self.new ≡ self.old ++ record { name = name.now; value = value } ∷ []) }
         ensures err { OnErr result (self.new ≡ self.old) }

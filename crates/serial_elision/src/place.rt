@@ -1,4 +1,4 @@
-//! Where a part of a program runs.
+//! Arguments that all parts of an iteration share.
 
 ghost use Rattle.std.specs.Prelude.{◌≤◌, All, length};
 ghost use Rattle.serial_elision.specs.Runnable.{IsPlainCell};

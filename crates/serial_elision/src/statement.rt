@@ -1,4 +1,4 @@
-//! What statements do.
+//! Execution of statements.
 
 ghost use Rattle.std.specs.Prelude.{◌≡◌, ◌+◌, ◌<◌, ◌≤◌, ◌++◌, ◌∷◌, [], length, All};
 ghost use Rattle.pipe_model.specs.Language.Evaluation as evaluation;
@@ -19,7 +19,7 @@ use pipe_model::trap::Trap;
 use pipe_model::tree::{Expr, StageKind, Stmt};
 use std::alloc::Global;
 
-// the step of a declaration, and its effect
+// Takes the step of a declaration, and declares the local.
 fn declare_in_step(
     alloc: Global,
     name: &Name,
@@ -37,7 +37,7 @@ fn declare_in_step(
     Ok(())
 }
 
-// the step of an assignment to a name, and its effect
+// Takes the step of an assignment to a name, and assigns.
 fn assign_in_step(
     place: &Place,
     name: &Name,
@@ -66,7 +66,7 @@ fn assign_in_step(
     }
 }
 
-// the step of an emit, and its effect
+// Takes the step of an emit, and emits.
 fn emit_in_step(place: &Place, value: i64, locals: &Locals, store: &mut Store) -> Result<(), Halt>
     requires basis { store.old.basis ≡ basis_of (tree_of place.now.program.now) }
     ensures meets { Leaves result
@@ -79,7 +79,7 @@ fn emit_in_step(place: &Place, value: i64, locals: &Locals, store: &mut Store) -
     store.emit(value)
 }
 
-// the step of a next stage with a number, and its effect
+// Takes the step of a stage statement with a number, and begins that stage.
 fn go_in_step(kind: StageKind, number: i64, locals: &Locals, store: &mut Store) -> Result<(), Halt>
     ensures meets { Leaves result
         (perform (Step (bind (evaluation.go_to_stage store.old.basis.stages kind (position_of store.old.nodes) number)
@@ -91,7 +91,7 @@ fn go_in_step(kind: StageKind, number: i64, locals: &Locals, store: &mut Store) 
     store.go_to_stage(kind, number)
 }
 
-// the step of a next stage without a number, and its effect
+// Takes the step of a stage statement without a number, and begins the next stage.
 fn go_next_in_step(kind: StageKind, locals: &Locals, store: &mut Store) -> Result<(), Halt>
     ensures meets { Leaves result
         (perform (Step (bind (evaluation.go_to_next_stage store.old.basis.stages kind (position_of store.old.nodes))
@@ -103,7 +103,7 @@ fn go_next_in_step(kind: StageKind, locals: &Locals, store: &mut Store) -> Resul
     store.go_to_next_stage(kind)
 }
 
-// a statement that names a next stage
+// Executes a statement that names a next stage.
 fn execute_stage(
     kind: StageKind,
     number: &Option<Expr>,
@@ -128,7 +128,7 @@ fn execute_stage(
     }
 }
 
-/// A statement of the first form.
+/// Executes a statement of the first form. Returns an error if it traps or memory runs out.
 pub fn execute(
     alloc: Global,
     s: &Stmt,
@@ -162,7 +162,8 @@ pub fn execute(
     }
 }
 
-/// Statements of the first form, one after the other.
+/// Executes statements of the first form in order. Returns an error if one traps or memory runs
+/// out.
 pub fn execute_all(
     alloc: Global,
     statements: &[Stmt],

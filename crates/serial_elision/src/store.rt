@@ -1,4 +1,4 @@
-//! What the elision keeps while it goes over the tree.
+//! The state of the elision at a point of the tree.
 
 ghost use Rattle.std.specs.Prelude.{◌≡◌, ◌≢◌, ◌<◌, ◌≤◌, ◌+◌, ◌-◌, ◌++◌, ◌∷◌, [], pos, length, IfOk, OnOk, OnErr};
 ghost use Rattle.pipe_model.specs.Language.Evaluation as evaluation;
@@ -22,15 +22,15 @@ use pipe_model::tree::StageKind;
 use std::alloc::Global;
 use std::marker::Model;
 
-/// The accesses so far with the values of the cells, and of the current iteration its number, its instances
-/// and the steps that are left.
+/// The accesses so far with the values of the cells, and of the current iteration its number, its
+/// instances and the remaining steps.
 #[derive(Drop)]
 pub struct Store {
     initial_values: Vec<i64>,
     output_limit: u32,
     stages: u32,
     budget: u32,
-    // what was written last to each cell, at first its declared value
+    // The value that was last written to each cell, or its declared value.
     values: Vec<i64>,
     emitted: u32,
     accesses: Vec<NodeAccess>,
@@ -58,7 +58,8 @@ impl Model for Store {
 }
 
 impl Store {
-    /// The state before the first iteration of a loop with these declared values and limits.
+    /// Returns the state before the first iteration of a loop with these initial values and limits.
+    /// Returns an error only if memory runs out.
     pub fn new(
         alloc: Global,
         initial_values: Vec<i64>,
@@ -95,7 +96,8 @@ impl Store {
         })
     }
 
-    /// Takes one of the steps that are left to the instance, or traps.
+    /// Takes one of the remaining steps of the instance. Returns the trap `Budget` if there is
+    /// none.
     pub fn take_step(&mut self) -> Result<(), Halt>
         ensures meets { Meets result (perform (Step (Return tt)) self.old) self.new }
         ensures basis { self.new.basis ≡ self.old.basis }
@@ -108,7 +110,7 @@ impl Store {
         Ok(())
     }
 
-    // the current instance
+    // The current instance.
     fn here(&self) -> NodeId
         ensures { result ≡ at self.now.iteration (length self.now.nodes - 1) }
     {
@@ -118,7 +120,7 @@ impl Store {
         }
     }
 
-    // an access of the current instance
+    // An access by the current instance.
     fn made_here(&self, cell: u32, kind: AccessKind, value: i64) -> NodeAccess
         ensures { result ≡ record {
           node = at self.now.iteration (length self.now.nodes - 1);
@@ -135,7 +137,8 @@ impl Store {
         }
     }
 
-    /// Reads a cell other than the output; where memory is refused nothing changes.
+    /// Reads a cell other than the output. On `Err`, which is returned only if memory runs out,
+    /// nothing changes.
     pub fn read(&mut self, cell: u32) -> Result<i64, NoMemory>
         requires there { cell < length self.old.basis.store.values }
         requires no_output { cell ≢ 1 }
@@ -149,7 +152,8 @@ impl Store {
         Ok(value)
     }
 
-    /// Writes a cell other than the output; where memory is refused nothing changes.
+    /// Writes a cell other than the output. On `Err`, which is returned only if memory runs out,
+    /// nothing changes.
     pub fn write(&mut self, cell: u32, value: i64) -> Result<(), NoMemory>
         requires there { cell < length self.old.basis.store.values }
         requires no_output { cell ≢ 1 }
@@ -162,7 +166,8 @@ impl Store {
         Ok(())
     }
 
-    /// Reads how many numbers were emitted, and emits one more where the limit allows it.
+    /// Reads how many numbers were emitted, and emits another if the limit allows it. Returns an
+    /// error if the limit is reached or memory runs out.
     pub fn emit(&mut self, value: i64) -> Result<(), Halt>
         requires there { 1 < length self.old.basis.store.values }
         ensures meets { Meets result (perform (evaluation.emit self.old.basis.store.output_limit value) self.old) self.new }
@@ -182,14 +187,16 @@ impl Store {
         Ok(())
     }
 
-    /// The number of the stage in which the current instance is.
+    /// Returns the stage number of the current instance.
     pub fn stage_number(&self) -> i64
         ensures { result ≡ (position_of self.now.nodes).number }
     {
         self.nodes[self.nodes.len() - 1].number
     }
 
-    /// Ends the current instance and begins the next, in the stage of this number, with steps of its own.
+    /// Ends the current instance and begins the next one, in the stage of this number, with its own
+    /// budget of steps. Returns an error if the number is not above the current one, if the
+    /// iteration has as many instances as the limit allows, or if memory runs out.
     pub fn go_to_stage(&mut self, kind: StageKind, number: i64) -> Result<(), Halt>
         ensures meets { Leaves result
             (perform (evaluation.go_to_stage self.old.basis.stages kind (position_of self.old.nodes) number) self.old)
@@ -210,7 +217,8 @@ impl Store {
         Ok(())
     }
 
-    /// The same for the stage after the current one.
+    /// The same for the stage after the current one. Returns the trap `Overflow` if its number is
+    /// no `i64`.
     pub fn go_to_next_stage(&mut self, kind: StageKind) -> Result<(), Halt>
         ensures meets { Leaves result
             (perform (evaluation.go_to_next_stage self.old.basis.stages kind (position_of self.old.nodes)) self.old)
@@ -223,7 +231,7 @@ impl Store {
         }
     }
 
-    /// Begins an iteration, in its first instance.
+    /// Begins an iteration with its first instance.
     pub fn begin(&mut self, iteration: u32)
         ensures { self.new
             ≡ record self.old { iteration = iteration; nodes = first_node ∷ []; left = self.old.basis.budget } }
@@ -233,14 +241,14 @@ impl Store {
         self.left = self.budget;
     }
 
-    /// The instances of the iteration, in order.
+    /// Returns the instances of the iteration in order. Returns an error only if memory runs out.
     pub fn nodes(&self, alloc: Global) -> Result<Nodes, NoMemory>
         ensures { IfOk result (λ nodes. nodes ≡ self.now.nodes) }
     {
         Ok(ListOf::from_vec(Vec::from_slice(alloc, self.nodes.as_slice())?))
     }
 
-    /// The trap of the iteration, where it ended by one: its place is the last instance.
+    /// Returns the trap of the iteration, in its last instance, if it ended with a trap.
     pub fn trap(&self, end: ColumnEnd) -> Option<TrapAt>
         ensures { result ≡ trap_in self.now.iteration self.now.nodes end }
     {
@@ -253,7 +261,7 @@ impl Store {
         })
     }
 
-    /// Whether the iteration, ended so, closes the loop.
+    /// Returns whether the iteration closes the loop if this is its end.
     pub fn closes_loop(&self, end: ColumnEnd) -> bool
         ensures { result ≡ is_last self.now.nodes end }
     {
@@ -263,7 +271,7 @@ impl Store {
         }
     }
 
-    /// What was emitted.
+    /// Returns the emitted numbers. Returns an error only if memory runs out.
     pub fn output(&self, alloc: Global) -> Result<Numbers, NoMemory>
         ensures { IfOk result
             (λ output. output ≡ output_of self.now.basis.store
@@ -272,7 +280,7 @@ impl Store {
         emitted_by(alloc, self.accesses.as_slice())
     }
 
-    /// The accesses, in the order in which they were made.
+    /// Returns the accesses, in the order in which they were made.
     pub fn into_accesses(self) -> NodeAccesses
         ensures { result ≡ self.accesses }
     {
@@ -280,7 +288,7 @@ impl Store {
     }
 }
 
-// what the access writes to the cell of the output, behind what was written before
+// Appends the value of the access if it writes the output.
 fn push_emitted(access: Access, output: &mut Numbers) -> Result<(), NoMemory>
     ensures { OnOk result (output.new ≡ output.old ++ wrote 1 access) }
 {
@@ -296,7 +304,7 @@ fn push_emitted(access: Access, output: &mut Numbers) -> Result<(), NoMemory>
     }
 }
 
-// the values written to the cell of the output
+// The values that were written to the output.
 #[tactic(auto, using(crate::proofs::Cells::written_more))]
 fn emitted_by(alloc: Global, accesses: &[NodeAccess]) -> Result<Numbers, NoMemory>
     ensures { IfOk result (λ output. output ≡ written 1 (accesses_of accesses.now)) }

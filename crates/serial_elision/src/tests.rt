@@ -1,5 +1,5 @@
-//! Worked programs, with their values by hand from the costs: each expression that is evaluated takes one step,
-//! each statement one, and the loop's test one.
+//! Worked programs. Their values are computed by hand from the costs: one step for each expression
+//! that is evaluated, for each statement, and for the test of the loop.
 
 ghost use Rattle.std.specs.Prelude.{◌≡◌, ◌≤◌, ◌≤ℤ◌, ◌∷◌, [], pos, All, IfOk, None, length};
 ghost use Rattle.pipe_model.specs.Language.CheckingRules.{first_limit_out};
@@ -19,7 +19,7 @@ use std::alloc::Global;
 use std::process::Abort;
 use std::test::Fail;
 
-// each program has a cell `n`, at first 0, and a cell `m`, at first the greatest number
+// Each program has a cell `n`, at first 0, and a cell `m`, at first the greatest number.
 const N: u8 = b'n';
 
 const M: u8 = b'm';
@@ -52,14 +52,14 @@ fn sum(alloc: Global, a: Expr, b: Expr) -> Result<Expr, NoMemory>
     Ok(Expr::Binary(9, Box::new(alloc, a)?, Box::new(alloc, b)?))
 }
 
-// n < limit, in 3 steps
+// `n < limit`, in 3 steps.
 fn n_below(alloc: Global, limit: i64) -> Result<Expr, NoMemory>
     ensures { IfOk result (λ e. IsRunnableExpression (expression_of e)) }
 {
     less(alloc, value(alloc, N)?, Expr::Number(limit))
 }
 
-// letter = letter + 1, in 4 steps
+// `letter = letter + 1`, in 4 steps.
 fn count(alloc: Global, letter: u8) -> Result<Stmt, NoMemory>
     ensures { IfOk result (λ s. AreRunnable (statements_of (s ∷ []))) }
 {
@@ -111,7 +111,8 @@ fn program(alloc: Global, limits: Limits, test: Expr, body: Vec<Stmt>) -> Result
     })
 }
 
-// what a program must come to: its output, its trap, and of each column the number of instances and the end
+// Checks the output and the trap of a program, and the number of instances and the end of each
+// column.
 fn check(
     rt: &impl Abort,
     alloc: Global,
@@ -145,7 +146,7 @@ const END: ColumnEnd = ColumnEnd::End;
 
 const CLOSED: ColumnEnd = ColumnEnd::Closed;
 
-// a loop that closes at once needs 2 steps
+// A loop that closes at once needs 2 steps.
 fn closes(rt: &impl Abort, alloc: Global) -> Result<(), NoMemory> {
     let whole = program(alloc, limits(1, 1, 2, 0), Expr::Number(0), Vec::new(alloc))?;
     check(rt, alloc, "closed", &whole, &[], None, &[(1, CLOSED)])?;
@@ -156,7 +157,7 @@ fn closes(rt: &impl Abort, alloc: Global) -> Result<(), NoMemory> {
     Ok(())
 }
 
-// n = n + 1; emit n;
+// `n = n + 1; emit n;`
 fn emit_count(alloc: Global) -> Result<Vec<Stmt>, NoMemory>
     ensures { IfOk result (λ body. AreRunnable (statements_of body.items)) }
 {
@@ -164,7 +165,7 @@ fn emit_count(alloc: Global) -> Result<Vec<Stmt>, NoMemory>
     Ok(vec![in alloc; add, Stmt::Emit(value(alloc, N)?)]?)
 }
 
-// n + 1 is emitted while n is below a limit, in 10 steps an iteration
+// Emits n + 1 while n is below a limit, in 10 steps an iteration.
 fn counts(rt: &impl Abort, alloc: Global) -> Result<(), NoMemory> {
     let two = program(
         alloc,
@@ -187,7 +188,7 @@ fn counts(rt: &impl Abort, alloc: Global) -> Result<(), NoMemory> {
     Ok(())
 }
 
-// an emit too many, and a sum past the greatest number
+// One emit too many, and a sum past the greatest number.
 fn trapped(rt: &impl Abort, alloc: Global) -> Result<(), NoMemory> {
     let few = program(
         alloc,
@@ -206,7 +207,7 @@ fn trapped(rt: &impl Abort, alloc: Global) -> Result<(), NoMemory> {
     Ok(())
 }
 
-// the accesses of `two`: 6 in each iteration that runs the body, and the test's last read
+// The accesses of `two`: 6 in each iteration that runs the body, and the last read of the test.
 fn accesses(rt: &impl Abort, run: &SerialRun) {
     let made = |iteration, cell, kind, value| NodeAccess {
         node: NodeId {
@@ -237,7 +238,7 @@ fn accesses(rt: &impl Abort, run: &SerialRun) {
     assert_eq!(rt; run.accesses.as_slice(), wanted.as_slice());
 }
 
-// n = n + 1; and two statements
+// `n = n + 1;` and two statements.
 fn count_and(alloc: Global, second: Stmt, third: Stmt) -> Result<Vec<Stmt>, NoMemory>
     requires second { AreRunnable (statements_of (second ∷ [])) }
     requires third { AreRunnable (statements_of (third ∷ [])) }
@@ -247,7 +248,7 @@ fn count_and(alloc: Global, second: Stmt, third: Stmt) -> Result<Vec<Stmt>, NoMe
     Ok(vec![in alloc; add, second, third]?)
 }
 
-// traps in a stage other than 0 end their iteration alone, and each instance has its own steps
+// Traps in a stage other than 0 end only their iteration, and each instance has its own steps.
 fn stages(rt: &impl Abort, alloc: Global) -> Result<(), NoMemory> {
     let one = || Stmt::Wait(Some(Expr::Number(1)));
     let body = count_and(alloc, one(), one())?;
@@ -288,7 +289,8 @@ fn stages(rt: &impl Abort, alloc: Global) -> Result<(), NoMemory> {
     Ok(())
 }
 
-// pipe_continue(greatest); let x = m + (n < 2); emit x; where the last stage is named by its number
+// `pipe_continue(greatest); let x = m + (n < 2); emit x;`, with an explicit number for the last
+// stage.
 fn later_traps(rt: &impl Abort, alloc: Global) -> Result<(), NoMemory> {
     let last = Stmt::Continue(Some(Expr::Number(i64::MAX)));
     let local = Stmt::Let(

@@ -1,4 +1,4 @@
-//! The value of an expression.
+//! Evaluation of expressions.
 
 ghost use Rattle.std.specs.Prelude.{◌≡◌, ◌≢◌, ◌+◌, ◌<◌, ◌≤◌, length, All, IfSome};
 ghost use Rattle.pipe_model.specs.Language.Evaluation as evaluation;
@@ -19,7 +19,8 @@ use pipe_model::tree::{Declaration, Expr};
 
 const LESS: u8 = 5;
 
-/// The cell of this name, where there is one; the declared cells are plain ones, which follow from 2 in order.
+/// Returns the cell of this name, if there is one. The declared cells are plain and have the
+/// numbers from 2 on, in order.
 #[tactic(auto, using(crate::proofs::Ranges::range_step))]
 pub fn cell_of(cells: &[Declaration], name: &Name) -> Option<u32>
     requires plain { All IsPlainCell cells.now }
@@ -38,7 +39,7 @@ pub fn cell_of(cells: &[Declaration], name: &Name) -> Option<u32>
     None
 }
 
-// what an operator makes of its operands
+// Applies `<` or `+`.
 fn operate(code: u8, a: i64, b: i64) -> Result<i64, Trap>
     requires { IsRunnableOperator code }
     ensures { IsOperated result (evaluation.operate code a b) }
@@ -49,7 +50,7 @@ fn operate(code: u8, a: i64, b: i64) -> Result<i64, Trap>
     a.checked_add(b).ok_or(Trap::Overflow)
 }
 
-// the step of an operator, and its effect
+// Takes the step of an operator, and applies it.
 fn operate_in_step(code: u8, a: i64, b: i64, store: &mut Store) -> Result<i64, Halt>
     requires { IsRunnableOperator code }
     ensures meets { Meets result (perform (Step (evaluation.operate code a b)) store.old) store.new }
@@ -60,7 +61,7 @@ fn operate_in_step(code: u8, a: i64, b: i64, store: &mut Store) -> Result<i64, H
     operate(code, a, b).map_err(Halt::Trap)
 }
 
-// the step of a name, and its effect
+// Takes the step of a name, and reads the local or the cell.
 fn name_in_step(place: &Place, name: &Name, locals: &Locals, store: &mut Store) -> Result<i64, Halt>
     requires basis { store.old.basis ≡ basis_of (tree_of place.now.program.now) }
     ensures meets { Meets result
@@ -79,7 +80,7 @@ fn name_in_step(place: &Place, name: &Name, locals: &Locals, store: &mut Store) 
     }
 }
 
-/// The value of an expression of the first form.
+/// Evaluates an expression of the first form. Returns an error if it traps or memory runs out.
 pub fn value(e: &Expr, place: &Place, locals: &Locals, store: &mut Store) -> Result<i64, Halt>
     requires runnable { IsRunnableExpression (expression_of e.now) }
     requires basis { store.old.basis ≡ basis_of (tree_of place.now.program.now) }
