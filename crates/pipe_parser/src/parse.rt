@@ -127,7 +127,10 @@ fn placed(source: &[u8], tokens: &[Token], all: usize, fault: SyntaxFault) -> Pa
 fn is_mark(kind: TokenKind) -> bool
     ensures { result ≡ is_mark kind }
 {
-    matches!(kind, TokenKind::Name | TokenKind::Word(PIPE_WAIT | PIPE_CONTINUE | ITER))
+    matches!(
+        kind,
+        TokenKind::Name | TokenKind::Word(PIPE_WAIT | PIPE_CONTINUE | ITER)
+    )
 }
 
 /// The places of the marks.
