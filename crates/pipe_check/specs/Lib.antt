@@ -2,5 +2,4 @@ pub mod Passing
 pub mod CellTables
 pub mod Accepted
 pub mod RuleLaws
-pub mod Samples
 pub mod CheckingExamples
