@@ -95,15 +95,6 @@ impl<'a> Case<'a> {
         }
         Ok(())
     }
-
-    // Fails the test where the source is not refused for its text or its tokens.
-    pub fn check_refused(self, alloc: Global, name: &str) -> Result<(), Fail> {
-        let (ended, taken) = self.run(alloc)?;
-        if ended.status != 1 || !taken.as_slice().starts_with(b"refused source ") {
-            return Err(Fail::new(format_args!("{name}: status {}", ended.status)));
-        }
-        Ok(())
-    }
 }
 
 // A call with what it is made of.

@@ -9,8 +9,6 @@ pub mod fault_count;
 pub mod fault_plan;
 pub mod files;
 pub mod first_form;
-#[cfg(test)]
-mod format_tests;
 pub mod gate;
 pub mod law;
 pub mod load;

@@ -1,4 +1,4 @@
-// The worked rows of the top call, over files and sinks in memory: each with its status and the bytes that were taken.
+// Rows of the top call, over files and sinks in memory: each with its status and the bytes that were written.
 
 use crate::cases::{Case, source};
 use pipe_model::access::{Access, AccessKind, CellId};
@@ -6,6 +6,7 @@ use pipe_model::column::ColumnEnd;
 use pipe_model::event::Event;
 use pipe_model::memory::NoMemory;
 use pipe_model::node::Kind;
+use pipe_model::trap::Trap;
 use std::alloc::Global;
 use std::test::Fail;
 
@@ -29,7 +30,7 @@ const RACING_LINES: &str = "race output write 0/1 read 1/1\nrace s write 0/1 rea
 // Limits, the rest of a source, the status and the text of its call.
 type Row = ([u32; 4], &'static str, u8, &'static str);
 
-// Sixty-four locals are the most.
+// A loop with n locals.
 fn many_locals(alloc: Global, count: usize) -> Result<String, NoMemory> {
     let mut body = String::from_str(alloc, "pipe_while (0) {")?;
     for k in 0..count {
@@ -39,8 +40,8 @@ fn many_locals(alloc: Global, count: usize) -> Result<String, NoMemory> {
     Ok(body)
 }
 
-// Programs of one stage.
-const PROGRAMS: [Row; 18] = [
+// Programs that run.
+const PROGRAMS: [Row; 39] = [
     ([1, 1, 2, 0], "pipe_while (0) { }", 0, ""),
     (
         [1, 1, 1, 0],
@@ -94,121 +95,7 @@ const PROGRAMS: [Row; 18] = [
         3,
         "trap Overflow at 0/0\n",
     ),
-];
-
-// Programs that run, and each proper front of them, which is none.
-fn runs(alloc: Global) -> Result<(), Fail> {
-    for (limits, rest, status, text) in PROGRAMS {
-        let source = source(alloc, limits, rest)?;
-        let source = source.as_bytes();
-        Case::of(source).check(alloc, rest, status, text)?;
-        for end in 0..source.len() {
-            Case::of(&source[..end]).check_refused(alloc, rest)?;
-        }
-    }
-    let most = source(alloc, [1, 1, 2, 0], &many_locals(alloc, 64)?)?;
-    Case::of(most.as_bytes()).check(alloc, "64 locals", 0, "")?;
-    Ok(())
-}
-
-// Programs that are accepted and are not of the first form, or only by a comment.
-fn forms(alloc: Global) -> Result<(), Fail> {
-    let rows = [
-        "pipe_while ((0)) { }",
-        "cell n = 1; pipe_while (n - 1) { }",
-        "cell n[2] = 0; pipe_while (0) { }",
-        "init { } pipe_while (0) { }",
-        "pipe_while (0) { } final { }",
-        "pipe_while (iter()) { }",
-        "pipe_while (0) { emit take(); }",
-        "pipe_while (0) { emit -1; }",
-        "pipe_while (0) { emit 1 && 0; }",
-        "pipe_while (0) { if (1) { } }",
-        "pipe_while (0) { while (0) { } }",
-        "pipe_while (0) { pipe_wait((1)); }",
-        "cell n[2] = 0; pipe_while (0) { n[0] = 1; }",
-    ];
-    for rest in rows {
-        let source = source(alloc, [1, 1, 2, 0], rest)?;
-        Case::of(source.as_bytes()).check(alloc, rest, 1, "refused source NotYetBuilt\n")?;
-    }
-    let comment = source(alloc, [1, 1, 2, 0], "pipe_while (0) { } // a comment")?;
-    Case::of(comment.as_bytes()).check(alloc, "a comment", 0, "")
-}
-
-// Other words, files that are missing, and an input that is not empty, in the order of the refusals.
-fn calls_refused(alloc: Global) -> Result<(), Fail> {
-    let good = Case::of(COUNT_TO_TWO.as_bytes());
-    let rows: [(&[&str], &str); 14] = [
-        (&[], "refused usage\n"),
-        (&["run"], "refused usage\n"),
-        (&["run", "a.pipe"], "refused usage\n"),
-        (&["run", "a.pipe", "a.in", "4"], "refused usage\n"),
-        (&["runs", "a.pipe", "a.in"], "refused usage\n"),
-        (&["format", "a.pipe", "a.in"], "refused usage\n"),
-        (&["format"], "refused usage\n"),
-        (&["formats", "a.pipe"], "refused usage\n"),
-        (&["format", "b.pipe"], "refused missing b.pipe\n"),
-        (&["format", "a.in"], "refused source Unexpected at 0\n"),
-        (&["run", "b.pipe", "b.in"], "refused missing b.pipe\n"),
-        (&["run", "a.pipe", "b.in"], "refused missing b.in\n"),
-        (&["run", "a.in", "b.in"], "refused source Unexpected at 0\n"),
-        (&["run", "a.pipe", "a.pipe"], "refused input NotYetBuilt\n"),
-    ];
-    for (words, text) in rows {
-        Case { words, ..good }.check(alloc, text, 1, text)?;
-    }
-    Case {
-        input: b" ",
-        ..good
-    }
-    .check(alloc, "a blank", 1, "refused input NotYetBuilt\n")?;
-    Ok(())
-}
-
-// Each read in turn fails, and then each write.
-fn faults(alloc: Global) -> Result<(), Fail> {
-    let good = Case::of(COUNT_TO_TWO.as_bytes());
-    // The last read of a file finds its end.
-    let source_reads = COUNT_TO_TWO.len().div_ceil(7) as u32 + 1;
-    for k in 0..source_reads + 2 {
-        let (status, text) = if k < source_reads {
-            (4, "fault read a.pipe\n")
-        } else if k == source_reads {
-            (4, "fault read a.in\n")
-        } else {
-            (0, "1\n2\n")
-        };
-        Case {
-            read_fails: Some(k),
-            ..good
-        }
-        .check(alloc, "a read fails", status, text)?;
-    }
-    let rows = [(0, 5, ""), (1, 5, "1\n"), (2, 0, "1\n2\n")];
-    for (k, status, taken) in rows {
-        Case {
-            write_fails: Some(k),
-            ..good
-        }
-        .check(alloc, "a write fails", status, taken)?;
-    }
-    Case {
-        read_fails: Some(1),
-        ..Case::format(COUNT_TO_TWO.as_bytes())
-    }
-    .check(alloc, "a read fails", 4, "fault read a.pipe\n")?;
-    let both = Case {
-        read_fails: Some(0),
-        write_fails: Some(1),
-        ..good
-    };
-    both.check(alloc, "a read and a write fail", 5, "fa")?;
-    Ok(())
-}
-
-// Pipelines: their output and trap, or their race lines.
-const PIPELINES: [Row; 17] = [
+    // Pipelines: their output and trap, or their race lines.
     // A last stage in order of the iterations.
     ([8, 4, 100, 8], PREFIX_SUMS, 0, "1\n3\n6\n"),
     // Without the wait both what is summed and the output race.
@@ -313,42 +200,229 @@ const PIPELINES: [Row; 17] = [
         2,
         "race s write 0/1 read 1/1\n",
     ),
+    // Each instance has steps of its own: the first takes 9, and the second 2.
+    (
+        [1, 2, 9, 1],
+        "cell n = 0; pipe_while (n < 1) { n = n + 1; pipe_wait(); emit n; }",
+        0,
+        "1\n",
+    ),
+    (
+        [1, 2, 8, 1],
+        "cell n = 0; pipe_while (n < 1) { n = n + 1; pipe_wait(); emit n; }",
+        3,
+        "trap Budget at 0/0\n",
+    ),
+    // A stage without a number has the next one after a continue too.
+    (
+        [2, 2, 9, 0],
+        "cell n = 0; pipe_while (n < 1) { n = n + 1; pipe_continue(); pipe_wait(); }",
+        3,
+        "trap StageLimit at 0/1\n",
+    ),
+    // The greatest stage number can be named.
+    (
+        [2, 2, 50, 1],
+        "cell n = 0; pipe_while (n < 2) { n = n + 1; let t = n; pipe_continue(9223372036854775807); let x = 9223372036854775806 + t; emit x; }",
+        3,
+        "9223372036854775807\ntrap Overflow at 1/9223372036854775807\n",
+    ),
 ];
 
-fn pipelines(alloc: Global) -> Result<(), Fail> {
-    for (limits, rest, status, text) in PIPELINES {
+// The rows, and a program with the most locals.
+fn runs(alloc: Global) -> Result<(), Fail> {
+    for (limits, rest, status, text) in PROGRAMS {
         let source = source(alloc, limits, rest)?;
         Case::of(source.as_bytes()).check(alloc, rest, status, text)?;
+    }
+    let most = source(alloc, [1, 1, 2, 0], &many_locals(alloc, 64)?)?;
+    Case::of(most.as_bytes()).check(alloc, "64 locals", 0, "")
+}
+
+// Programs that break no rule and cannot run yet, and one that runs, with a comment.
+fn forms(alloc: Global) -> Result<(), Fail> {
+    let rows = [
+        "pipe_while ((0)) { }",
+        "cell n = 1; pipe_while (n - 1) { }",
+        "cell n[2] = 0; pipe_while (0) { }",
+        "init { } pipe_while (0) { }",
+        "pipe_while (0) { } final { }",
+        "pipe_while (iter()) { }",
+        "pipe_while (0) { emit take(); }",
+        "pipe_while (0) { emit -1; }",
+        "pipe_while (0) { emit 1 && 0; }",
+        "pipe_while (0) { if (1) { } }",
+        "pipe_while (0) { while (0) { } }",
+        "pipe_while (0) { pipe_wait((1)); }",
+        "cell n[2] = 0; pipe_while (0) { n[0] = 1; }",
+    ];
+    for rest in rows {
+        let source = source(alloc, [1, 1, 2, 0], rest)?;
+        Case::of(source.as_bytes()).check(alloc, rest, 1, "refused source NotYetBuilt\n")?;
+    }
+    let comment = source(alloc, [1, 1, 2, 0], "pipe_while (0) { } // a comment")?;
+    Case::of(comment.as_bytes()).check(alloc, "a comment", 0, "")
+}
+
+const SUMS_TEXT: &str =
+    "limits iterations 8, stages 4, steps 100, emits 8;\ncell n = 0;\ncell s = 0;\npipe_while (n < 3) {\n  n = n + 1;\n  let t = n;\n  pipe_wait(1);\n  s = s + t;\n  emit s;\n}\n";
+
+const ARRAY: &str =
+    "limits iterations 1, stages 1, steps 1, emits 1; cell d[2]=-7; init{d[0]=1;} pipe_while (d[1]) { if (1) { } else { emit -(2*(d[0]+1)); } } // end";
+
+const ARRAY_TEXT: &str =
+    "limits iterations 1, stages 1, steps 1, emits 1;\ncell d[2] = -7;\ninit {\n  d[0] = 1;\n}\npipe_while (d[1]) {\n  if (1) {\n  } else {\n    emit -(2 * (d[0] + 1));\n  }\n}\n";
+
+// Programs of the first form and others are printed, and a text is printed as it is.
+fn formats(alloc: Global) -> Result<(), Fail> {
+    let sums = source(alloc, [8, 4, 100, 8], PREFIX_SUMS)?;
+    for (source, text) in [
+        (sums.as_str(), SUMS_TEXT),
+        (ARRAY, ARRAY_TEXT),
+        (ARRAY_TEXT, ARRAY_TEXT),
+    ] {
+        Case::format(source.as_bytes()).check(alloc, source, 0, text)?;
     }
     Ok(())
 }
 
-// The events of a small pipeline, in the order in which they happen.
-fn events(alloc: Global) -> Result<(), Fail> {
-    let rest = "cell n = 0; pipe_while (n < 1) { n = 1; pipe_wait(1); emit n; }";
-    let source = source(alloc, [1, 2, 50, 1], rest)?;
+// Other words, files that are missing, and an input that is not empty, in the order of the refusals.
+fn calls_refused(alloc: Global) -> Result<(), Fail> {
+    let good = Case::of(COUNT_TO_TWO.as_bytes());
+    let rows: [(&[&str], &str); 14] = [
+        (&[], "refused usage\n"),
+        (&["run"], "refused usage\n"),
+        (&["run", "a.pipe"], "refused usage\n"),
+        (&["run", "a.pipe", "a.in", "4"], "refused usage\n"),
+        (&["runs", "a.pipe", "a.in"], "refused usage\n"),
+        (&["format", "a.pipe", "a.in"], "refused usage\n"),
+        (&["format"], "refused usage\n"),
+        (&["formats", "a.pipe"], "refused usage\n"),
+        (&["format", "b.pipe"], "refused missing b.pipe\n"),
+        (&["format", "a.in"], "refused source Unexpected at 0\n"),
+        (&["run", "b.pipe", "b.in"], "refused missing b.pipe\n"),
+        (&["run", "a.pipe", "b.in"], "refused missing b.in\n"),
+        (&["run", "a.in", "b.in"], "refused source Unexpected at 0\n"),
+        (&["run", "a.pipe", "a.pipe"], "refused input NotYetBuilt\n"),
+    ];
+    for (words, text) in rows {
+        Case { words, ..good }.check(alloc, text, 1, text)?;
+    }
+    Case {
+        input: b" ",
+        ..good
+    }
+    .check(alloc, "a blank", 1, "refused input NotYetBuilt\n")?;
+    Ok(())
+}
+
+// Each read in turn fails, and then each write.
+fn faults(alloc: Global) -> Result<(), Fail> {
+    let good = Case::of(COUNT_TO_TWO.as_bytes());
+    // The last read of a file finds its end.
+    let source_reads = COUNT_TO_TWO.len().div_ceil(7) as u32 + 1;
+    for k in 0..source_reads + 2 {
+        let (status, text) = if k < source_reads {
+            (4, "fault read a.pipe\n")
+        } else if k == source_reads {
+            (4, "fault read a.in\n")
+        } else {
+            (0, "1\n2\n")
+        };
+        Case {
+            read_fails: Some(k),
+            ..good
+        }
+        .check(alloc, "a read fails", status, text)?;
+    }
+    let rows = [(0, 5, ""), (1, 5, "1\n"), (2, 0, "1\n2\n")];
+    for (k, status, taken) in rows {
+        Case {
+            write_fails: Some(k),
+            ..good
+        }
+        .check(alloc, "a write fails", status, taken)?;
+    }
+    Case {
+        read_fails: Some(1),
+        ..Case::format(COUNT_TO_TWO.as_bytes())
+    }
+    .check(alloc, "a read fails", 4, "fault read a.pipe\n")?;
+    Case {
+        words: &["run", "b.pipe", "a.in"],
+        read_fails: Some(0),
+        ..good
+    }
+    .check(
+        alloc,
+        "a read of a missing file fails",
+        4,
+        "fault read b.pipe\n",
+    )?;
+    let both = Case {
+        read_fails: Some(0),
+        write_fails: Some(1),
+        ..good
+    };
+    both.check(alloc, "a read and a write fail", 5, "fa")?;
+    Ok(())
+}
+
+// Fails the test unless these are the events of the program's run, and its columns are as many.
+fn expect_events(
+    alloc: Global,
+    limits: [u32; 4],
+    rest: &str,
+    expected: &[Event],
+) -> Result<(), Fail> {
+    let source = source(alloc, limits, rest)?;
     let (ended, _) = Case::of(source.as_bytes()).run(alloc)?;
     let Some(log) = &ended.run_log else {
-        return Err(Fail::new(format_args!("there is no run log")));
+        return Err(Fail::new(format_args!("{rest}: no run log")));
     };
-    let expected = [
-        Event::Begin(0),
-        Event::Access(0, access(2, AccessKind::Read, 0)),
-        Event::Access(0, access(2, AccessKind::Write, 1)),
-        Event::Advance(0, Kind::Wait, 1),
-        Event::Enter(0),
-        Event::Access(0, access(2, AccessKind::Read, 1)),
-        Event::Access(0, access(1, AccessKind::Read, 0)),
-        Event::Access(0, access(1, AccessKind::Write, 1)),
-        Event::Finish(0, ColumnEnd::End),
-        Event::Begin(1),
-        Event::Access(1, access(2, AccessKind::Read, 1)),
-        Event::Finish(1, ColumnEnd::Closed),
-    ];
-    if log.events.as_slice() != expected.as_slice() || log.columns.len() != 2 {
-        return Err(Fail::new(format_args!("{} other events", log.events.len())));
+    if log.events.as_slice() != expected || log.columns.len() != 2 {
+        return Err(Fail::new(format_args!("{rest}: {} other events", log.events.len())));
     }
     Ok(())
+}
+
+// The events of a pipeline that finishes, and of one that traps in its second stage, in the order in which they happen.
+fn events(alloc: Global) -> Result<(), Fail> {
+    expect_events(
+        alloc,
+        [1, 2, 50, 1],
+        "cell n = 0; pipe_while (n < 1) { n = 1; pipe_wait(1); emit n; }",
+        &[
+            Event::Begin(0),
+            Event::Access(0, access(2, AccessKind::Read, 0)),
+            Event::Access(0, access(2, AccessKind::Write, 1)),
+            Event::Advance(0, Kind::Wait, 1),
+            Event::Enter(0),
+            Event::Access(0, access(2, AccessKind::Read, 1)),
+            Event::Access(0, access(1, AccessKind::Read, 0)),
+            Event::Access(0, access(1, AccessKind::Write, 1)),
+            Event::Finish(0, ColumnEnd::End),
+            Event::Begin(1),
+            Event::Access(1, access(2, AccessKind::Read, 1)),
+            Event::Finish(1, ColumnEnd::Closed),
+        ],
+    )?;
+    expect_events(
+        alloc,
+        [1, 3, 50, 1],
+        "cell n = 0; pipe_while (n < 1) { n = 1; pipe_wait(1); pipe_wait(1); }",
+        &[
+            Event::Begin(0),
+            Event::Access(0, access(2, AccessKind::Read, 0)),
+            Event::Access(0, access(2, AccessKind::Write, 1)),
+            Event::Advance(0, Kind::Wait, 1),
+            Event::Enter(0),
+            Event::Finish(0, ColumnEnd::Trapped(Trap::StageOrder)),
+            Event::Begin(1),
+            Event::Access(1, access(2, AccessKind::Read, 1)),
+            Event::Finish(1, ColumnEnd::Closed),
+        ],
+    )
 }
 
 fn access(cell: u32, kind: AccessKind, value: i64) -> Access {
@@ -359,38 +433,38 @@ fn access(cell: u32, kind: AccessKind, value: i64) -> Access {
     }
 }
 
-// Where memory is refused to the call it says so, and a front of its text was taken; else all is as ever. What is refused
-// before the call says nothing.
-fn front_or_all(alloc: Global, rest: &str, status: u8, text: &str) -> Result<(), Fail> {
+// Fails the test unless the call ends as usual, or is out of memory after a prefix of its text. Out of memory before the call
+// is no failure.
+fn prefix_or_all(alloc: Global, rest: &str, status: u8, text: &str) -> Result<(), Fail> {
     let Ok(source) = source(alloc, [8, 4, 100, 8], rest) else {
         return Ok(());
     };
     let Ok(mut call) = Case::of(source.as_bytes()).set_up(alloc) else {
         return Ok(());
     };
-    let as_ever = match call.make(alloc) {
+    let as_usual = match call.make(alloc) {
         Ok(ended) => ended.status == status && call.sink.taken().as_slice() == text.as_bytes(),
         Err(NoMemory) => text.as_bytes().starts_with(call.sink.taken().as_slice()),
     };
-    if !as_ever {
-        return Err(Fail::new(format_args!("{rest}: another answer")));
+    if !as_usual {
+        return Err(Fail::new(format_args!("{rest}: another result")));
     }
     Ok(())
 }
 
-// Two calls for `bench/refused_memory`, which refuses one allocation after the other.
+// Two calls for `bench/refused_memory`, which makes one allocation after the other fail.
 #[test]
-fn memory_may_be_refused(rt: HostRuntime) -> Result<(), Fail> {
-    front_or_all(rt.alloc(), PREFIX_SUMS, 0, "1\n3\n6\n")?;
-    front_or_all(rt.alloc(), RACING_SUMS, 2, RACING_LINES)
+fn an_allocation_may_fail(rt: HostRuntime) -> Result<(), Fail> {
+    prefix_or_all(rt.alloc(), PREFIX_SUMS, 0, "1\n3\n6\n")?;
+    prefix_or_all(rt.alloc(), RACING_SUMS, 2, RACING_LINES)
 }
 
 #[test]
 fn rows_of_the_call(rt: HostRuntime) -> Result<(), Fail> {
     runs(rt.alloc())?;
-    pipelines(rt.alloc())?;
     events(rt.alloc())?;
     forms(rt.alloc())?;
+    formats(rt.alloc())?;
     calls_refused(rt.alloc())?;
     faults(rt.alloc())
 }

@@ -7,5 +7,3 @@ mod fronts;
 mod jumps;
 mod landing;
 pub mod races;
-#[cfg(test)]
-mod tests;

@@ -4,5 +4,3 @@
 pub mod operators;
 pub mod rules;
 pub mod table;
-#[cfg(test)]
-mod tests;

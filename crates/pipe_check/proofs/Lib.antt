@@ -7,4 +7,3 @@ pub mod Statements
 pub mod CellTables
 pub mod Regions
 pub mod FirstFaults
-pub mod Samples

@@ -3,5 +3,4 @@ pub mod CellShapes
 pub mod CellTables
 pub mod Accepted
 pub mod RuleLaws
-pub mod Samples
 pub mod CheckingExamples

@@ -11,5 +11,3 @@ mod limits;
 pub mod program;
 mod scope;
 mod statement;
-#[cfg(test)]
-mod tests;

@@ -12,7 +12,6 @@ use pipe_model::name::Name;
 use pipe_model::operator_codes::NEGATIVE;
 use pipe_model::tree::Expr;
 
-// The level of operands, which bind more tightly than every two-place operator.
 macro_rules! level_by_code {
     (($code:expr) $($row:literal $symbol:literal $length:literal $level:literal;)*) => {
         match $code {

@@ -5,6 +5,4 @@ mod expression;
 pub mod law;
 pub mod program;
 mod statement;
-#[cfg(test)]
-mod tests;
 mod text;

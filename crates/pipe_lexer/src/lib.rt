@@ -7,6 +7,4 @@ pub mod law;
 mod number;
 mod piece;
 pub mod scan;
-#[cfg(test)]
-mod tests;
 mod words;

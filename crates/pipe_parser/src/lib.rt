@@ -10,5 +10,3 @@ pub mod parse;
 mod program;
 mod statement;
 mod symbols;
-#[cfg(test)]
-mod tests;

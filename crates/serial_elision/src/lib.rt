@@ -8,6 +8,4 @@ mod locals;
 mod place;
 mod statement;
 mod store;
-#[cfg(test)]
-mod tests;
 mod value;

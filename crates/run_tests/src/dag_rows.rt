@@ -1,11 +1,12 @@
-// Three columns whose dag is drawn by hand, and accesses of two columns.
+//! A dag of three columns, drawn by hand, and the races of accesses of two columns. The columns are built here, since
+//! a program that can run today has the same kinds of stages in each iteration.
 
-ghost use Rattle.std.specs.Prelude.{◌<◌, ◌<ℤ◌, ℕ, All, length};
+ghost use Rattle.std.specs.Prelude.{◌≡◌, ◌<◌, ◌<ℤ◌, ℕ, All, length};
 ghost use Rattle.std.specs.Bool.{OnTrue};
-ghost use Rattle.pipe_model.specs.Races.Columns.{node_at, IsNodeOf, IsRising};
+ghost use Rattle.pipe_model.specs.Races.Columns.{node_at, nodes_at, IsNodeOf, IsRising};
 ghost use Rattle.dag_build.specs.NodeColumns.{node_columns, AreRising, IsAccessOf};
 
-use crate::dag::Dag;
+use dag_build::dag::Dag;
 use pipe_model::access::{Access, AccessKind, CellId, NodeAccess};
 use pipe_model::column::Column;
 use pipe_model::list::ListOf;
@@ -14,7 +15,7 @@ use pipe_model::report::Report;
 use std::alloc::Global;
 use std::test::Fail;
 
-// Whether the number at index `k` is above all numbers before it.
+// Whether the stage number at index `k` is greater than all before it.
 fn is_above(nodes: &[Node], k: usize) -> bool
     requires { k < length nodes.now }
     ensures { OnTrue result ((j : ℕ) → j < k → (node_at nodes.now j).number <ℤ (node_at nodes.now k).number) }
@@ -49,17 +50,27 @@ fn are_rising(columns: &[Column]) -> bool
     true
 }
 
-fn is_node(dag: &Dag, x: NodeId) -> bool
-    ensures { OnTrue result (IsNodeOf dag.now x) }
+fn nodes_of(columns: &[Column], i: usize) -> &[Node]
+    ensures { result.now ≡ nodes_at (node_columns columns.now) i }
 {
-    (x.index as usize) < dag.nodes(x.iteration as usize).len()
+    match columns.get(i) {
+        Some(column) => column.nodes.as_slice(),
+        None => &[],
+    }
 }
 
-fn are_accesses(dag: &Dag, accesses: &[NodeAccess]) -> bool
-    ensures { OnTrue result (All (IsAccessOf dag.now) accesses.now) }
+fn is_node(columns: &[Column], x: NodeId) -> bool
+    ensures { OnTrue result (IsNodeOf (node_columns columns.now) x) }
+{
+    let i = x.iteration as usize;
+    i < columns.len() && (x.index as usize) < nodes_of(columns, i).len()
+}
+
+fn are_accesses(columns: &[Column], accesses: &[NodeAccess]) -> bool
+    ensures { OnTrue result (All (IsAccessOf (node_columns columns.now)) accesses.now) }
 {
     for access in accesses {
-        if !is_node(dag, access.node) {
+        if !is_node(columns, access.node) {
             return false;
         }
     }
@@ -77,7 +88,6 @@ fn column(alloc: Global, nodes: &[Node]) -> Result<Column, Fail> {
     })
 }
 
-// Columns of these instances.
 fn columns(rt: &HostRuntime, lists: &[&[Node]]) -> Result<ListOf<Column>, Fail> {
     let mut columns = ListOf::new(rt.alloc());
     for nodes in lists {
@@ -86,8 +96,8 @@ fn columns(rt: &HostRuntime, lists: &[&[Node]]) -> Result<ListOf<Column>, Fail> 
     Ok(columns)
 }
 
-// Edges down each column and between the heads; 3 and 4 of the second column wait for 2 of the
-// first, and the edge to 4 is redundant; 6 of the third waits for 4 of the second.
+// Stages 3 and 4 of the second column both wait for stage 2 of the first, so the edge to stage 4 is redundant; stage 6 of
+// the third column waits for stage 4 of the second.
 fn drawn(rt: &HostRuntime) -> Result<ListOf<Column>, Fail> {
     let (zero, wait, skip) = (Kind::Zero, Kind::Wait, Kind::Continue);
     columns(
@@ -100,7 +110,8 @@ fn drawn(rt: &HostRuntime) -> Result<ListOf<Column>, Fail> {
     )
 }
 
-const PLACES: [(u32, u32); 10] = [
+// The instances of the columns, by iteration and index.
+const INSTANCES: [(u32, u32); 10] = [
     (0, 0),
     (0, 1),
     (0, 2),
@@ -113,7 +124,7 @@ const PLACES: [(u32, u32); 10] = [
     (2, 2),
 ];
 
-// Which instances of `PLACES` each of them precedes.
+// Which instances each of them precedes.
 const PRECEDES: [&[u8; 10]; 10] = [
     b"0111111111",
     b"0010111001",
@@ -128,16 +139,16 @@ const PRECEDES: [&[u8; 10]; 10] = [
 ];
 
 #[test]
-fn every_pair(rt: HostRuntime) -> Result<(), Fail> {
+fn instances_precede(rt: HostRuntime) -> Result<(), Fail> {
     let columns = drawn(&rt)?;
     assert!(rt; are_rising(columns.as_slice()));
     let dag = Dag::of(rt.alloc(), &columns)?;
-    for ((iteration, index), row) in PLACES.into_iter().zip(PRECEDES) {
+    for ((iteration, index), row) in INSTANCES.into_iter().zip(PRECEDES) {
         let a = NodeId { iteration, index };
-        assert!(rt; is_node(&dag, a));
-        for ((iteration, index), wanted) in PLACES.into_iter().zip(row) {
+        assert!(rt; is_node(columns.as_slice(), a));
+        for ((iteration, index), wanted) in INSTANCES.into_iter().zip(row) {
             let b = NodeId { iteration, index };
-            assert!(rt; is_node(&dag, b));
+            assert!(rt; is_node(columns.as_slice(), b));
             assert_eq!(rt; dag.precedes(a, b), *wanted == b'1', "{a:?} {b:?}");
         }
     }
@@ -146,23 +157,22 @@ fn every_pair(rt: HostRuntime) -> Result<(), Fail> {
 
 // Accesses by iteration, index, cell and kind.
 const ACCESSES: [(u32, u32, u32, AccessKind); 15] = [
-    // Ordered by the heads, and two reads.
+    // No races: a write and a read in order, and two reads.
     (0, 0, 6, AccessKind::Write),
     (1, 0, 6, AccessKind::Read),
     (0, 1, 7, AccessKind::Read),
     (1, 1, 7, AccessKind::Read),
-    // A race: with the read, since the write before it is ordered; the later race is not reported.
+    // The first race is with the read, since the write before it precedes the other write.
     (0, 0, 5, AccessKind::Write),
     (0, 1, 5, AccessKind::Read),
     (1, 1, 5, AccessKind::Write),
     (0, 1, 5, AccessKind::Write),
-    // The output, as each emit accesses it.
+    // The accesses of two emits.
     (0, 1, 1, AccessKind::Read),
     (0, 1, 1, AccessKind::Write),
     (1, 1, 1, AccessKind::Read),
     (1, 1, 1, AccessKind::Write),
-    // Not in the order of the dag: the first access of an earlier instance does not race, that of a
-    // parallel instance does.
+    // Accesses that are not in the order of the serial elision.
     (1, 1, 8, AccessKind::Write),
     (0, 0, 8, AccessKind::Write),
     (0, 1, 8, AccessKind::Read),
@@ -182,8 +192,7 @@ fn accesses(alloc: Global) -> Result<ListOf<NodeAccess>, Fail> {
     Ok(accesses)
 }
 
-// A race on the cell between the last instances of the two columns, by iteration, stage number and
-// kind, the earlier access first.
+// A race between the last instances of the two columns, each given by iteration, stage number and kind.
 fn report(cell: u32, earlier: (u32, i64, AccessKind), later: (u32, i64, AccessKind)) -> Report {
     Report {
         cell: CellId(cell),
@@ -204,14 +213,14 @@ fn last_of(iteration: u32) -> NodeId {
 }
 
 #[test]
-fn first_races(rt: HostRuntime) -> Result<(), Fail> {
+fn first_races_are_reported(rt: HostRuntime) -> Result<(), Fail> {
     let first = [node(0, Kind::Zero), node(2, Kind::Continue)];
     let second = [node(0, Kind::Zero), node(3, Kind::Continue)];
     let columns = columns(&rt, &[&first, &second])?;
     assert!(rt; are_rising(columns.as_slice()));
     let dag = Dag::of(rt.alloc(), &columns)?;
     let accesses = accesses(rt.alloc())?;
-    assert!(rt; are_accesses(&dag, accesses.as_slice()));
+    assert!(rt; are_accesses(columns.as_slice(), accesses.as_slice()));
     let reports = dag.races(rt.alloc(), &accesses)?;
     let (read, write) = (AccessKind::Read, AccessKind::Write);
     let wanted = [
