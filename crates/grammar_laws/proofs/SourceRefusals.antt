@@ -1,7 +1,7 @@
 -- A source is accepted as at most one program, or refused for at most one reason.
 use Rattle.std.proofs.Common.{◌≡◌, ◌∙◌, ℕ, ℤ, pos, List, slice_get, Option, Some, None, ap, sym, subst}
 use Rattle.pipe_model.specs.declared.token.Token.{Token}
-use Rattle.pipe_model.specs.Language.CheckingRules.{Fault, OutOfLimit, Broken, fault_of}
+use Rattle.pipe_model.specs.Language.CheckingRules.{Fault, LimitOut, Broken, fault_of}
 use Rattle.pipe_model.specs.Language.MarkPlaces.{mark_places}
 use Rattle.pipe_model.specs.Language.SourceRefusals.{IsAccepted, fault_place, BreaksAt, Refusal, Lexical, Syntactic, IsRefused, ForItsText, ForAToken, ForALimit, ForARule}
 use Rattle.pipe_model.specs.Language.SourceSpelling.{SourceSpells}
@@ -55,13 +55,13 @@ one_refusal {source} (ForAToken tokens rule place l b) (ForARule tree other mark
 one_refusal {source} (ForALimit tree which s e) (ForItsText f h) = absurd (no_fault source s.tokens f s.lexed h)
 one_refusal {source} (ForALimit tree which s e) (ForAToken tokens rule place l b) = absurd (spelled_unbroken source tokens rule place tree l b s)
 one_refusal {source} (ForALimit tree which s e) (ForALimit tree' which' s' e') =
-    let f : Some (OutOfLimit which) ≡ Some (OutOfLimit which') = same_fault source tree tree' _ _ s s' e e' in cc (f)
+    let f : Some (LimitOut which) ≡ Some (LimitOut which') = same_fault source tree tree' _ _ s s' e e' in cc (f)
 one_refusal {source} (ForALimit tree which s e) (ForARule tree' rule mark place s' e' at) =
-    absurd (let f : Some (OutOfLimit which) ≡ Some (Broken rule mark) = same_fault source tree tree' _ _ s s' e e' in cc (f))
+    absurd (let f : Some (LimitOut which) ≡ Some (Broken rule mark) = same_fault source tree tree' _ _ s s' e e' in cc (f))
 one_refusal {source} (ForARule tree rule mark place s e at) (ForItsText f h) = absurd (no_fault source s.tokens f s.lexed h)
 one_refusal {source} (ForARule tree other mark at s e k) (ForAToken tokens rule place l b) = absurd (spelled_unbroken source tokens rule place tree l b s)
 one_refusal {source} (ForARule tree rule mark place s e at) (ForALimit tree' which s' e') =
-    absurd (let f : Some (OutOfLimit which) ≡ Some (Broken rule mark) = same_fault source tree' tree _ _ s' s e' e in cc (f))
+    absurd (let f : Some (LimitOut which) ≡ Some (Broken rule mark) = same_fault source tree' tree _ _ s' s e' e in cc (f))
 one_refusal {source} (ForARule tree rule mark place s e at) (ForARule tree' rule' mark' place' s' e' at') =
     let f : Some (Broken rule mark) ≡ Some (Broken rule' mark') = same_fault source tree tree' _ _ s s' e e' in
     let rules : rule ≡ rule' = cc (f) in
@@ -74,7 +74,7 @@ pub refused_not_accepted : {source : List ℕ} {refusal : Refusal} (tree : Synta
 refused_not_accepted {source} tree (ForItsText f h) a = no_fault source a.spelled.tokens f a.spelled.lexed h
 refused_not_accepted {source} tree (ForAToken tokens rule place l b) a = spelled_unbroken source tokens rule place tree l b a.spelled
 refused_not_accepted {source} tree (ForALimit other which s e) a =
-    let f : Some (OutOfLimit which) ≡ None = same_fault source other tree _ _ s a.spelled e a.obeys in cc (f)
+    let f : Some (LimitOut which) ≡ None = same_fault source other tree _ _ s a.spelled e a.obeys in cc (f)
 refused_not_accepted {source} tree (ForARule other rule mark place s e at) a =
     let f : Some (Broken rule mark) ≡ None = same_fault source other tree _ _ s a.spelled e a.obeys in cc (f)
 

@@ -1,7 +1,8 @@
 -- Each source is accepted or refused.
 use Rattle.std.proofs.Common.{◌≡◌, refl, ℕ, List, ◌⊎◌, inl, inr, Option, Some, None}
 use Rattle.pipe_model.specs.declared.token.Token.{Token}
-use Rattle.pipe_model.specs.Language.CheckingRules.{Fault, OutOfLimit, Broken, fault_of}
+use Rattle.pipe_model.specs.Language.CheckingRules as checking
+use Rattle.pipe_model.specs.Language.CheckingRules.{Fault, Broken, fault_of}
 use Rattle.pipe_model.specs.Language.SourceRefusals.{IsAccepted, fault_place, Refusal, Lexical, Syntactic, LimitOut, RuleBroken, IsRefused, ForItsText, ForAToken, ForALimit, ForARule}
 use Rattle.pipe_model.specs.Language.SourceSpelling.{SourceSpells}
 use Rattle.pipe_model.specs.Language.SyntaxTree.{SyntaxTree}
@@ -18,7 +19,7 @@ AcceptedOrRefused source = ((tree : SyntaxTree) × IsAccepted source tree) ⊎ (
 -- a source that spells a program is accepted, or refused for the program's fault
 by_rules : (source : List ℕ) (tree : SyntaxTree) (fault : Option Fault) → SourceSpells source tree → fault_of tree ≡ fault → AcceptedOrRefused source
 by_rules source tree None s e = inl (tree, record { spelled = s; obeys = e })
-by_rules source tree (Some (OutOfLimit which)) s e = inr (LimitOut which, ForALimit tree which s e)
+by_rules source tree (Some (checking.LimitOut which)) s e = inr (LimitOut which, ForALimit tree which s e)
 by_rules source tree (Some (Broken rule mark)) s e =
     let found = place_of_broken source tree s rule mark e in inr (RuleBroken rule found.0, ForARule tree rule mark found.0 s e found.1)
 

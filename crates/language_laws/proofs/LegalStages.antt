@@ -97,29 +97,29 @@ rises-turns (suc turns) test body env first n straight rises at =
 
 mutual
   -- statements continue at rising numbers
-  pub rises-execute : (w : Setting) (s : Statement) (env : Environment) (first : Bool) (n : ℤ) → env.stage.number ≡ n → Rises KnowsStage first n (execute w s env)
-  rises-execute w (Let x e) env first n at = straight-then (straight-evaluate w env.locals e) (λ v h. RisesStep (RisesReturn at))
-  rises-execute w (Assign x e) env first n at =
-      straight-then (straight-evaluate w env.locals e) (λ v h. RisesStep (rises-assign env (local_value env.locals x) (w.cells x) x v first n at))
-  rises-execute w (AssignElement x i e) env first n at =
-      straight-then (straight-evaluate w env.locals i) (λ j h. straight-then (straight-evaluate w env.locals e) (λ v h'. RisesStep
-      (straight-then (straight-element_of (w.cells x) j) (λ c h''. RisesSet c v (RisesReturn at)))))
-  rises-execute w (Emit e) env first n at =
-      straight-then (straight-evaluate w env.locals e) (λ v h. RisesStep (straight-then (straight-emit w.world.emits v) (λ u h'. RisesReturn at)))
-  rises-execute w (If e a b) env first n at =
-      straight-then (straight-evaluate w env.locals e) (λ v h. RisesStep (rises-bind
-      (either_by_zero v (rises-execute_all w b env first n at) (rises-execute_all w a env first n at)) (λ f m after known. RisesReturn known)))
-  rises-execute w (While e a) env first n at =
-      rises-turns w.turns (λ now. evaluate w now.locals e) (execute_all w a) env first n (λ now. straight-evaluate w now.locals e) (λ now f m known. rises-execute_all w a now f m known) at
-  rises-execute w (syntax.Stage kind e) env first n at =
-      straight-then (straight-evaluate w env.locals e) (λ v h. RisesStep (rises-bind (rises-go_to_stage w.world.stages kind env.stage first n v at) (λ f m stage known. RisesReturn known)))
-  rises-execute w (NextStage kind) env first n at =
-      RisesStep (rises-bind (rises-go_to_next_stage w.world.stages kind env.stage first n at) (λ f m stage known. RisesReturn known))
+  pub rises-execute : (setting : Setting) (s : Statement) (env : Environment) (first : Bool) (n : ℤ) → env.stage.number ≡ n → Rises KnowsStage first n (execute setting s env)
+  rises-execute setting (Let x e) env first n at = straight-then (straight-evaluate setting env.locals e) (λ v h. RisesStep (RisesReturn at))
+  rises-execute setting (Assign x e) env first n at =
+      straight-then (straight-evaluate setting env.locals e) (λ v h. RisesStep (rises-assign env (local_value env.locals x) (setting.cells x) x v first n at))
+  rises-execute setting (AssignElement x i e) env first n at =
+      straight-then (straight-evaluate setting env.locals i) (λ j h. straight-then (straight-evaluate setting env.locals e) (λ v h'. RisesStep
+      (straight-then (straight-element_of (setting.cells x) j) (λ c h''. RisesSet c v (RisesReturn at)))))
+  rises-execute setting (Emit e) env first n at =
+      straight-then (straight-evaluate setting env.locals e) (λ v h. RisesStep (straight-then (straight-emit setting.world.emits v) (λ u h'. RisesReturn at)))
+  rises-execute setting (If e a b) env first n at =
+      straight-then (straight-evaluate setting env.locals e) (λ v h. RisesStep (rises-bind
+      (either_by_zero v (rises-execute_all setting b env first n at) (rises-execute_all setting a env first n at)) (λ f m after known. RisesReturn known)))
+  rises-execute setting (While e a) env first n at =
+      rises-turns setting.turns (λ now. evaluate setting now.locals e) (execute_all setting a) env first n (λ now. straight-evaluate setting now.locals e) (λ now f m known. rises-execute_all setting a now f m known) at
+  rises-execute setting (syntax.Stage kind e) env first n at =
+      straight-then (straight-evaluate setting env.locals e) (λ v h. RisesStep (rises-bind (rises-go_to_stage setting.world.stages kind env.stage first n v at) (λ f m stage known. RisesReturn known)))
+  rises-execute setting (NextStage kind) env first n at =
+      RisesStep (rises-bind (rises-go_to_next_stage setting.world.stages kind env.stage first n at) (λ f m stage known. RisesReturn known))
 
-  pub rises-execute_all : (w : Setting) (ss : Statements) (env : Environment) (first : Bool) (n : ℤ) → env.stage.number ≡ n → Rises KnowsStage first n (execute_all w ss env)
-  rises-execute_all w Empty env first n at = RisesReturn at
-  rises-execute_all w (Then s ss) env first n at =
-      rises-bind (rises-execute w s env first n at) (λ f m after known. rises-execute_all w ss after f m known)
+  pub rises-execute_all : (setting : Setting) (ss : Statements) (env : Environment) (first : Bool) (n : ℤ) → env.stage.number ≡ n → Rises KnowsStage first n (execute_all setting ss env)
+  rises-execute_all setting Empty env first n at = RisesReturn at
+  rises-execute_all setting (Then s ss) env first n at =
+      rises-bind (rises-execute setting s env first n at) (λ f m after known. rises-execute_all setting ss after f m known)
 
 -- an allowed end: only instance 0 closes the loop
 abbrev pub EndsRightly : Bool → ℤ → ColumnEnd → Type 0

@@ -76,18 +76,18 @@ straight-take_at input (pos n) = either Anything (nat_lt n (length input)) _ _ (
 straight-take_at input (negsuc n) = Raises _
 
 -- an expression names no next stage
-pub straight-evaluate : (w : Setting) (locals : List Local) (e : Expression) → IsStraight Anything (evaluate w locals e)
-straight-evaluate w locals (Number n) = Steps (Returns tt)
-straight-evaluate w locals (Name x) = Steps (straight-named_value (local_value locals x) (w.cells x))
-straight-evaluate w locals (Element x i) =
-    straight-bind (straight-evaluate w locals i) (λ v h. Steps (straight-bind (straight-element_of (w.cells x) v) (λ c k. Gets c (λ r. Returns tt))))
-straight-evaluate w locals (And a b) =
-    straight-bind (straight-evaluate w locals a) (λ x h. Steps (either_by_zero Anything x _ _ (Returns tt) (straight-bind (straight-evaluate w locals b) (λ y k. Returns tt))))
-straight-evaluate w locals (Or a b) =
-    straight-bind (straight-evaluate w locals a) (λ x h. Steps (either_by_zero Anything x _ _ (straight-bind (straight-evaluate w locals b) (λ y k. Returns tt)) (Returns tt)))
-straight-evaluate w locals (Binary code a b) =
-    straight-bind (straight-evaluate w locals a) (λ x h. straight-bind (straight-evaluate w locals b) (λ y k. Steps (straight-operate code x y)))
-straight-evaluate w locals (Unary code a) = straight-bind (straight-evaluate w locals a) (λ x h. Steps (straight-operate_one code x))
-straight-evaluate w locals More = Steps (Gets 0 (λ v. Returns tt))
-straight-evaluate w locals Take = Steps (Gets 0 (λ v. straight-take_at w.world.input v))
-straight-evaluate w locals Iter = Steps (Returns tt)
+pub straight-evaluate : (setting : Setting) (locals : List Local) (e : Expression) → IsStraight Anything (evaluate setting locals e)
+straight-evaluate setting locals (Number n) = Steps (Returns tt)
+straight-evaluate setting locals (Name x) = Steps (straight-named_value (local_value locals x) (setting.cells x))
+straight-evaluate setting locals (Element x i) =
+    straight-bind (straight-evaluate setting locals i) (λ v h. Steps (straight-bind (straight-element_of (setting.cells x) v) (λ c k. Gets c (λ r. Returns tt))))
+straight-evaluate setting locals (And a b) =
+    straight-bind (straight-evaluate setting locals a) (λ x h. Steps (either_by_zero Anything x _ _ (Returns tt) (straight-bind (straight-evaluate setting locals b) (λ y k. Returns tt))))
+straight-evaluate setting locals (Or a b) =
+    straight-bind (straight-evaluate setting locals a) (λ x h. Steps (either_by_zero Anything x _ _ (straight-bind (straight-evaluate setting locals b) (λ y k. Returns tt)) (Returns tt)))
+straight-evaluate setting locals (Binary code a b) =
+    straight-bind (straight-evaluate setting locals a) (λ x h. straight-bind (straight-evaluate setting locals b) (λ y k. Steps (straight-operate code x y)))
+straight-evaluate setting locals (Unary code a) = straight-bind (straight-evaluate setting locals a) (λ x h. Steps (straight-operate_one code x))
+straight-evaluate setting locals More = Steps (Gets 0 (λ v. Returns tt))
+straight-evaluate setting locals Take = Steps (Gets 0 (λ v. straight-take_at setting.world.input v))
+straight-evaluate setting locals Iter = Steps (Returns tt)

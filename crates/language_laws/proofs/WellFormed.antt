@@ -22,11 +22,11 @@ rises_either first n true x y s t = s
 rises_either first n false x y s t = t
 
 -- stage numbers rise from 0 in an iteration, and only its instance 0 ends with Closed
-rises-run_iteration : (w : Setting) (test : Expression) (body : Statements) → Rises EndsRightly true (pos 0) (run_iteration w test body)
-rises-run_iteration w test body =
-    straight-then (straight-evaluate w [] test) (λ v h. RisesStep (either_by_zero v (RisesReturn (λ e. refl))
-    (rises_either true (pos 0) (int_eq (pos w.world.iteration) w.world.iterations) _ _ (RisesRaise traps.IterLimit)
-    (rises-bind (rises-execute_all w body first_environment true (pos 0) refl) (λ f m env known. RisesReturn (λ e. cc (e)))))))
+rises-run_iteration : (setting : Setting) (test : Expression) (body : Statements) → Rises EndsRightly true (pos 0) (run_iteration setting test body)
+rises-run_iteration setting test body =
+    straight-then (straight-evaluate setting [] test) (λ v h. RisesStep (either_by_zero v (RisesReturn (λ e. refl))
+    (rises_either true (pos 0) (int_eq (pos setting.world.iteration) setting.world.iterations) _ _ (RisesRaise traps.IterLimit)
+    (rises-bind (rises-execute_all setting body first_environment true (pos 0) refl) (λ f m env known. RisesReturn (λ e. cc (e)))))))
 
 -- the end closes the loop
 abbrev IsClosing : ColumnEnd → Type 0
@@ -42,10 +42,10 @@ closes-with_budget budget left (Gets c s) = λ v. closes-with_budget budget left
 closes-with_budget budget left (Sets c v s) = closes-with_budget budget left s
 
 -- the iteration after the last allowed one names no stage and closes the loop
-closes-run_iteration : (w : Setting) (test : Expression) (body : Statements) → pos w.world.iteration ≡ w.world.iterations → IsStraight IsClosing (run_iteration w test body)
-closes-run_iteration w test body last =
-    straight-bind (straight-evaluate w [] test) (λ v h. Steps (straight_by_zero IsClosing v _ _ (Returns refl)
-    (let t : int_eq (pos w.world.iteration) w.world.iterations ≡ true = (Decides-int_eq (pos w.world.iteration) w.world.iterations).1 last in
+closes-run_iteration : (setting : Setting) (test : Expression) (body : Statements) → pos setting.world.iteration ≡ setting.world.iterations → IsStraight IsClosing (run_iteration setting test body)
+closes-run_iteration setting test body last =
+    straight-bind (straight-evaluate setting [] test) (λ v h. Steps (straight_by_zero IsClosing v _ _ (Returns refl)
+    (let t : int_eq (pos setting.world.iteration) setting.world.iterations ≡ true = (Decides-int_eq (pos setting.world.iteration) setting.world.iterations).1 last in
     rw t (Raises traps.IterLimit))))
 
 -- a number between 1 and 65536 equals its natural number

@@ -1,7 +1,7 @@
 -- The first fault is found exactly where a rule is broken.
 use Rattle.std.proofs.Common.{◌≡◌, ◌∙◌, ℕ, zero, suc, ◌+◌, ◌<◌, Bool, true, false, if◌then◌else◌, List, [], ◌∷◌, ◌++◌, length, slice_index_or, All, Option, Some, None, refl, sym, ap, subst, arith}
 use Rattle.pipe_check.specs.RuleLaws.{ObeysThese, ObeysAllRules, IsFirstBroken}
-use Rattle.pipe_model.specs.Language.CheckingRules.{CheckingRule, Fault, OutOfLimit, Broken, breaks, broken_at, first_broken, first_fault, fault_of, fault_or, limit_fault_or, first_limit_out, rules_in_order}
+use Rattle.pipe_model.specs.Language.CheckingRules.{CheckingRule, Fault, LimitOut, Broken, breaks, broken_at, first_broken, first_fault, fault_of, fault_or, limit_fault_or, first_limit_out, rules_in_order}
 use Rattle.pipe_model.specs.Language.Marks.{Mark, marks_of}
 use Rattle.pipe_model.specs.Language.SyntaxTree.{SyntaxTree}
 
@@ -167,7 +167,7 @@ has_no_fault tree b = ap (λ which. limit_fault_or which (first_fault 0 (marks_o
 
 of_marks : (which : Option ℕ) (rest : Option Fault) (rule : CheckingRule) (number : ℕ) → limit_fault_or which rest ≡ Some (Broken rule number)
     → (which ≡ None) × (rest ≡ Some (Broken rule number))
-of_marks (Some w) rest rule number h = absurd (let e : Some (OutOfLimit w) ≡ Some (Broken rule number) = h in cc (e))
+of_marks (Some w) rest rule number h = absurd (let e : Some (LimitOut w) ≡ Some (Broken rule number) = h in cc (e))
 of_marks None rest rule number h = (refl, h)
 
 pub is_first : (tree : SyntaxTree) (rule : CheckingRule) (number : ℕ) → fault_of tree ≡ Some (Broken rule number)

@@ -3,7 +3,7 @@ use Rattle.std.specs.Prelude.{◌≡◌, ℕ, zero, suc, pos, List, [], ◌∷�
 use Rattle.pipe_model.specs.declared.tree.StageKind.TheVariants as kinds
 use Rattle.pipe_model.specs.declared.tree.Declaration.{Declaration}
 use Rattle.pipe_model.specs.declared.tree.Limits.{Limits}
-use Rattle.pipe_model.specs.Language.CheckingRules.{Fault, OutOfLimit, Broken, CheckingRule, Unknown, Twice, PipeOutside, TooManyCells, TooManyLocals, NotAnArray, NeedsIndex, ZeroSize, fault_of}
+use Rattle.pipe_model.specs.Language.CheckingRules.{Fault, LimitOut, Broken, CheckingRule, Unknown, Twice, PipeOutside, TooManyCells, TooManyLocals, NotAnArray, NeedsIndex, ZeroSize, fault_of}
 use Rattle.pipe_model.specs.Language.SyntaxTree.{Expression, Number, Name, Element, Iter, Statement, Let, Assign, AssignElement, Emit, If, While, Stage, NextStage, Statements, Empty, Then, SyntaxTree}
 
 -- a program, and its fault if it has one
@@ -149,12 +149,12 @@ abbrev pub ranges : List CheckingExample
 ranges =
     limited (limits 65536 4 1000000 1048576) (broken Unknown 1)
     ∷ limited (limits 64 4096 1 0) (broken Unknown 1)
-    ∷ limited (limits 0 0 0 1048577) (Some (OutOfLimit 1))
-    ∷ limited (limits 65537 1 1 0) (Some (OutOfLimit 1))
-    ∷ limited (limits 1 0 0 0) (Some (OutOfLimit 2))
-    ∷ limited (limits 65536 4097 1 0) (Some (OutOfLimit 2))
-    ∷ limited (limits 65536 5 0 0) (Some (OutOfLimit 3))
-    ∷ limited (limits 1 1 0 1048577) (Some (OutOfLimit 4))
-    ∷ limited (limits 1 1 1000001 0) (Some (OutOfLimit 4))
-    ∷ limited (limits 1 1 1 1048577) (Some (OutOfLimit 5))
+    ∷ limited (limits 0 0 0 1048577) (Some (LimitOut 1))
+    ∷ limited (limits 65537 1 1 0) (Some (LimitOut 1))
+    ∷ limited (limits 1 0 0 0) (Some (LimitOut 2))
+    ∷ limited (limits 65536 4097 1 0) (Some (LimitOut 2))
+    ∷ limited (limits 65536 5 0 0) (Some (LimitOut 3))
+    ∷ limited (limits 1 1 0 1048577) (Some (LimitOut 4))
+    ∷ limited (limits 1 1 1000001 0) (Some (LimitOut 4))
+    ∷ limited (limits 1 1 1 1048577) (Some (LimitOut 5))
     ∷ []

@@ -3,14 +3,14 @@ use Rattle.pipe_model.specs.declared.bounds.TheConstants.{LARGEST_PROGRAM}
 use Rattle.std.specs.Prelude.{◌≡◌, ℕ, List, length, ◌+◌, ◌≤◌, Result, Ok, Err, Option, Some, None}
 use Rattle.pipe_check.specs.declared.fault.CheckFault.{CheckFault}
 use Rattle.pipe_check.specs.declared.fault.CheckFault.TheVariants as faults
-use Rattle.pipe_model.specs.Language.CheckingRules.{Fault, OutOfLimit, Broken, Unknown, Twice, PipeOutside, TooManyCells, TooManyLocals, NotAnArray, NeedsIndex, ZeroSize, first_fault}
+use Rattle.pipe_model.specs.Language.CheckingRules.{Fault, LimitOut, Broken, Unknown, Twice, PipeOutside, TooManyCells, TooManyLocals, NotAnArray, NeedsIndex, ZeroSize, first_fault}
 use Rattle.pipe_model.specs.Language.Marks.{Mark}
 
 -- the refusal is this fault; nothing is said where memory was refused
 abbrev pub IsFirstFaultOf : CheckFault → Option Fault → Type 0
 IsFirstFaultOf (faults.Unknown n) fault = fault ≡ Some (Broken Unknown n)
 IsFirstFaultOf (faults.Twice n) fault = fault ≡ Some (Broken Twice n)
-IsFirstFaultOf (faults.LimitOut which) fault = fault ≡ Some (OutOfLimit which)
+IsFirstFaultOf (faults.LimitOut which) fault = fault ≡ Some (LimitOut which)
 IsFirstFaultOf (faults.PipeOutside n) fault = fault ≡ Some (Broken PipeOutside n)
 IsFirstFaultOf (faults.TooManyCells n) fault = fault ≡ Some (Broken TooManyCells n)
 IsFirstFaultOf (faults.TooManyLocals n) fault = fault ≡ Some (Broken TooManyLocals n)

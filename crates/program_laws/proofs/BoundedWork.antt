@@ -97,21 +97,21 @@ frugal-take_at : (input : List ℤ) (cursor : ℤ) → IsFrugal 1 (take_at input
 frugal-take_at input (pos n) = frugal_if (nat_lt n (length input)) _ _ (FrugalSet _ _ (FrugalReturn _)) (FrugalRaise _)
 frugal-take_at input (negsuc n) = FrugalRaise _
 
-pub frugal-evaluate : (w : Setting) (locals : List Local) (e : Expression) → IsFrugal 0 (evaluate w locals e)
-frugal-evaluate w locals (Number n) = FrugalStep (FrugalReturn n)
-frugal-evaluate w locals (Name x) = FrugalStep (frugal-named_value (local_value locals x) (w.cells x))
-frugal-evaluate w locals (Element x i) =
-    frugal-bind (frugal-evaluate w locals i) (λ v. FrugalStep (frugal-element_of 2 (w.cells x) v (λ c. Get c Return) (λ c. FrugalGet c (λ r. FrugalReturn r))))
-frugal-evaluate w locals (And a b) =
-    frugal-bind (frugal-evaluate w locals a) (λ x. FrugalStep (frugal_by_zero x _ _ (FrugalReturn _) (frugal_more (frugal-bind (frugal-evaluate w locals b) (λ y. FrugalReturn _)) 2 (omega arith))))
-frugal-evaluate w locals (Or a b) =
-    frugal-bind (frugal-evaluate w locals a) (λ x. FrugalStep (frugal_by_zero x _ _ (frugal_more (frugal-bind (frugal-evaluate w locals b) (λ y. FrugalReturn _)) 2 (omega arith)) (FrugalReturn _)))
-frugal-evaluate w locals (Binary code a b) =
-    frugal-bind (frugal-evaluate w locals a) (λ x. frugal-bind (frugal-evaluate w locals b) (λ y. FrugalStep (frugal-operate 2 code x y)))
-frugal-evaluate w locals (Unary code a) = frugal-bind (frugal-evaluate w locals a) (λ x. FrugalStep (frugal-operate_one 2 code x))
-frugal-evaluate w locals More = FrugalStep (FrugalGet 0 (λ v. FrugalReturn _))
-frugal-evaluate w locals Take = FrugalStep (FrugalGet 0 (λ v. frugal-take_at w.world.input v))
-frugal-evaluate w locals Iter = FrugalStep (FrugalReturn _)
+pub frugal-evaluate : (setting : Setting) (locals : List Local) (e : Expression) → IsFrugal 0 (evaluate setting locals e)
+frugal-evaluate setting locals (Number n) = FrugalStep (FrugalReturn n)
+frugal-evaluate setting locals (Name x) = FrugalStep (frugal-named_value (local_value locals x) (setting.cells x))
+frugal-evaluate setting locals (Element x i) =
+    frugal-bind (frugal-evaluate setting locals i) (λ v. FrugalStep (frugal-element_of 2 (setting.cells x) v (λ c. Get c Return) (λ c. FrugalGet c (λ r. FrugalReturn r))))
+frugal-evaluate setting locals (And a b) =
+    frugal-bind (frugal-evaluate setting locals a) (λ x. FrugalStep (frugal_by_zero x _ _ (FrugalReturn _) (frugal_more (frugal-bind (frugal-evaluate setting locals b) (λ y. FrugalReturn _)) 2 (omega arith))))
+frugal-evaluate setting locals (Or a b) =
+    frugal-bind (frugal-evaluate setting locals a) (λ x. FrugalStep (frugal_by_zero x _ _ (frugal_more (frugal-bind (frugal-evaluate setting locals b) (λ y. FrugalReturn _)) 2 (omega arith)) (FrugalReturn _)))
+frugal-evaluate setting locals (Binary code a b) =
+    frugal-bind (frugal-evaluate setting locals a) (λ x. frugal-bind (frugal-evaluate setting locals b) (λ y. FrugalStep (frugal-operate 2 code x y)))
+frugal-evaluate setting locals (Unary code a) = frugal-bind (frugal-evaluate setting locals a) (λ x. FrugalStep (frugal-operate_one 2 code x))
+frugal-evaluate setting locals More = FrugalStep (FrugalGet 0 (λ v. FrugalReturn _))
+frugal-evaluate setting locals Take = FrugalStep (FrugalGet 0 (λ v. frugal-take_at setting.world.input v))
+frugal-evaluate setting locals Iter = FrugalStep (FrugalReturn _)
 
 -- ---- trees with stages
 
@@ -209,43 +209,43 @@ bounded-turns stages (suc turns) test body env room frugal bounded has =
     (bounded_more (bounded-bind (bounded env room has) (λ r after has2. bounded-turns stages turns test body (leave_block env after) r frugal bounded has2)) 2 (omega arith))))
 
 mutual
-  pub bounded-execute : (w : Setting) (s : Statement) (env : Environment) (room : ℕ) → w.world.stages ≤ env.stage.count + room
-      → IsBounded (FitsIn w.world.stages) 0 room (execute w s env)
-  bounded-execute w (Let x e) env room has = frugal-then room (frugal-evaluate w env.locals e) (λ v. BoundStep (BoundReturn has))
-  bounded-execute w (Assign x e) env room has =
-      frugal-then room (frugal-evaluate w env.locals e) (λ v. BoundStep (bounded-assign w.world.stages room env (local_value env.locals x) (w.cells x) x v has))
-  bounded-execute w (AssignElement x i e) env room has =
-      frugal-then room (frugal-evaluate w env.locals i) (λ j. frugal-then room (frugal-evaluate w env.locals e) (λ v. BoundStep (bounded-write w.world.stages room env (w.cells x) j v has)))
-  bounded-execute w (Emit e) env room has =
-      frugal-then room (frugal-evaluate w env.locals e) (λ v. BoundStep (frugal-then room (frugal-emit w.world.emits v) (λ done. BoundReturn has)))
-  bounded-execute w (If e a b) env room has =
-      frugal-then room (frugal-evaluate w env.locals e) (λ v. BoundStep (bounded-bind
-      (bounded_by_zero v (bounded_more (bounded-execute_all w b env room has) 2 (omega arith)) (bounded_more (bounded-execute_all w a env room has) 2 (omega arith)))
+  pub bounded-execute : (setting : Setting) (s : Statement) (env : Environment) (room : ℕ) → setting.world.stages ≤ env.stage.count + room
+      → IsBounded (FitsIn setting.world.stages) 0 room (execute setting s env)
+  bounded-execute setting (Let x e) env room has = frugal-then room (frugal-evaluate setting env.locals e) (λ v. BoundStep (BoundReturn has))
+  bounded-execute setting (Assign x e) env room has =
+      frugal-then room (frugal-evaluate setting env.locals e) (λ v. BoundStep (bounded-assign setting.world.stages room env (local_value env.locals x) (setting.cells x) x v has))
+  bounded-execute setting (AssignElement x i e) env room has =
+      frugal-then room (frugal-evaluate setting env.locals i) (λ j. frugal-then room (frugal-evaluate setting env.locals e) (λ v. BoundStep (bounded-write setting.world.stages room env (setting.cells x) j v has)))
+  bounded-execute setting (Emit e) env room has =
+      frugal-then room (frugal-evaluate setting env.locals e) (λ v. BoundStep (frugal-then room (frugal-emit setting.world.emits v) (λ done. BoundReturn has)))
+  bounded-execute setting (If e a b) env room has =
+      frugal-then room (frugal-evaluate setting env.locals e) (λ v. BoundStep (bounded-bind
+      (bounded_by_zero v (bounded_more (bounded-execute_all setting b env room has) 2 (omega arith)) (bounded_more (bounded-execute_all setting a env room has) 2 (omega arith)))
       (λ r after has2. BoundReturn has2)))
-  bounded-execute w (While e a) env room has =
-      bounded-turns w.world.stages w.turns (λ now. evaluate w now.locals e) (execute_all w a) env room (λ now. frugal-evaluate w now.locals e)
-      (λ now r has2. bounded-execute_all w a now r has2) has
-  bounded-execute w (syntax.Stage kind e) env room has =
-      frugal-then room (frugal-evaluate w env.locals e) (λ n. BoundStep (bounded-bind
-      (bounded_more (bounded-go_to_stage w.world.stages room kind env.stage n has) 2 (omega arith)) (λ r stage has2. BoundReturn has2)))
-  bounded-execute w (NextStage kind) env room has =
-      BoundStep (bounded-bind (frugal-then room (frugal-fitting 2 (env.stage.number +ℤ pos 1)) (λ n. bounded-go_to_stage w.world.stages room kind env.stage n has))
+  bounded-execute setting (While e a) env room has =
+      bounded-turns setting.world.stages setting.turns (λ now. evaluate setting now.locals e) (execute_all setting a) env room (λ now. frugal-evaluate setting now.locals e)
+      (λ now r has2. bounded-execute_all setting a now r has2) has
+  bounded-execute setting (syntax.Stage kind e) env room has =
+      frugal-then room (frugal-evaluate setting env.locals e) (λ n. BoundStep (bounded-bind
+      (bounded_more (bounded-go_to_stage setting.world.stages room kind env.stage n has) 2 (omega arith)) (λ r stage has2. BoundReturn has2)))
+  bounded-execute setting (NextStage kind) env room has =
+      BoundStep (bounded-bind (frugal-then room (frugal-fitting 2 (env.stage.number +ℤ pos 1)) (λ n. bounded-go_to_stage setting.world.stages room kind env.stage n has))
       (λ r stage has2. BoundReturn has2))
 
-  pub bounded-execute_all : (w : Setting) (ss : Statements) (env : Environment) (room : ℕ) → w.world.stages ≤ env.stage.count + room
-      → IsBounded (FitsIn w.world.stages) 0 room (execute_all w ss env)
-  bounded-execute_all w Empty env room has = BoundReturn has
-  bounded-execute_all w (Then s ss) env room has = bounded-bind (bounded-execute w s env room has) (λ r after has2. bounded-execute_all w ss after r has2)
+  pub bounded-execute_all : (setting : Setting) (ss : Statements) (env : Environment) (room : ℕ) → setting.world.stages ≤ env.stage.count + room
+      → IsBounded (FitsIn setting.world.stages) 0 room (execute_all setting ss env)
+  bounded-execute_all setting Empty env room has = BoundReturn has
+  bounded-execute_all setting (Then s ss) env room has = bounded-bind (bounded-execute setting s env room has) (λ r after has2. bounded-execute_all setting ss after r has2)
 
 abbrev AnyEnd : ℕ → ColumnEnd → Type 0
 AnyEnd room e = Unit {0}
 
-bounded-run_iteration : (w : Setting) (test : Expression) (body : Statements) (room : ℕ) → w.world.stages ≤ 1 + room
-    → IsBounded AnyEnd 0 room (run_iteration w test body)
-bounded-run_iteration w test body room has =
-    frugal-then room (frugal-evaluate w [] test) (λ v. BoundStep (bounded_by_zero v (BoundReturn tt)
-    (bounded_if (int_eq (pos w.world.iteration) w.world.iterations) _ _ (λ last. BoundRaise traps.IterLimit)
-    (bounded_more (bounded-bind (bounded-execute_all w body first_environment room has) (λ r env has2. BoundReturn tt)) 2 (omega arith)))))
+bounded-run_iteration : (setting : Setting) (test : Expression) (body : Statements) (room : ℕ) → setting.world.stages ≤ 1 + room
+    → IsBounded AnyEnd 0 room (run_iteration setting test body)
+bounded-run_iteration setting test body room has =
+    frugal-then room (frugal-evaluate setting [] test) (λ v. BoundStep (bounded_by_zero v (BoundReturn tt)
+    (bounded_if (int_eq (pos setting.world.iteration) setting.world.iterations) _ _ (λ last. BoundRaise traps.IterLimit)
+    (bounded_more (bounded-bind (bounded-execute_all setting body first_environment room has) (λ r env has2. BoundReturn tt)) 2 (omega arith)))))
 
 -- ---- the behaviour
 

@@ -122,26 +122,26 @@ straight-turns (suc turns) test body env tests bodies =
     (straight-bind (bodies env) (λ after k. straight-turns turns test body (leave_block env after) tests bodies))))
 
 mutual
-  straight-execute : (w : Setting) (s : Statement) (env : Environment) → NamesNone s → IsStraight Anything (execute w s env)
-  straight-execute w (Let x e) env k = straight-bind (straight-evaluate w env.locals e) (λ v h. Steps (Returns tt))
-  straight-execute w (Assign x e) env k =
-      straight-bind (straight-evaluate w env.locals e) (λ v h. Steps (straight-assign env (local_value env.locals x) (w.cells x) x v))
-  straight-execute w (AssignElement x i e) env k =
-      straight-bind (straight-evaluate w env.locals i) (λ j h. straight-bind (straight-evaluate w env.locals e) (λ v h'. Steps
-      (straight-bind (straight-element_of (w.cells x) j) (λ c h''. Sets c v (Returns tt)))))
-  straight-execute w (Emit e) env k =
-      straight-bind (straight-evaluate w env.locals e) (λ v h. Steps (straight-bind (straight-emit w.world.emits v) (λ done h'. Returns tt)))
-  straight-execute w (If e a b) env k =
-      straight-bind (straight-evaluate w env.locals e) (λ v h. Steps (straight-bind
-      (either_by_zero Anything v _ _ (straight-execute_all w b env k.1) (straight-execute_all w a env k.0)) (λ after h'. Returns tt)))
-  straight-execute w (While e a) env k =
-      straight-turns w.turns (λ now. evaluate w now.locals e) (execute_all w a) env (λ now. straight-evaluate w now.locals e) (λ now. straight-execute_all w a now k)
-  straight-execute w (syntax.Stage kind e) env k = absurd k
-  straight-execute w (NextStage kind) env k = absurd k
+  straight-execute : (setting : Setting) (s : Statement) (env : Environment) → NamesNone s → IsStraight Anything (execute setting s env)
+  straight-execute setting (Let x e) env k = straight-bind (straight-evaluate setting env.locals e) (λ v h. Steps (Returns tt))
+  straight-execute setting (Assign x e) env k =
+      straight-bind (straight-evaluate setting env.locals e) (λ v h. Steps (straight-assign env (local_value env.locals x) (setting.cells x) x v))
+  straight-execute setting (AssignElement x i e) env k =
+      straight-bind (straight-evaluate setting env.locals i) (λ j h. straight-bind (straight-evaluate setting env.locals e) (λ v h'. Steps
+      (straight-bind (straight-element_of (setting.cells x) j) (λ c h''. Sets c v (Returns tt)))))
+  straight-execute setting (Emit e) env k =
+      straight-bind (straight-evaluate setting env.locals e) (λ v h. Steps (straight-bind (straight-emit setting.world.emits v) (λ done h'. Returns tt)))
+  straight-execute setting (If e a b) env k =
+      straight-bind (straight-evaluate setting env.locals e) (λ v h. Steps (straight-bind
+      (either_by_zero Anything v _ _ (straight-execute_all setting b env k.1) (straight-execute_all setting a env k.0)) (λ after h'. Returns tt)))
+  straight-execute setting (While e a) env k =
+      straight-turns setting.turns (λ now. evaluate setting now.locals e) (execute_all setting a) env (λ now. straight-evaluate setting now.locals e) (λ now. straight-execute_all setting a now k)
+  straight-execute setting (syntax.Stage kind e) env k = absurd k
+  straight-execute setting (NextStage kind) env k = absurd k
 
-  straight-execute_all : (w : Setting) (ss : Statements) (env : Environment) → NameNone ss → IsStraight Anything (execute_all w ss env)
-  straight-execute_all w Empty env k = Returns tt
-  straight-execute_all w (Then s ss) env k = straight-bind (straight-execute w s env k.0) (λ after h. straight-execute_all w ss after k.1)
+  straight-execute_all : (setting : Setting) (ss : Statements) (env : Environment) → NameNone ss → IsStraight Anything (execute_all setting ss env)
+  straight-execute_all setting Empty env k = Returns tt
+  straight-execute_all setting (Then s ss) env k = straight-bind (straight-execute setting s env k.0) (λ after h. straight-execute_all setting ss after k.1)
 
 one-with_budget : {d : Interaction ColumnEnd} (budget left : ℕ) → IsStraight Anything d → IsOneInstance (with_budget budget left d)
 one-with_budget budget left (Returns p) = tt

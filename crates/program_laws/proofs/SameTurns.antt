@@ -87,17 +87,17 @@ same_by_zero (pos (suc n)) s t = t
 same_by_zero (negsuc n) s t = t
 
 -- an expression makes no turns of loops
-pub evaluate-with_turns : (w : Setting) (turns : ℕ) (locals : List Local) (e : Expression) → evaluate (with_turns turns w) locals e ≡ evaluate w locals e
-evaluate-with_turns w turns locals (Number n) = refl
-evaluate-with_turns w turns locals (Name x) = refl
-evaluate-with_turns w turns locals (Element x i) = rw (evaluate-with_turns w turns locals i)
-evaluate-with_turns w turns locals (And a b) = rw (evaluate-with_turns w turns locals a, evaluate-with_turns w turns locals b)
-evaluate-with_turns w turns locals (Or a b) = rw (evaluate-with_turns w turns locals a, evaluate-with_turns w turns locals b)
-evaluate-with_turns w turns locals (Binary code a b) = rw (evaluate-with_turns w turns locals a, evaluate-with_turns w turns locals b)
-evaluate-with_turns w turns locals (Unary code a) = rw (evaluate-with_turns w turns locals a)
-evaluate-with_turns w turns locals More = refl
-evaluate-with_turns w turns locals Take = refl
-evaluate-with_turns w turns locals Iter = refl
+pub evaluate-with_turns : (setting : Setting) (turns : ℕ) (locals : List Local) (e : Expression) → evaluate (with_turns turns setting) locals e ≡ evaluate setting locals e
+evaluate-with_turns setting turns locals (Number n) = refl
+evaluate-with_turns setting turns locals (Name x) = refl
+evaluate-with_turns setting turns locals (Element x i) = rw (evaluate-with_turns setting turns locals i)
+evaluate-with_turns setting turns locals (And a b) = rw (evaluate-with_turns setting turns locals a, evaluate-with_turns setting turns locals b)
+evaluate-with_turns setting turns locals (Or a b) = rw (evaluate-with_turns setting turns locals a, evaluate-with_turns setting turns locals b)
+evaluate-with_turns setting turns locals (Binary code a b) = rw (evaluate-with_turns setting turns locals a, evaluate-with_turns setting turns locals b)
+evaluate-with_turns setting turns locals (Unary code a) = rw (evaluate-with_turns setting turns locals a)
+evaluate-with_turns setting turns locals More = refl
+evaluate-with_turns setting turns locals Take = refl
+evaluate-with_turns setting turns locals Iter = refl
 
 -- the number of instances so far, plus the remaining room, is the limit
 abbrev pub HasRoom : ℕ → ℕ → ℕ → Environment → Type 0
@@ -161,54 +161,54 @@ same-turns budget stages (suc n) (suc m) test tests body other env left room str
 
 mutual
   -- a statement does the same with two bounds that are above all steps that are left
-  pub same-execute : (budget : ℕ) (w : Setting) (n m : ℕ) (s : Statement) (env : Environment) (left room : ℕ) → w.world.stages ≤ env.stage.count + room
+  pub same-execute : (budget : ℕ) (setting : Setting) (n m : ℕ) (s : Statement) (env : Environment) (left room : ℕ) → setting.world.stages ≤ env.stage.count + room
       → left + budget * room < n → left + budget * room < m
-      → SameWithin budget (HasRoom w.world.stages) left room (execute (with_turns n w) s env) (execute (with_turns m w) s env)
-  same-execute budget w n m (Let x e) env left room has ln lm =
-      rw (evaluate-with_turns w n env.locals e, evaluate-with_turns w m env.locals e)
-      (straight-same budget left room (straight-evaluate w env.locals e) (λ l v le any. step_or_stop budget l room _ _ (λ k lk. SameReturn has)))
-  same-execute budget w n m (Assign x e) env left room has ln lm =
-      rw (evaluate-with_turns w n env.locals e, evaluate-with_turns w m env.locals e)
-      (straight-same budget left room (straight-evaluate w env.locals e) (λ l v le any. step_or_stop budget l room _ _ (λ k lk.
-      same_straight budget k room (straight-assign env (local_value env.locals x) (w.cells x) x v)
+      → SameWithin budget (HasRoom setting.world.stages) left room (execute (with_turns n setting) s env) (execute (with_turns m setting) s env)
+  same-execute budget setting n m (Let x e) env left room has ln lm =
+      rw (evaluate-with_turns setting n env.locals e, evaluate-with_turns setting m env.locals e)
+      (straight-same budget left room (straight-evaluate setting env.locals e) (λ l v le any. step_or_stop budget l room _ _ (λ k lk. SameReturn has)))
+  same-execute budget setting n m (Assign x e) env left room has ln lm =
+      rw (evaluate-with_turns setting n env.locals e, evaluate-with_turns setting m env.locals e)
+      (straight-same budget left room (straight-evaluate setting env.locals e) (λ l v le any. step_or_stop budget l room _ _ (λ k lk.
+      same_straight budget k room (straight-assign env (local_value env.locals x) (setting.cells x) x v)
       (λ l2 after kept. (let c = ap (λ (h : StagePosition). h.count) kept in omega (arith, c, has))))))
-  same-execute budget w n m (AssignElement x i e) env left room has ln lm =
-      rw (evaluate-with_turns w n env.locals i, evaluate-with_turns w m env.locals i, evaluate-with_turns w n env.locals e, evaluate-with_turns w m env.locals e)
-      (straight-same budget left room (straight-evaluate w env.locals i) (λ l j le any. straight-same budget l room (straight-evaluate w env.locals e) (λ l2 v le2 any2.
-      step_or_stop budget l2 room _ _ (λ k lk. straight-same budget k room (straight-element_of (w.cells x) j) (λ l3 c le3 any3. SameSet c v (SameReturn has))))))
-  same-execute budget w n m (Emit e) env left room has ln lm =
-      rw (evaluate-with_turns w n env.locals e, evaluate-with_turns w m env.locals e)
-      (straight-same budget left room (straight-evaluate w env.locals e) (λ l v le any. step_or_stop budget l room _ _ (λ k lk.
-      straight-same budget k room (straight-emit w.world.emits v) (λ l2 done le2 any2. SameReturn has))))
-  same-execute budget w n m (If e a b) env left room has ln lm =
-      rw (evaluate-with_turns w n env.locals e, evaluate-with_turns w m env.locals e)
-      (straight-same budget left room (straight-evaluate w env.locals e) (λ l v le any. step_or_stop budget l room _ _ (λ k lk.
-      same-bind budget (same_by_zero v (same-execute_all budget w n m b env k room has (omega (arith, ln, le, lk)) (omega (arith, lm, le, lk)))
-      (same-execute_all budget w n m a env k room has (omega (arith, ln, le, lk)) (omega (arith, lm, le, lk))))
+  same-execute budget setting n m (AssignElement x i e) env left room has ln lm =
+      rw (evaluate-with_turns setting n env.locals i, evaluate-with_turns setting m env.locals i, evaluate-with_turns setting n env.locals e, evaluate-with_turns setting m env.locals e)
+      (straight-same budget left room (straight-evaluate setting env.locals i) (λ l j le any. straight-same budget l room (straight-evaluate setting env.locals e) (λ l2 v le2 any2.
+      step_or_stop budget l2 room _ _ (λ k lk. straight-same budget k room (straight-element_of (setting.cells x) j) (λ l3 c le3 any3. SameSet c v (SameReturn has))))))
+  same-execute budget setting n m (Emit e) env left room has ln lm =
+      rw (evaluate-with_turns setting n env.locals e, evaluate-with_turns setting m env.locals e)
+      (straight-same budget left room (straight-evaluate setting env.locals e) (λ l v le any. step_or_stop budget l room _ _ (λ k lk.
+      straight-same budget k room (straight-emit setting.world.emits v) (λ l2 done le2 any2. SameReturn has))))
+  same-execute budget setting n m (If e a b) env left room has ln lm =
+      rw (evaluate-with_turns setting n env.locals e, evaluate-with_turns setting m env.locals e)
+      (straight-same budget left room (straight-evaluate setting env.locals e) (λ l v le any. step_or_stop budget l room _ _ (λ k lk.
+      same-bind budget (same_by_zero v (same-execute_all budget setting n m b env k room has (omega (arith, ln, le, lk)) (omega (arith, lm, le, lk)))
+      (same-execute_all budget setting n m a env k room has (omega (arith, ln, le, lk)) (omega (arith, lm, le, lk))))
       (λ l2 r2 after le2 has2. SameReturn has2))))
-  same-execute budget w n m (While e a) env left room has ln lm =
-      same-turns budget w.world.stages n m (λ now. evaluate (with_turns n w) now.locals e) (λ now. evaluate (with_turns m w) now.locals e)
-      (execute_all (with_turns n w) a) (execute_all (with_turns m w) a) env left room
-      (λ now. straight-evaluate (with_turns n w) now.locals e)
-      (λ now. evaluate-with_turns w m now.locals e ∙ sym (evaluate-with_turns w n now.locals e))
-      (λ now l r le has2. same-execute_all budget w n m a now l r has2 (omega (arith, ln, le)) (omega (arith, lm, le))) has ln lm
-  same-execute budget w n m (syntax.Stage kind e) env left room has ln lm =
-      rw (evaluate-with_turns w n env.locals e, evaluate-with_turns w m env.locals e)
-      (straight-same budget left room (straight-evaluate w env.locals e) (λ l v le any. step_or_stop budget l room _ _ (λ k lk.
-      same-bind budget (same-go_to_stage budget w.world.stages k room kind env.stage v has) (λ l2 r2 stage le2 has2. SameReturn has2))))
-  same-execute budget w n m (NextStage kind) env left room has ln lm =
+  same-execute budget setting n m (While e a) env left room has ln lm =
+      same-turns budget setting.world.stages n m (λ now. evaluate (with_turns n setting) now.locals e) (λ now. evaluate (with_turns m setting) now.locals e)
+      (execute_all (with_turns n setting) a) (execute_all (with_turns m setting) a) env left room
+      (λ now. straight-evaluate (with_turns n setting) now.locals e)
+      (λ now. evaluate-with_turns setting m now.locals e ∙ sym (evaluate-with_turns setting n now.locals e))
+      (λ now l r le has2. same-execute_all budget setting n m a now l r has2 (omega (arith, ln, le)) (omega (arith, lm, le))) has ln lm
+  same-execute budget setting n m (syntax.Stage kind e) env left room has ln lm =
+      rw (evaluate-with_turns setting n env.locals e, evaluate-with_turns setting m env.locals e)
+      (straight-same budget left room (straight-evaluate setting env.locals e) (λ l v le any. step_or_stop budget l room _ _ (λ k lk.
+      same-bind budget (same-go_to_stage budget setting.world.stages k room kind env.stage v has) (λ l2 r2 stage le2 has2. SameReturn has2))))
+  same-execute budget setting n m (NextStage kind) env left room has ln lm =
       step_or_stop budget left room _ _ (λ k lk. same-bind budget
-      (straight-same budget k room (straight-fitting (env.stage.number +ℤ pos 1)) (λ l v le any. same-go_to_stage budget w.world.stages l room kind env.stage v has))
+      (straight-same budget k room (straight-fitting (env.stage.number +ℤ pos 1)) (λ l v le any. same-go_to_stage budget setting.world.stages l room kind env.stage v has))
       (λ l2 r2 stage le2 has2. SameReturn has2))
 
   -- the same for statements in order
-  pub same-execute_all : (budget : ℕ) (w : Setting) (n m : ℕ) (ss : Statements) (env : Environment) (left room : ℕ) → w.world.stages ≤ env.stage.count + room
+  pub same-execute_all : (budget : ℕ) (setting : Setting) (n m : ℕ) (ss : Statements) (env : Environment) (left room : ℕ) → setting.world.stages ≤ env.stage.count + room
       → left + budget * room < n → left + budget * room < m
-      → SameWithin budget (HasRoom w.world.stages) left room (execute_all (with_turns n w) ss env) (execute_all (with_turns m w) ss env)
-  same-execute_all budget w n m Empty env left room has ln lm = SameReturn has
-  same-execute_all budget w n m (Then s ss) env left room has ln lm =
-      same-bind budget (same-execute budget w n m s env left room has ln lm)
-      (λ l r after le has2. same-execute_all budget w n m ss after l r has2 (omega (arith, ln, le)) (omega (arith, lm, le)))
+      → SameWithin budget (HasRoom setting.world.stages) left room (execute_all (with_turns n setting) ss env) (execute_all (with_turns m setting) ss env)
+  same-execute_all budget setting n m Empty env left room has ln lm = SameReturn has
+  same-execute_all budget setting n m (Then s ss) env left room has ln lm =
+      same-bind budget (same-execute budget setting n m s env left room has ln lm)
+      (λ l r after le has2. same-execute_all budget setting n m ss after l r has2 (omega (arith, ln, le)) (omega (arith, lm, le)))
 
 -- one of two trees after the test of the loop
 same_or_raise : {P : ℕ → ℕ → ColumnEnd → Type 0} {budget left room : ℕ} (b : Bool) (t : Trap) (x y : Interaction ColumnEnd)
@@ -220,22 +220,22 @@ abbrev pub AnyEnd : ℕ → ℕ → ColumnEnd → Type 0
 AnyEnd left room e = Unit {0}
 
 -- an iteration does the same with two bounds that are above all steps that are left
-pub same-run_iteration : (budget : ℕ) (w : Setting) (n m : ℕ) (test : Expression) (body : Statements) (left room : ℕ) → w.world.stages ≤ 1 + room
+pub same-run_iteration : (budget : ℕ) (setting : Setting) (n m : ℕ) (test : Expression) (body : Statements) (left room : ℕ) → setting.world.stages ≤ 1 + room
     → left + budget * room < n → left + budget * room < m
-    → SameWithin budget AnyEnd left room (run_iteration (with_turns n w) test body) (run_iteration (with_turns m w) test body)
-same-run_iteration budget w n m test body left room has ln lm =
-    rw (evaluate-with_turns w n [] test, evaluate-with_turns w m [] test)
-    (straight-same budget left room (straight-evaluate w [] test) (λ l v le any. step_or_stop budget l room _ _ (λ k lk.
-    same_by_zero v (SameReturn tt) (same_or_raise (int_eq (pos w.world.iteration) w.world.iterations) traps.IterLimit _ _
-    (same-bind budget (same-execute_all budget w n m body first_environment k room has (omega (arith, ln, le, lk)) (omega (arith, lm, le, lk)))
+    → SameWithin budget AnyEnd left room (run_iteration (with_turns n setting) test body) (run_iteration (with_turns m setting) test body)
+same-run_iteration budget setting n m test body left room has ln lm =
+    rw (evaluate-with_turns setting n [] test, evaluate-with_turns setting m [] test)
+    (straight-same budget left room (straight-evaluate setting [] test) (λ l v le any. step_or_stop budget l room _ _ (λ k lk.
+    same_by_zero v (SameReturn tt) (same_or_raise (int_eq (pos setting.world.iteration) setting.world.iterations) traps.IterLimit _ _
+    (same-bind budget (same-execute_all budget setting n m body first_environment k room has (omega (arith, ln, le, lk)) (omega (arith, lm, le, lk)))
     (λ l2 r2 env le2 has2. SameReturn tt))))))
 
 -- the same for `init` and `final`
-pub same-execute_part : (budget : ℕ) (w : Setting) (n m : ℕ) (statements : Statements) (left room : ℕ) → w.world.stages ≤ 1 + room
+pub same-execute_part : (budget : ℕ) (setting : Setting) (n m : ℕ) (statements : Statements) (left room : ℕ) → setting.world.stages ≤ 1 + room
     → left + budget * room < n → left + budget * room < m
-    → SameWithin budget AnyEnd left room (execute_part (with_turns n w) statements) (execute_part (with_turns m w) statements)
-same-execute_part budget w n m statements left room has ln lm =
-    same-bind budget (same-execute_all budget w n m statements first_environment left room has ln lm) (λ l2 r2 env le2 has2. SameReturn tt)
+    → SameWithin budget AnyEnd left room (execute_part (with_turns n setting) statements) (execute_part (with_turns m setting) statements)
+same-execute_part budget setting n m statements left room has ln lm =
+    same-bind budget (same-execute_all budget setting n m statements first_environment left room has ln lm) (λ l2 r2 env le2 has2. SameReturn tt)
 
 -- all steps of an iteration are fewer than this bound on turns
 steps_below : (budget stages turns : ℕ) → 1 ≤ stages → stages * (budget + 1) ≤ turns → budget + budget * (stages - 1) < turns

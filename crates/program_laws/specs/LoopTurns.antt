@@ -8,7 +8,7 @@ use Rattle.pipe_model.specs.Language.ProgramsOfTrees.{execute_part, part_of}
 use Rattle.pipe_model.specs.Language.SyntaxTree.{Statements, SyntaxTree}
 
 abbrev pub with_turns : ℕ → Setting → Setting
-with_turns turns w = record w { turns = turns }
+with_turns turns setting = record setting { turns = turns }
 
 -- iteration i, with another bound on the turns of a loop
 abbrev pub iteration_with : SyntaxTree → List ℤ → ℕ → ℕ → Behaviour

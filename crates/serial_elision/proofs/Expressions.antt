@@ -28,22 +28,22 @@ pub joined : (code : ℕ) (a b : Expression) → IsRunnableExpression (binary_ex
 joined code a b h = joined_if (code == 1) (code == 2) code a b h refl
 
 -- the left operand breaks
-pub left_breaks : (w : Setting) (locals : List Local) (whole : Expression) (code : ℕ) (a b : Expression) (k k1 : ElisionState) (e : Halt) → whole ≡ Binary code a b
-    → Meets (Err e) (perform (evaluate w locals a) k) k1 → Meets (Err e) (perform (evaluate w locals whole) k) k1
-left_breaks w locals whole code a b k k1 e is h = rw is (meets_left (evaluate w locals a) _ k k1 e h)
+pub left_breaks : (setting : Setting) (locals : List Local) (whole : Expression) (code : ℕ) (a b : Expression) (k k1 : ElisionState) (e : Halt) → whole ≡ Binary code a b
+    → Meets (Err e) (perform (evaluate setting locals a) k) k1 → Meets (Err e) (perform (evaluate setting locals whole) k) k1
+left_breaks setting locals whole code a b k k1 e is h = rw is (meets_left (evaluate setting locals a) _ k k1 e h)
 
 -- the right operand breaks
-pub right_breaks : (w : Setting) (locals : List Local) (whole : Expression) (code : ℕ) (a b : Expression) (k k1 k2 : ElisionState) (x : ℤ) (e : Halt)
+pub right_breaks : (setting : Setting) (locals : List Local) (whole : Expression) (code : ℕ) (a b : Expression) (k k1 k2 : ElisionState) (x : ℤ) (e : Halt)
     → whole ≡ Binary code a b
-    → perform (evaluate w locals a) k ≡ Returned x k1 → Meets (Err e) (perform (evaluate w locals b) k1) k2
-    → Meets (Err e) (perform (evaluate w locals whole) k) k2
-right_breaks w locals whole code a b k k1 k2 x e is h m = rw is
-    (meets_next (evaluate w locals a) _ k k1 k2 x (Err e) h (meets_left (evaluate w locals b) _ k1 k2 e m))
+    → perform (evaluate setting locals a) k ≡ Returned x k1 → Meets (Err e) (perform (evaluate setting locals b) k1) k2
+    → Meets (Err e) (perform (evaluate setting locals whole) k) k2
+right_breaks setting locals whole code a b k k1 k2 x e is h m = rw is
+    (meets_next (evaluate setting locals a) _ k k1 k2 x (Err e) h (meets_left (evaluate setting locals b) _ k1 k2 e m))
 
 -- both have values, and the operator is applied
-pub both_give : (w : Setting) (locals : List Local) (whole : Expression) (code : ℕ) (a b : Expression) (k k1 k2 k3 : ElisionState) (x y : ℤ) (r : Result ℤ Halt)
+pub both_give : (setting : Setting) (locals : List Local) (whole : Expression) (code : ℕ) (a b : Expression) (k k1 k2 k3 : ElisionState) (x y : ℤ) (r : Result ℤ Halt)
     → whole ≡ Binary code a b
-    → perform (evaluate w locals a) k ≡ Returned x k1 → perform (evaluate w locals b) k1 ≡ Returned y k2 → Meets r (perform (Step (operate code x y)) k2) k3
-    → Meets r (perform (evaluate w locals whole) k) k3
-both_give w locals whole code a b k k1 k2 k3 x y r is h i m =
-    rw is (meets_next (evaluate w locals a) _ k k1 k3 x r h (meets_next (evaluate w locals b) _ k1 k2 k3 y r i m))
+    → perform (evaluate setting locals a) k ≡ Returned x k1 → perform (evaluate setting locals b) k1 ≡ Returned y k2 → Meets r (perform (Step (operate code x y)) k2) k3
+    → Meets r (perform (evaluate setting locals whole) k) k3
+both_give setting locals whole code a b k k1 k2 k3 x y r is h i m =
+    rw is (meets_next (evaluate setting locals a) _ k k1 k3 x r h (meets_next (evaluate setting locals b) _ k1 k2 k3 y r i m))

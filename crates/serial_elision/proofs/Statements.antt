@@ -15,69 +15,69 @@ use Rattle.serial_elision.specs.Runnable.{AreRunnable, IsRunnableStatement}
 use Rattle.serial_elision.proofs.Performing.{leaves_left, leaves_next, perform-bind}
 
 -- what follows the value of an expression goes on in the same instance
-after_value : (w : Setting) (ls : List Local) (e : Expression) (f : List Node → ℤ → Interaction Environment) (k k1 k2 : ElisionState) (v : ℤ)
+after_value : (setting : Setting) (ls : List Local) (e : Expression) (f : List Node → ℤ → Interaction Environment) (k k1 k2 : ElisionState) (v : ℤ)
     (r : Result (Unit {0}) Halt) (b : Environment) → k1.nodes ≡ k.nodes
-    → perform (evaluate w ls e) k ≡ Returned v k1 → Leaves r (perform (f k1.nodes v) k1) b k2 → Leaves r (perform (bind (evaluate w ls e) (f k.nodes)) k) b k2
-after_value w ls e f k k1 k2 v r b same h m =
-    leaves_next (evaluate w ls e) (f k.nodes) k k1 k2 v r b h (subst (λ (n : List Node). Leaves r (perform (f n v) k1) b k2) same m)
+    → perform (evaluate setting ls e) k ≡ Returned v k1 → Leaves r (perform (f k1.nodes v) k1) b k2 → Leaves r (perform (bind (evaluate setting ls e) (f k.nodes)) k) b k2
+after_value setting ls e f k k1 k2 v r b same h m =
+    leaves_next (evaluate setting ls e) (f k.nodes) k k1 k2 v r b h (subst (λ (n : List Node). Leaves r (perform (f n v) k1) b k2) same m)
 
 -- a declaration, where the value of its expression breaks
-pub let_left : (w : Setting) (ls : List Local) (whole : Statement) (x : List ℕ) (e : Expression) (k k1 : ElisionState) (err : Halt) (b : Environment)
+pub let_left : (setting : Setting) (ls : List Local) (whole : Statement) (x : List ℕ) (e : Expression) (k k1 : ElisionState) (err : Halt) (b : Environment)
     → whole ≡ Let x e
-    → Meets (Err err) (perform (evaluate w ls e) k) k1 → Leaves (Err err) (perform (execute w whole (environment_of ls k)) k) b k1
-let_left w ls whole x e k k1 err b is h = rw is (leaves_left (evaluate w ls e) _ k k1 err b h)
+    → Meets (Err err) (perform (evaluate setting ls e) k) k1 → Leaves (Err err) (perform (execute setting whole (environment_of ls k)) k) b k1
+let_left setting ls whole x e k k1 err b is h = rw is (leaves_left (evaluate setting ls e) _ k k1 err b h)
 
 -- an assignment, where the value of its expression breaks
-pub assign_left : (w : Setting) (ls : List Local) (whole : Statement) (x : List ℕ) (e : Expression) (k k1 : ElisionState) (err : Halt) (b : Environment)
+pub assign_left : (setting : Setting) (ls : List Local) (whole : Statement) (x : List ℕ) (e : Expression) (k k1 : ElisionState) (err : Halt) (b : Environment)
     → whole ≡ Assign x e
-    → Meets (Err err) (perform (evaluate w ls e) k) k1 → Leaves (Err err) (perform (execute w whole (environment_of ls k)) k) b k1
-assign_left w ls whole x e k k1 err b is h = rw is (leaves_left (evaluate w ls e) _ k k1 err b h)
+    → Meets (Err err) (perform (evaluate setting ls e) k) k1 → Leaves (Err err) (perform (execute setting whole (environment_of ls k)) k) b k1
+assign_left setting ls whole x e k k1 err b is h = rw is (leaves_left (evaluate setting ls e) _ k k1 err b h)
 
 -- an emit, where the value of its expression breaks
-pub emit_left : (w : Setting) (ls : List Local) (whole : Statement) (e : Expression) (k k1 : ElisionState) (err : Halt) (b : Environment) → whole ≡ Emit e
-    → Meets (Err err) (perform (evaluate w ls e) k) k1 → Leaves (Err err) (perform (execute w whole (environment_of ls k)) k) b k1
-emit_left w ls whole e k k1 err b is h = rw is (leaves_left (evaluate w ls e) _ k k1 err b h)
+pub emit_left : (setting : Setting) (ls : List Local) (whole : Statement) (e : Expression) (k k1 : ElisionState) (err : Halt) (b : Environment) → whole ≡ Emit e
+    → Meets (Err err) (perform (evaluate setting ls e) k) k1 → Leaves (Err err) (perform (execute setting whole (environment_of ls k)) k) b k1
+emit_left setting ls whole e k k1 err b is h = rw is (leaves_left (evaluate setting ls e) _ k k1 err b h)
 
 -- a next stage, where the value of its expression breaks
-pub stage_left : (w : Setting) (ls : List Local) (whole : Statement) (kind : StageKind) (e : Expression) (k k1 : ElisionState) (err : Halt) (b : Environment)
+pub stage_left : (setting : Setting) (ls : List Local) (whole : Statement) (kind : StageKind) (e : Expression) (k k1 : ElisionState) (err : Halt) (b : Environment)
     → whole ≡ Stage kind e
-    → Meets (Err err) (perform (evaluate w ls e) k) k1 → Leaves (Err err) (perform (execute w whole (environment_of ls k)) k) b k1
-stage_left w ls whole kind e k k1 err b is h = rw is (leaves_left (evaluate w ls e) _ k k1 err b h)
+    → Meets (Err err) (perform (evaluate setting ls e) k) k1 → Leaves (Err err) (perform (execute setting whole (environment_of ls k)) k) b k1
+stage_left setting ls whole kind e k k1 err b is h = rw is (leaves_left (evaluate setting ls e) _ k k1 err b h)
 
 -- a declaration after the value of its expression
-pub let_next : (w : Setting) (ls : List Local) (whole : Statement) (x : List ℕ) (e : Expression) (k k1 k2 : ElisionState) (v : ℤ) (r : Result (Unit {0}) Halt)
+pub let_next : (setting : Setting) (ls : List Local) (whole : Statement) (x : List ℕ) (e : Expression) (k k1 k2 : ElisionState) (v : ℤ) (r : Result (Unit {0}) Halt)
     (b : Environment) → whole ≡ Let x e → k1.nodes ≡ k.nodes
-    → perform (evaluate w ls e) k ≡ Returned v k1 → Leaves r (perform (Step (Return (environment_of (ls ++ record { name = x; value = v } ∷ []) k1))) k1) b k2
-    → Leaves r (perform (execute w whole (environment_of ls k)) k) b k2
-let_next w ls whole x e k k1 k2 v r b is same h m =
-    rw is (after_value w ls e (λ n y. Step (Return (environment_at (ls ++ record { name = x; value = y } ∷ []) n))) k k1 k2 v r b same h m)
+    → perform (evaluate setting ls e) k ≡ Returned v k1 → Leaves r (perform (Step (Return (environment_of (ls ++ record { name = x; value = v } ∷ []) k1))) k1) b k2
+    → Leaves r (perform (execute setting whole (environment_of ls k)) k) b k2
+let_next setting ls whole x e k k1 k2 v r b is same h m =
+    rw is (after_value setting ls e (λ n y. Step (Return (environment_at (ls ++ record { name = x; value = y } ∷ []) n))) k k1 k2 v r b same h m)
 
 -- an assignment after the value of its expression
-pub assign_next : (w : Setting) (ls : List Local) (whole : Statement) (x : List ℕ) (e : Expression) (k k1 k2 : ElisionState) (v : ℤ) (r : Result (Unit {0}) Halt)
+pub assign_next : (setting : Setting) (ls : List Local) (whole : Statement) (x : List ℕ) (e : Expression) (k k1 k2 : ElisionState) (v : ℤ) (r : Result (Unit {0}) Halt)
     (b : Environment) → whole ≡ Assign x e → k1.nodes ≡ k.nodes
-    → perform (evaluate w ls e) k ≡ Returned v k1 → Leaves r (perform (Step (assign (environment_of ls k1) (local_value ls x) (w.cells x) x v)) k1) b k2
-    → Leaves r (perform (execute w whole (environment_of ls k)) k) b k2
-assign_next w ls whole x e k k1 k2 v r b is same h m =
-    rw is (after_value w ls e (λ n y. Step (assign (environment_at ls n) (local_value ls x) (w.cells x) x y)) k k1 k2 v r b same h m)
+    → perform (evaluate setting ls e) k ≡ Returned v k1 → Leaves r (perform (Step (assign (environment_of ls k1) (local_value ls x) (setting.cells x) x v)) k1) b k2
+    → Leaves r (perform (execute setting whole (environment_of ls k)) k) b k2
+assign_next setting ls whole x e k k1 k2 v r b is same h m =
+    rw is (after_value setting ls e (λ n y. Step (assign (environment_at ls n) (local_value ls x) (setting.cells x) x y)) k k1 k2 v r b same h m)
 
 -- an emit after the value of its expression
-pub emit_next : (w : Setting) (ls : List Local) (whole : Statement) (e : Expression) (k k1 k2 : ElisionState) (v : ℤ) (r : Result (Unit {0}) Halt) (b : Environment)
+pub emit_next : (setting : Setting) (ls : List Local) (whole : Statement) (e : Expression) (k k1 k2 : ElisionState) (v : ℤ) (r : Result (Unit {0}) Halt) (b : Environment)
     → whole ≡ Emit e → k1.nodes ≡ k.nodes
-    → perform (evaluate w ls e) k ≡ Returned v k1 → Leaves r (perform (Step (bind (emit w.world.emits v) (λ done. Return (environment_of ls k1)))) k1) b k2
-    → Leaves r (perform (execute w whole (environment_of ls k)) k) b k2
-emit_next w ls whole e k k1 k2 v r b is same h m =
-    rw is (after_value w ls e (λ n y. Step (bind (emit w.world.emits y) (λ done. Return (environment_at ls n)))) k k1 k2 v r b same h m)
+    → perform (evaluate setting ls e) k ≡ Returned v k1 → Leaves r (perform (Step (bind (emit setting.world.emits v) (λ done. Return (environment_of ls k1)))) k1) b k2
+    → Leaves r (perform (execute setting whole (environment_of ls k)) k) b k2
+emit_next setting ls whole e k k1 k2 v r b is same h m =
+    rw is (after_value setting ls e (λ n y. Step (bind (emit setting.world.emits y) (λ done. Return (environment_at ls n)))) k k1 k2 v r b same h m)
 
 -- a next stage after the value of its expression
-pub stage_next : (w : Setting) (ls : List Local) (whole : Statement) (kind : StageKind) (e : Expression) (k k1 k2 : ElisionState) (v : ℤ) (r : Result (Unit {0}) Halt)
+pub stage_next : (setting : Setting) (ls : List Local) (whole : Statement) (kind : StageKind) (e : Expression) (k k1 k2 : ElisionState) (v : ℤ) (r : Result (Unit {0}) Halt)
     (b : Environment) → whole ≡ Stage kind e
-    → k1.nodes ≡ k.nodes → k1.basis.stages ≡ w.world.stages
-    → perform (evaluate w ls e) k ≡ Returned v k1
+    → k1.nodes ≡ k.nodes → k1.basis.stages ≡ setting.world.stages
+    → perform (evaluate setting ls e) k ≡ Returned v k1
     → Leaves r (perform (Step (bind (go_to_stage k1.basis.stages kind (position_of k1.nodes) v) (λ stage. Return (record { locals = ls; stage = stage }))))
     k1) b k2
-    → Leaves r (perform (execute w whole (environment_of ls k)) k) b k2
-stage_next w ls whole kind e k k1 k2 v r b is same most h m =
-    rw is (after_value w ls e (λ n y. Step (bind (go_to_stage w.world.stages kind (position_of n) y)
+    → Leaves r (perform (execute setting whole (environment_of ls k)) k) b k2
+stage_next setting ls whole kind e k k1 k2 v r b is same most h m =
+    rw is (after_value setting ls e (λ n y. Step (bind (go_to_stage setting.world.stages kind (position_of n) y)
     (λ stage. Return (record { locals = ls; stage = stage })))) k k1 k2 v r b same h
     (subst (λ (s : ℕ). Leaves r (perform (Step (bind (go_to_stage s kind (position_of k1.nodes) v)
     (λ stage. Return (record { locals = ls; stage = stage })))) k1) b k2) most m))
@@ -93,25 +93,25 @@ pub runnable_step : (ss : List Stmt) (i : ℕ) (s : Stmt) → i < length ss → 
 runnable_step ss i s h e r = subst AreRunnable (statements_step ss i s h e) r
 
 -- the first of them is performed
-unrolled : (w : Setting) (ss : List Stmt) (i : ℕ) (s : Stmt) (env : Environment) (k : ElisionState) → i < length ss → s ≡ get_or ss i s
-    → perform (execute_all w (statements_of (drop i ss)) env) k ≡ interpreted_bind (perform (execute w (statement_of s) env) k)
-    (λ a j. perform (execute_all w (statements_of (drop (i + 1) ss)) a) j)
-unrolled w ss i s env k h e =
-    ap (λ (t : Statements). perform (execute_all w t env) k) (statements_step ss i s h e)
-    ∙ perform-bind (execute w (statement_of s) env) (execute_all w (statements_of (drop (i + 1) ss))) k
+unrolled : (setting : Setting) (ss : List Stmt) (i : ℕ) (s : Stmt) (env : Environment) (k : ElisionState) → i < length ss → s ≡ get_or ss i s
+    → perform (execute_all setting (statements_of (drop i ss)) env) k ≡ interpreted_bind (perform (execute setting (statement_of s) env) k)
+    (λ a j. perform (execute_all setting (statements_of (drop (i + 1) ss)) a) j)
+unrolled setting ss i s env k h e =
+    ap (λ (t : Statements). perform (execute_all setting t env) k) (statements_step ss i s h e)
+    ∙ perform-bind (execute setting (statement_of s) env) (execute_all setting (statements_of (drop (i + 1) ss))) k
 
 -- the first comes to its end, and the others go on
-pub statement_step : (w : Setting) (ss : List Stmt) (i : ℕ) (s : Stmt) (env after : Environment) (k k1 : ElisionState) → i < length ss → s ≡ get_or ss i s
-    → perform (execute w (statement_of s) env) k ≡ Returned after k1
-    → perform (execute_all w (statements_of (drop i ss)) env) k ≡ perform (execute_all w (statements_of (drop (i + 1) ss)) after) k1
-statement_step w ss i s env after k k1 h e m =
-    unrolled w ss i s env k h e ∙ ap (λ r. interpreted_bind r (λ a j. perform (execute_all w (statements_of (drop (i + 1) ss)) a) j)) m
+pub statement_step : (setting : Setting) (ss : List Stmt) (i : ℕ) (s : Stmt) (env after : Environment) (k k1 : ElisionState) → i < length ss → s ≡ get_or ss i s
+    → perform (execute setting (statement_of s) env) k ≡ Returned after k1
+    → perform (execute_all setting (statements_of (drop i ss)) env) k ≡ perform (execute_all setting (statements_of (drop (i + 1) ss)) after) k1
+statement_step setting ss i s env after k k1 h e m =
+    unrolled setting ss i s env k h e ∙ ap (λ r. interpreted_bind r (λ a j. perform (execute_all setting (statements_of (drop (i + 1) ss)) a) j)) m
 
 -- the first breaks, and so do all
-pub statement_breaks : (w : Setting) (ss : List Stmt) (i : ℕ) (s : Stmt) (env after : Environment) (k k1 : ElisionState) (err : Halt) → i < length ss
+pub statement_breaks : (setting : Setting) (ss : List Stmt) (i : ℕ) (s : Stmt) (env after : Environment) (k k1 : ElisionState) (err : Halt) → i < length ss
     → s ≡ get_or ss i s
-    → Leaves (Err err) (perform (execute w (statement_of s) env) k) after k1
-    → Leaves (Err err) (perform (execute_all w (statements_of (drop i ss)) env) k) after k1
-statement_breaks w ss i s env after k k1 (halts.Trap t) h e m =
-    unrolled w ss i s env k h e ∙ ap (λ r. interpreted_bind r (λ a j. perform (execute_all w (statements_of (drop (i + 1) ss)) a) j)) m
-statement_breaks w ss i s env after k k1 halts.NoMemory h e m = tt
+    → Leaves (Err err) (perform (execute setting (statement_of s) env) k) after k1
+    → Leaves (Err err) (perform (execute_all setting (statements_of (drop i ss)) env) k) after k1
+statement_breaks setting ss i s env after k k1 (halts.Trap t) h e m =
+    unrolled setting ss i s env k h e ∙ ap (λ r. interpreted_bind r (λ a j. perform (execute_all setting (statements_of (drop (i + 1) ss)) a) j)) m
+statement_breaks setting ss i s env after k k1 halts.NoMemory h e m = tt

@@ -126,7 +126,7 @@ broken_at mark = first_broken mark rules_in_order
 
 -- why a program is refused
 pub data Fault : Type 0 where
-  OutOfLimit : ℕ → Fault  -- which limit
+  LimitOut : ℕ → Fault  -- which limit
   Broken : CheckingRule → ℕ → Fault  -- a rule, and the number of the mark that breaks it
 
 -- the fault of the mark with this number, if it has one, or else `rest`
@@ -155,7 +155,7 @@ first_limit_out limits =
 
 -- the fault of a limit, if one is out of its range, or else `rest`
 abbrev pub limit_fault_or : Option ℕ → Option Fault → Option Fault
-limit_fault_or (Some which) rest = Some (OutOfLimit which)
+limit_fault_or (Some which) rest = Some (LimitOut which)
 limit_fault_or None rest = rest
 
 -- the first fault of a program, if it breaks a rule

@@ -12,7 +12,7 @@ use Rattle.pipe_model.specs.Pipelines.WholePrograms.{WholeProgram, loop_after_in
 
 -- the statements of `init` or `final`, which begin without locals
 abbrev pub execute_part : Setting → Statements → Interaction ColumnEnd
-execute_part w statements = bind (execute_all w statements first_environment) (λ env. Return ends.End)
+execute_part setting statements = bind (execute_all setting statements first_environment) (λ env. Return ends.End)
 
 -- the behaviour of `init` or `final`. The iteration number 0 is never read: the checker rejects `iter()` there.
 abbrev pub part_of : SyntaxTree → List ℤ → Statements → Behaviour

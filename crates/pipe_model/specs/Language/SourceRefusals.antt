@@ -3,7 +3,7 @@
 use Rattle.std.specs.Prelude.{◌≡◌, ℕ, pos, List, length, slice_get, Option, Some, None}
 use Rattle.pipe_model.specs.declared.token.Token.{Token}
 use Rattle.pipe_model.specs.Language.CheckingRules as checking
-use Rattle.pipe_model.specs.Language.CheckingRules.{OutOfLimit, Broken, fault_of}
+use Rattle.pipe_model.specs.Language.CheckingRules.{Broken, fault_of}
 use Rattle.pipe_model.specs.Language.MarkPlaces.{mark_places}
 use Rattle.pipe_model.specs.Language.SourceSpelling.{SourceSpells}
 use Rattle.pipe_model.specs.Language.Spelling as grammar
@@ -43,6 +43,6 @@ pub data IsRefused (source : List ℕ) : Refusal → Type 0 where
   ForItsText : (fault : LexicalFault) → HasFault source fault → IsRefused source (Lexical fault)
   ForAToken : (tokens : List Token) (rule : grammar.GrammarRule) (place : ℕ) → IsLexed source tokens → BreaksAt source tokens rule place
       → IsRefused source (Syntactic rule place)
-  ForALimit : (tree : SyntaxTree) (which : ℕ) → SourceSpells source tree → fault_of tree ≡ Some (OutOfLimit which) → IsRefused source (LimitOut which)
+  ForALimit : (tree : SyntaxTree) (which : ℕ) → SourceSpells source tree → fault_of tree ≡ Some (checking.LimitOut which) → IsRefused source (LimitOut which)
   ForARule : (tree : SyntaxTree) (rule : checking.CheckingRule) (mark place : ℕ) (spelled : SourceSpells source tree) → fault_of tree ≡ Some (Broken rule mark)
       → slice_get (mark_places spelled.tokens) mark ≡ Some (pos place) → IsRefused source (RuleBroken rule place)
