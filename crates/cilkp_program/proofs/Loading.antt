@@ -1,7 +1,8 @@
 -- What the reading of a whole file tells of a source and of an input.
-use Rattle.std.proofs.Common.{◌≡◌, ◌<◌, ◌+◌, ℕ, List, [], length, replicate, Option, Some, None, Result, Ok, Err, IfOk, IfSome, refl, ap, sym, arith}
-use Rattle.std.proofs.lemmas.List.{length-replicate, nil_from_length}
-use Rattle.pipe_lexer.specs.declared.fault.LexFault.TheVariants as lexer
+use Rattle.std.proofs.Common.{◌≡◌, ◌<◌, ◌+◌, ℕ, List, [], length, Option, Some, None, Result, Ok, Err, IfOk, IfSome, refl, ap, sym, arith}
+use Rattle.std.proofs.lemmas.List.{nil_from_length, take_all}
+use Rattle.grammar_laws.proofs.SourceRefusals.{one_refusal}
+use Rattle.pipe_model.specs.declared.bounds.TheConstants.{LONGEST_SOURCE}
 use Rattle.pipe_model.specs.declared.memory.NoMemory.{NoMemory}
 use Rattle.pipe_model.specs.Language.SourceRefusals.{ForItsText, Lexical}
 use Rattle.pipe_model.specs.Language.Tokens.{IsTooLong, SourceTooLong}
@@ -11,7 +12,6 @@ use Rattle.cilkp_program.specs.declared.whole.Whole.TheVariants as whole
 use Rattle.cilkp_program.specs.Reads.{Content}
 use Rattle.cilkp_program.specs.Rows.{InputRefusal, InputMissing, InputNotEmpty, SourceRefusal, SourceMissing, NotAccepted}
 use Rattle.cilkp_program.specs.LoadedFiles.{IsLoadOf, IsSourceFrom, IsSourceResult}
-use Rattle.cilkp_program.specs.RefusalLines.{IsLexicalLine}
 use Rattle.cilkp_program.specs.declared.load.Source.{Source}
 use Rattle.cilkp_program.specs.declared.load.Source.TheVariants as sources
 use Rattle.cilkp_program.proofs.OneRow.{one_held}
@@ -26,7 +26,7 @@ pub record IsOfFile (holds : Option Content) (name : List ℕ) (limit : ℕ) (an
 -- a file that gives the answer, where nothing is told of it
 some_file : (limit : ℕ) (answer : Whole) → IsUpTo limit answer → (file : Option (List ℕ)) × IsWholeOf file limit answer
 some_file limit (whole.Bytes bytes) up = (Some bytes, (refl, up))
-some_file limit whole.TooLong up = (Some (replicate (limit + 1) 0), omega (arith, length-replicate {A = ℕ} (limit + 1) 0))
+some_file limit (whole.TooLong bytes) up = (Some bytes, ((sym (take_all bytes (length bytes) (omega arith)), omega arith), up))
 some_file limit whole.Missing up = (None, tt)
 some_file limit whole.Failed up = (None, tt)
 
@@ -41,10 +41,11 @@ missing_is_none : (file : Option (List ℕ)) (limit : ℕ) → IsWholeOf file li
 missing_is_none None limit h = refl
 missing_is_none (Some held) limit h = absurd h
 
--- the file is there, and is longer than the limit
-too_long_is_held : (file : Option (List ℕ)) (limit : ℕ) → IsWholeOf file limit whole.TooLong → (held : List ℕ) × (file ≡ Some held) × (limit < length held)
-too_long_is_held None limit h = absurd h
-too_long_is_held (Some held) limit h = (held, refl, h)
+-- the file is there, and is longer than the limit, as are the bytes that were read
+too_long_is_held : (file : Option (List ℕ)) (limit : ℕ) (bytes : List ℕ) → IsWholeOf file limit (whole.TooLong bytes)
+    → (held : List ℕ) × (file ≡ Some held) × (limit < length held) × (limit < length bytes)
+too_long_is_held None limit bytes h = absurd h
+too_long_is_held (Some held) limit bytes h = (held, refl, omega (arith, h.0.1, h.1), h.1)
 
 -- the file is there, and these are its bytes
 bytes_are_held : (file : Option (List ℕ)) (limit : ℕ) (bytes : List ℕ) → IsWholeOf file limit (whole.Bytes bytes) → file ≡ Some bytes
@@ -54,12 +55,6 @@ bytes_are_held (Some held) limit bytes h = ap Some (sym h.0)
 -- a source that is missing is refused
 pub source_is_missing : (file : Option (List ℕ)) (name line : List ℕ) (limit : ℕ) → line ≡ refused_missing name → IsWholeOf file limit whole.Missing → SourceRefusal name file line
 source_is_missing file name line limit e h = rw e (SourceMissing (missing_is_none file limit h))
-
--- a source that is too long is refused
-pub source_is_too_long : (file : Option (List ℕ)) (name line : List ℕ) → IsLexicalLine lexer.SourceTooLong line → IsWholeOf file 1048576 whole.TooLong → SourceRefusal name file line
-source_is_too_long file name line e h =
-    let f = too_long_is_held file 1048576 h in
-    rw e (NotAccepted f.0 (Lexical SourceTooLong) f.1 (ForItsText SourceTooLong (IsTooLong f.2)))
 
 -- what the bytes of a file gave, the file gave
 pub file_gave : (file : Option (List ℕ)) (name bytes : List ℕ) (limit : ℕ) (source : Source) → IsWholeOf file limit (whole.Bytes bytes) → IsLoadOf bytes source
@@ -81,14 +76,34 @@ pub source_answer : (holds : Option Content) (name : List ℕ) (limit : ℕ) (by
 source_answer holds name limit bytes (Ok source) f g = record { file = f.file; told = f.told; gave = file_gave f.file name bytes limit source f.is g }
 source_answer holds name limit bytes (Err m) f g = g
 
+-- the lexer refuses the first bytes of a source that is too long, and so the source
+prefix_gave : (file : Option (List ℕ)) (name bytes : List ℕ) (source : Source) → IsWholeOf file LONGEST_SOURCE (whole.TooLong bytes) → IsLoadOf bytes source
+    → IsSourceFrom name file source
+prefix_gave file name bytes (sources.Accepted loaded) h g =
+    let f = too_long_is_held file LONGEST_SOURCE bytes h in
+    let short = g.accepted.spelled.lexed.short in
+    absurd (omega (arith, f.3, short))
+prefix_gave file name bytes (sources.Refused line) h g =
+    let f = too_long_is_held file LONGEST_SOURCE bytes h in
+    let same : g.refusal ≡ Lexical SourceTooLong = one_refusal g.refused (ForItsText SourceTooLong (IsTooLong f.3)) in
+    rw (g.line_is, same) (NotAccepted f.0 (Lexical SourceTooLong) f.1 (ForItsText SourceTooLong (IsTooLong f.2)))
+prefix_gave file name bytes sources.Failed h g = absurd g
+
+-- the result of loading a source that is too long
+pub long_source_answer : (holds : Option Content) (name bytes : List ℕ) (r : Result Source NoMemory) → IsOfFile holds name LONGEST_SOURCE (whole.TooLong bytes)
+    → IfOk r (λ source. IsLoadOf bytes source) → IfOk r (λ source. IsSourceResult holds name source)
+long_source_answer holds name bytes (Ok source) f g = record { file = f.file; told = f.told; gave = prefix_gave f.file name bytes source f.is g }
+long_source_answer holds name bytes (Err m) f g = g
+
 -- an input that is missing is refused
 pub input_is_missing : (file : Option (List ℕ)) (name line : List ℕ) (limit : ℕ) → line ≡ refused_missing name → IsWholeOf file limit whole.Missing → InputRefusal name file line
 input_is_missing file name line limit e h = rw e (InputMissing (missing_is_none file limit h))
 
 -- an input that is not empty is refused
-pub input_is_not_empty : (file : Option (List ℕ)) (name line : List ℕ) → line ≡ refused_input → IsWholeOf file 0 whole.TooLong → InputRefusal name file line
-input_is_not_empty file name line e h =
-    let f = too_long_is_held file 0 h in rw e (InputNotEmpty f.0 f.1 (λ none. omega (arith, f.2, ap length none)))
+pub input_is_not_empty : (file : Option (List ℕ)) (name line bytes : List ℕ) → line ≡ refused_input → IsWholeOf file 0 (whole.TooLong bytes)
+    → InputRefusal name file line
+input_is_not_empty file name line bytes e h =
+    let f = too_long_is_held file 0 bytes h in rw e (InputNotEmpty f.0 f.1 (λ none. omega (arith, f.2, ap length none)))
 
 -- an input without bytes is empty
 pub input_is_empty : (file : Option (List ℕ)) (bytes : List ℕ) → IsWholeOf file 0 (whole.Bytes bytes) → file ≡ Some []

@@ -10,25 +10,30 @@ use Rattle.cilkp_program.specs.declared.whole.Whole.TheVariants.{Bytes, TooLong,
 -- whether the reading ended with a fault
 abbrev pub is_file_fault : Whole → Bool
 is_file_fault (Bytes bytes) = false
-is_file_fault TooLong = false
+is_file_fault (TooLong bytes) = false
 is_file_fault Missing = false
 is_file_fault Failed = true
+
+-- these bytes stand at the front of the file, and where there is no file they are none
+abbrev pub IsFrontOf : Option (List ℕ) → List ℕ → Type 0
+IsFrontOf None bytes = bytes ≡ []
+IsFrontOf (Some held) bytes = (bytes ≡ take (length bytes) held) × (length bytes ≤ length held)
 
 -- where bytes are answered, they are no more than the limit
 abbrev pub IsUpTo : ℕ → Whole → Type 0
 IsUpTo limit (Bytes bytes) = length bytes ≤ limit
-IsUpTo limit TooLong = Unit {0}
+IsUpTo limit (TooLong bytes) = limit < length bytes
 IsUpTo limit Missing = Unit {0}
 IsUpTo limit Failed = Unit {0}
 
 -- an answer that is no fault tells exactly whether there is a file, whether it is longer than the limit, and its bytes
 abbrev pub IsWholeOf : Option (List ℕ) → ℕ → Whole → Type 0
 IsWholeOf None limit (Bytes bytes) = ⊥
-IsWholeOf None limit TooLong = ⊥
+IsWholeOf None limit (TooLong bytes) = ⊥
 IsWholeOf None limit Missing = Unit {0}
 IsWholeOf None limit Failed = Unit {0}
 IsWholeOf (Some held) limit (Bytes bytes) = (bytes ≡ held) × (length held ≤ limit)
-IsWholeOf (Some held) limit TooLong = limit < length held
+IsWholeOf (Some held) limit (TooLong bytes) = IsFrontOf (Some held) bytes × (limit < length bytes)
 IsWholeOf (Some held) limit Missing = ⊥
 IsWholeOf (Some held) limit Failed = Unit {0}
 
@@ -37,11 +42,6 @@ abbrev pub is_text_fault : WriteEnd → Bool
 is_text_fault ends.Whole = false
 is_text_fault ends.Failed = true
 is_text_fault ends.NoMemory = false
-
--- these bytes stand at the front of the file, and where there is no file they are none
-abbrev pub IsFrontOf : Option (List ℕ) → List ℕ → Type 0
-IsFrontOf None bytes = bytes ≡ []
-IsFrontOf (Some held) bytes = (bytes ≡ take (length bytes) held) × (length bytes ≤ length held)
 
 -- where a further read found nothing more, the bytes are the whole file
 abbrev pub EndsAt : Option (List ℕ) → List ℕ → ReadPart → Type 0

@@ -11,7 +11,6 @@ use crate::text::{line, named_line};
 use crate::whole::{Whole, read_whole};
 use pipe_check::checked::Checked;
 use pipe_check::program::check;
-use pipe_lexer::fault::LexFault;
 use pipe_lexer::scan::tokens;
 use pipe_model::bounds::LONGEST_SOURCE;
 use pipe_model::list::Bytes;
@@ -53,7 +52,8 @@ pub fn load_source<F: Files>(alloc: Global, files: &mut F, name: &str) -> Result
     match read_whole(alloc, files, name, LONGEST_SOURCE)? {
         Whole::Missing => Ok(Source::Refused(named_line(alloc, MISSING, name)?)),
         Whole::Failed => Ok(Source::Failed),
-        Whole::TooLong => Ok(Source::Refused(lexical_line(alloc, LexFault::SourceTooLong)?)),
+        // The lexer refuses the bytes that were read, since they are too long.
+        Whole::TooLong(prefix) => source_of(alloc, prefix.as_slice()),
         Whole::Bytes(bytes) => source_of(alloc, bytes.as_slice()),
     }
 }
@@ -101,7 +101,7 @@ pub fn load_input<F: Files>(alloc: Global, files: &mut F, name: &str) -> Result<
     match read_whole(alloc, files, name, 0)? {
         Whole::Missing => return Ok(Input::Refused(named_line(alloc, MISSING, name)?)),
         Whole::Failed => return Ok(Input::Failed),
-        Whole::TooLong => return Ok(Input::Refused(line(alloc, INPUT_NOT_BUILT)?)),
+        Whole::TooLong(_) => return Ok(Input::Refused(line(alloc, INPUT_NOT_BUILT)?)),
         Whole::Bytes(_) => {}
     }
     Ok(Input::Empty)

@@ -30,7 +30,7 @@ fn clean_files_and_sinks(rt: HostRuntime) -> Result<(), Fail> {
     assert!(rt;
         matches!(
             &read_whole(rt.alloc(), &mut files, "text", 19)?,
-            Whole::TooLong
+            Whole::TooLong(_)
         )
     );
     let mut sink = CleanSink::new(rt.alloc(), 7);

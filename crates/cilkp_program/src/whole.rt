@@ -17,8 +17,8 @@ use std::alloc::Global;
 pub enum Whole {
     /// All bytes of the file, which are no more than the limit.
     Bytes(Bytes),
-    /// The file is longer than the limit.
-    TooLong,
+    /// The file is longer than the limit. These are its first bytes, of which there are more than the limit.
+    TooLong(Bytes),
     /// There is no file of that name.
     Missing,
     /// A read failed.
@@ -64,7 +64,7 @@ pub fn read_whole<F: Files>(
             ReadPart::Got(_) => {}
         }
     }
-    Ok(Whole::TooLong)
+    Ok(Whole::TooLong(Bytes::from_vec(bytes)))
 }
 
 // Reads a part of the file behind the bytes at its front that were read before.

@@ -1,6 +1,6 @@
 //! What stands at the front of bytes: a blank, a comment or a token.
 
-ghost use Rattle.std.specs.Prelude.{◌≡◌, ◌∷◌, IfErr, IfOk, true, false};
+ghost use Rattle.std.specs.Prelude.{◌≡◌, ◌∷◌, ◌<◌, IfErr, IfOk, length, true, false};
 ghost use Rattle.pipe_model.specs.Language.Lexis.{is_digit, is_letter};
 ghost use Rattle.pipe_lexer.specs.Pieces.{BeginsPunctuation, IsFlaw, IsPiece, length_of, operator_length};
 
@@ -108,12 +108,14 @@ fn punctuation(bytes: &[u8], first: u8) -> Result<Piece, Flaw>
     Ok(Piece::Taken(TokenKind::Sign(first), 1))
 }
 
-/// What stands at the front of the bytes, whose first is given with those behind it.
-pub fn piece_at(bytes: &[u8], first: u8, behind: &[u8]) -> Result<Piece, Flaw>
-    requires { bytes.now ≡ first ∷ behind.now }
+/// Returns the piece at the start of the bytes, of which there is at least one, or what is wrong there.
+pub fn piece_at(bytes: &[u8]) -> Result<Piece, Flaw>
+    requires { 0 < length bytes.now }
     ensures piece { IfOk result (λ piece. IsPiece bytes.now piece) }
     ensures flaw { IfErr result (λ flaw. IsFlaw bytes.now flaw) }
 {
+    let first = bytes[0];
+    let rest = &bytes[1..];
     if is_blank(first) {
         return Ok(Piece::Gap(1));
     }
@@ -121,10 +123,10 @@ pub fn piece_at(bytes: &[u8], first: u8, behind: &[u8]) -> Result<Piece, Flaw>
         return Ok(Piece::Gap(line_bytes(bytes)));
     }
     if is_letter(first) {
-        return word_or_name(bytes, first, behind);
+        return word_or_name(bytes, first, rest);
     }
     if is_digit(first) {
-        return number(bytes, first, behind);
+        return number(bytes, first, rest);
     }
     punctuation(bytes, first)
 }

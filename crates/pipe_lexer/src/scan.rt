@@ -53,9 +53,9 @@ pub fn tokens(alloc: Global, source: &[u8]) -> Result<Tokens, LexFault>
     }
     let mut found = Tokens::with_capacity(alloc, source.len() / 4)?;
     let mut rest = source;
-    while let Some((first, behind)) = rest.split_first() {
+    while !rest.is_empty() {
         let place = (source.len() - rest.len()) as u32;
-        let piece = match piece_at(rest, *first, behind) {
+        let piece = match piece_at(rest) {
             Ok(piece) => piece,
             Err(flaw) => return Err(flaw.at(place)),
         };

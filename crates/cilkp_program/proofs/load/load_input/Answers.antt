@@ -9,7 +9,7 @@ returns-in-Missing-clause-answer g c =
 pub returns-in-TooLong-clause-answer : goal.returns-in-TooLong-clause-answer
 returns-in-TooLong-clause-answer g c =
     let whole = rw c.in-TooLong.is at (of_file (g.F.Files.holds c.args.files.now) c.args.name.now 0 c.in_ok-read_whole.field-0 c.in_ok-read_whole.ensures.limit c.in_ok-read_whole.ensures.told) in
-    record { file = whole.file; told = whole.told; gave = input_is_not_empty _ _ _ c.in_ok-line-in-TooLong.ensures whole.is }
+    record { file = whole.file; told = whole.told; gave = input_is_not_empty _ _ _ _ c.in_ok-line-in-TooLong.ensures whole.is }
 
 pub returns-in-Failed-clause-answer : goal.returns-in-Failed-clause-answer
 returns-in-Failed-clause-answer g c =

@@ -1,4 +1,4 @@
-use Rattle.cilkp_program.proofs.Loading.{of_file, source_answer, source_is_missing, source_is_too_long}
+use Rattle.cilkp_program.proofs.Loading.{long_source_answer, of_file, source_answer, source_is_missing}
 use Rattle.cilkp_program.proofs.load.load_source.Goals as goal
 
 pub returns-in_ok-named_line-in-Missing-clause-answer : goal.returns-in_ok-named_line-in-Missing-clause-answer
@@ -10,10 +10,10 @@ pub returns-in-Failed-clause-answer : goal.returns-in-Failed-clause-answer
 returns-in-Failed-clause-answer g c =
     let whole = of_file (g.F.Files.holds c.args.files.now) c.args.name.now 1048576 c.in_ok-read_whole.field-0 c.in_ok-read_whole.ensures.limit c.in_ok-read_whole.ensures.told in record { file = whole.file; told = whole.told; gave = tt }
 
-pub returns-in_ok-lexical_line-in-TooLong-clause-answer : goal.returns-in_ok-lexical_line-in-TooLong-clause-answer
-returns-in_ok-lexical_line-in-TooLong-clause-answer g c =
+pub returns-in-TooLong-clause-answer : goal.returns-in-TooLong-clause-answer
+returns-in-TooLong-clause-answer g c =
     let whole = rw c.in-TooLong.is at (of_file (g.F.Files.holds c.args.files.now) c.args.name.now 1048576 c.in_ok-read_whole.field-0 c.in_ok-read_whole.ensures.limit c.in_ok-read_whole.ensures.told) in
-    record { file = whole.file; told = whole.told; gave = source_is_too_long _ _ _ c.in_ok-lexical_line-in-TooLong.ensures whole.is }
+    long_source_answer _ _ _ _ whole (rw c.as_slice-in-TooLong.ensures at c.source_of-in-TooLong.ensures)
 
 pub returns-in-Bytes-clause-answer : goal.returns-in-Bytes-clause-answer
 returns-in-Bytes-clause-answer g c =

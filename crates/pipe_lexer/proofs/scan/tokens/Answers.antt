@@ -11,19 +11,19 @@ returns-then-source-gt-LONGEST_SOURCE-clause-fault c = IsTooLong (omega arith)
 
 pub returns-in-Err-clause-fault : goal.returns-in-Err-clause-fault
 returns-in-Err-clause-fault c =
-    let flaw : IsFlaw c.loop-first.rest.now c.in-Err.flaw = rw c.in-Err.is at c.piece_at.ensures.flaw in
-    rw c.at.ensures (at_flaw _ _ _ _ _ c.loop-first.invariant flaw (search rules))
+    let flaw : IsFlaw c.loop-rest.rest.now c.in-Err.flaw = rw c.in-Err.is at c.piece_at.ensures.flaw in
+    rw c.at.ensures (at_flaw _ _ _ _ _ c.loop-rest.invariant flaw (search rules))
 
-pub loop-first-preserved : goal.loop-first-preserved
-loop-first-preserved c =
-    let rest = c.loop-first.rest.now in
+pub loop-rest-preserved : goal.loop-rest-preserved
+loop-rest-preserved c =
+    let rest = c.loop-rest.rest.now in
     let piece : IsPiece rest c.in-Ok.piece = rw c.in-Ok.is at c.piece_at.ensures.piece in
     let n = c.length.result in
     let tail : take (length rest - n) (drop n rest) ≡ drop n rest = take_all _ _ (omega (arith, length-drop n rest)) in
-    let kept : c.keep.new.found ≡ c.loop-first.found ++ tokens_of c.in-Ok.piece (length c.args.source.now - length rest) = search rules in
-    rw (tail, kept, c.length.ensures) (past_piece _ _ _ _ _ c.loop-first.invariant piece (search rules))
+    let kept : c.keep.new.found ≡ c.loop-rest.found ++ tokens_of c.in-Ok.piece (length c.args.source.now - length rest) = search rules in
+    rw (tail, kept, c.length.ensures) (past_piece _ _ _ _ _ c.loop-rest.invariant piece (search rules))
 
 pub returns-clause-tokens : goal.returns-clause-tokens
 returns-clause-tokens c =
-    let none : c.loop-first.rest.now ≡ [] = nil_from_length _ c.in_default.ensures.cases in
-    at_end _ _ (rw none at c.loop-first.invariant)
+    let none : c.loop-rest.rest.now ≡ [] = nil_from_length _ (search rules) in
+    at_end _ _ (rw none at c.loop-rest.invariant)
