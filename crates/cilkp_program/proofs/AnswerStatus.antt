@@ -1,4 +1,4 @@
--- What the status of an answer tells: its causes, and whether a run is logged.
+-- What follows from the status of a result: its cause, and whether there is a run log.
 use Rattle.std.proofs.Common.{◌≡◌, ◌≤◌, ◌⊎◌, ◌↔◌, ℕ, List, Option, Some, None, refl, inl, inr, arith, ℤ, []}
 use Rattle.pipe_model.specs.declared.event.RunLog.{RunLog}
 use Rattle.pipe_model.specs.declared.report.Report.{Report}
@@ -16,11 +16,11 @@ outcome_status (Races reports some first) = inr (inl refl)
 outcome_status (Finishes free ends) = inl refl
 outcome_status (Traps t free ends) = inr (inr refl)
 
--- the log is missing exactly where the status is that of a refusal or a fault of reading, or the words are that of a format
+-- there is no log exactly if the status is that of a refusal or of a read that failed, or the words are a `format` command
 abbrev IsLogged : List (List ℕ) → ℕ → Option RunLog → Type 0
 IsLogged words status log = (log ≡ None) ↔ ((status ≡ 1) ⊎ ((status ≡ 4) ⊎ IsFormat words))
 
--- what the status of an answer tells
+-- what follows from the status of a result
 record TellsStatus (words : List (List ℕ)) (before now status : ℕ) (log : Option RunLog) : Type 0 where
   small : status ≤ 4
   fault : status ≡ 4 → CountRose before now
@@ -30,11 +30,11 @@ record TellsStatus (words : List (List ℕ)) (before now status : ℕ) (log : Op
 refusal : {words : List (List ℕ)} {before now : ℕ} → TellsStatus words before now 1 None
 refusal = record { small = omega arith; fault = λ e. absurd (omega (arith, e)); logged = (λ e. inl refl, λ e. refl) }
 
--- a fault of reading
+-- a read that failed
 read_fault : {words : List (List ℕ)} {before now : ℕ} → CountRose before now → TellsStatus words before now 4 None
 read_fault rose = record { small = omega arith; fault = λ e. rose; logged = (λ e. inr (inl refl), λ e. refl) }
 
--- a text that is printed
+-- a canonical text
 printed : {words : List (List ℕ)} {before now : ℕ} → IsFormat words → TellsStatus words before now 0 None
 printed format = record { small = omega arith; fault = λ e. absurd (omega (arith, e)); logged = (λ e. inr (inr format), λ e. refl) }
 
@@ -73,14 +73,14 @@ row_status (NotBuilt s i tree w o n) = refusal
 row_status (InputRefused s i tree w o r) = refusal
 row_status (Runs s i tree w o e r) = with_run (elision_log tree []) (λ format. run_is_no_format w format.1) (outcome_status r)
 
--- the status of an answer
+-- the status of a result
 tells_status : {words : List (List ℕ)} {holds : Option Content} {before now status : ℕ} {text : List ℕ} {log : Option RunLog} {reports : List Report}
     → IsCallResult words holds before now status text log reports → TellsStatus words before now status log
 tells_status (OfRow same row) = row_status row.row
 tells_status (SourceFault s grew rose w) = read_fault rose
 tells_status (InputFault s i file tree grew rose w told of) = read_fault rose
 
--- no answer has the status of a fault of writing
+-- no result has the status of a write that failed
 pub no_write_fault : {words : List (List ℕ)} {holds : Option Content} {before now status : ℕ} {text : List ℕ} {log : Option RunLog} {reports : List Report}
     → IsCallResult words holds before now status text log reports → status ≡ 5 → ⊥
 no_write_fault answer five = let t = tells_status answer in let small = t.small in absurd (omega (arith, small, five))
@@ -90,12 +90,12 @@ pub answer_is_small : {words : List (List ℕ)} {holds : Option Content} {before
     → IsCallResult words holds before now status text log reports → status ≤ 4
 answer_is_small answer = let t = tells_status answer in t.small
 
--- a fault of reading has its cause
+-- the status 4 has its cause
 pub answer_has_cause : {words : List (List ℕ)} {holds : Option Content} {before now status : ℕ} {text : List ℕ} {log : Option RunLog} {reports : List Report}
     → IsCallResult words holds before now status text log reports → status ≡ 4 → CountRose before now
 answer_has_cause answer four = let t = tells_status answer in t.fault four
 
--- the run is logged, unless a refusal or a fault of reading came, or a text was to be printed
+-- there is a run log, unless the call was refused, a read failed, or the words are a `format` command
 pub answer_is_logged : {words : List (List ℕ)} {holds : Option Content} {before now status : ℕ} {text : List ℕ} {log : Option RunLog} {reports : List Report}
     → IsCallResult words holds before now status text log reports → (log ≡ None) ↔ ((status ≡ 1) ⊎ ((status ≡ 4) ⊎ IsFormat words))
 answer_is_logged answer = let t = tells_status answer in t.logged

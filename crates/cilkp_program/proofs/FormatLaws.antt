@@ -1,4 +1,4 @@
--- What a call answers that prints the text of an accepted program.
+-- The result of a call that prints the canonical text of an accepted program.
 use Rattle.std.proofs.Common.{◌≡◌, ◌∙◌, ℕ, List, [], Option, Some, None, IfSome, length, ap, subst}
 use Rattle.pipe_model.specs.declared.event.RunLog.{RunLog}
 use Rattle.pipe_model.specs.declared.report.Report.{Report}
@@ -11,7 +11,7 @@ use Rattle.cilkp_program.specs.Reads.{Content}
 use Rattle.cilkp_program.specs.Rows.{FileContents, IsSourceOf, Row, Formats, ByFormat, format_words}
 use Rattle.cilkp_program.proofs.OneRow.{one_row}
 
--- the answer is that of the program's text
+-- the result is that of the program's text
 record IsTextOf (tree : SyntaxTree) (status : ℕ) (text : List ℕ) (log : Option RunLog) (reports : List Report) : Type 0 where
   done : status ≡ 0
   text_is : text ≡ program_text tree
@@ -24,7 +24,7 @@ text_row : {words : List (List ℕ)} {held : FileContents} {status : ℕ} {text 
 text_row tree source w s row =
     let one = one_row row (Formats source tree w s) in record { done = one.0; text_is = one.1; not_run = one.2; silent = one.3 }
 
--- what a call answers that prints an accepted program, where no read failed
+-- the result of a call that prints an accepted program, if no read failed
 text_answer : {words : List (List ℕ)} {content : Content} {before now status : ℕ} {text : List ℕ} {log : Option RunLog} {reports : List Report} (tree : SyntaxTree)
     → ¬ (CountRose before now) → IsToFormat words content tree → IsCallResult words (Some content) before now status text log reports → IsTextOf tree status text log reports
 text_answer tree calm a (OfRow same row) =
@@ -32,7 +32,7 @@ text_answer tree calm a (OfRow same row) =
 text_answer tree calm a (SourceFault s grew rose w) = absurd (calm rose)
 text_answer tree calm a (InputFault s i file other grew rose w told of) = absurd (calm rose)
 
--- a call whose text was taken whole
+-- a call whose text was written completely
 pub text_printed : (words : List (List ℕ)) (holds : Option Content) (before now status written : ℕ) (log : Option RunLog) (reports : List Report)
     (taken_before taken_now : Option (List ℕ)) → ¬ (CountRose before now) → IsPrinted words holds before now status written log reports taken_before taken_now
     → IfSome holds (λ content. (tree : SyntaxTree) → IsToFormat words content tree → ReturnsText tree status written log reports taken_before taken_now)

@@ -1,4 +1,4 @@
--- What stands in a sink that has taken a text, or that took no more.
+-- The content of a sink after a text was written, completely or in part.
 use Rattle.std.proofs.Common.{◌≡◌, ◌≢◌, ◌≤◌, ◌↔◌, ℕ, List, length, Option, inr, arith}
 use Rattle.pipe_model.specs.declared.event.RunLog.{RunLog}
 use Rattle.pipe_model.specs.declared.report.Report.{Report}
@@ -7,14 +7,14 @@ use Rattle.cilkp_program.specs.Reads.{Content}
 use Rattle.cilkp_program.specs.declared.whole.WriteEnd.{WriteEnd}
 use Rattle.cilkp_program.specs.declared.whole.WriteEnd.TheVariants as ends
 
--- a text that was written whole was printed
+-- a text that was written completely was printed
 pub text_whole : (words : List (List ℕ)) (holds : Option Content) (before now status written : ℕ) (text : List ℕ) (log : Option RunLog) (reports : List Report)
     (taken_before taken_now : Option (List ℕ)) → IsCallResult words holds before now status text log reports → written ≡ length text → HasTaken written text taken_before taken_now
     → IsPrinted words holds before now status written log reports taken_before taken_now
 text_whole words holds before now status written text log reports taken_before taken_now answer whole taken =
     record { text = text; answer = answer; whole = whole; taken = taken }
 
--- a text that was not written whole was cut short
+-- a text that was not written completely was cut short
 pub text_cut_short : (words : List (List ℕ)) (holds : Option Content) (before now status written : ℕ) (text : List ℕ) (log : Option RunLog) (reports : List Report)
     (taken_before taken_now : Option (List ℕ)) (end : WriteEnd) → IsCallResult words holds before now status text log reports → written ≤ length text → ((end ≡ ends.Whole) ↔ (written ≡ length text)) → end ≢ ends.Whole → HasTaken written text taken_before taken_now
     → IsCutShort words holds before now written log reports taken_before taken_now
@@ -26,7 +26,7 @@ text_cut_short words holds before now status written text log reports taken_befo
   taken = taken;
 }
 
--- a call that gave up at such a text
+-- a call whose text is cut short by out of memory
 pub given_up_writing : (words : List (List ℕ)) (holds : Option Content) (before now written : ℕ) (log : Option RunLog) (reports : List Report)
     (taken_before taken_now : Option (List ℕ)) → IsCutShort words holds before now written log reports taken_before taken_now → IsGivenUp words holds before now taken_before taken_now
 given_up_writing words holds before now written log reports taken_before taken_now cut = inr (written, log, reports, cut)

@@ -1,4 +1,4 @@
--- The row of an accepted program meets the headline.
+-- A row that runs a program meets the headline.
 use Rattle.std.proofs.Common.{◌≡◌, ◌≢◌, ◌≤◌, ◌∙◌, ◌++◌, ℕ, List, [], Option, Some, None, IfSome, map, refl, ap, sym, subst, arith, append-nil, ◌∷◌}
 use Rattle.pipe_model.specs.declared.event.RunLog.{RunLog}
 use Rattle.pipe_model.specs.declared.report.Report.{Report}
@@ -35,12 +35,12 @@ record IsSerialLog (tree : SyntaxTree) (limit : ℕ) : Type 0 where
   accesses : accesses_after (elision_log tree []).events ≡ elision_accesses tree []
   throttled : IsThrottled limit (elision_log tree []).events
 
--- the instances of frames, with and without the ends of their columns
+-- the instances of the columns of frames are those of the frames
 nodes_of_frames : (frames : List Frame) → node_columns (map column_of_frame frames) ≡ map (λ (f : Frame). f.nodes) frames
 nodes_of_frames [] = refl
 nodes_of_frames (f ∷ frames) = ap (λ ns. f.nodes ∷ ns) (nodes_of_frames frames)
 
--- so it is for every accepted program and every limit of at least 1
+-- this holds for every accepted program and every limit of at least 1
 serial_log : (source : List ℕ) (tree : SyntaxTree) (limit : ℕ) → IsAccepted source tree → 1 ≤ limit → IsSerialLog tree limit
 serial_log source tree limit form room =
     let w : WholeProgram = whole_of tree [] in
@@ -59,7 +59,7 @@ reports_are_right : (tree : SyntaxTree) (limit : ℕ) (reports : List Report) �
     → AreRight (columns_after (elision_log tree []).events) (accesses_after (elision_log tree []).events) reports
 reports_are_right tree limit reports h right = rw (h.columns, h.accesses) right
 
--- where the elision has no race, no report is right
+-- if the elision has no race, the empty list of reports is right
 none_are_right : (tree : SyntaxTree) → ElisionHasNoRace tree [] → AreRight (elision_columns tree []) (elision_accesses tree []) []
 none_are_right tree free = record {
   name = λ r among. absurd (none_among r among);
@@ -67,7 +67,7 @@ none_are_right tree free = record {
   rise = λ i j d l w. absurd (omega (arith, w));
 }
 
--- what a program comes to, by its log
+-- the result of a program and its log meet the headline
 outcome_meets : (source : List ℕ) (tree : SyntaxTree) (limit : ℕ) {status : ℕ} {text : List ℕ} {reports : List Report} → IsAccepted source tree → 1 ≤ limit
     → RunResult tree [] status text reports → MeetsHeadline tree [] limit (elision_log tree []) reports status text
 outcome_meets source tree limit form room (Races reports some first) =
@@ -113,7 +113,7 @@ outcome_meets source tree limit form room (Traps t free ends) =
     traps : {at : TrapAt} → elision_trap tree [] ≡ Some at → elision_trap tree [] ≢ None
     traps {at} some none = let d : None ≡ Some at = sym none ∙ some in cc (d)
 
--- the row of an accepted program is that of its run
+-- the log and the result are those of the program's run
 record IsRunOf (tree : SyntaxTree) (status : ℕ) (text : List ℕ) (log : Option RunLog) (reports : List Report) : Type 0 where
   logged : log ≡ Some (elision_log tree [])
   outcome : RunResult tree [] status text reports
@@ -130,7 +130,7 @@ accepted_row tree a s i (Runs source input other w o e r) =
     let same : other ≡ tree = one_source other tree (plain_is_source o) (plain_is_source (rw (← s) a.program)) in
     record { logged = ap (λ t. Some (elision_log t [])) same; outcome = rw (← same) r }
 
--- what a call answers for an accepted program, where no read failed
+-- the result of a call that runs an accepted program, if no read failed
 answer_meets : {words : List (List ℕ)} {content : Content} {before now status : ℕ} {text : List ℕ} {log : Option RunLog} {reports : List Report} (tree : SyntaxTree)
     → ¬ (CountRose before now) → IsToRun words content tree → IsCallResult words (Some content) before now status text log reports → IsRunOf tree status text log reports
 answer_meets tree calm a (OfRow same row) =
@@ -138,7 +138,7 @@ answer_meets tree calm a (OfRow same row) =
 answer_meets tree calm a (SourceFault s grew rose w) = absurd (calm rose)
 answer_meets tree calm a (InputFault s i file other grew rose w told of) = absurd (calm rose)
 
--- the headline of a call whose text was taken whole
+-- the headline of a call whose text was written completely
 pub printed_meets : (words : List (List ℕ)) (holds : Option Content) (before now status written : ℕ) (log : Option RunLog) (reports : List Report)
     (taken_before taken_now : Option (List ℕ)) → ¬ (CountRose before now) → IsPrinted words holds before now status written log reports taken_before taken_now
     → IfSome holds (λ content. (tree : SyntaxTree) → IsToRun words content tree → ReturnsRun tree status written log reports taken_before taken_now)

@@ -1,4 +1,4 @@
--- What the reading of a whole file tells of a source and of an input.
+-- Loading a source and an input, from the result of reading a whole file.
 use Rattle.std.proofs.Common.{◌≡◌, ◌<◌, ◌+◌, ℕ, List, [], length, Option, Some, None, Result, Ok, Err, IfOk, IfSome, refl, ap, sym, arith}
 use Rattle.std.proofs.lemmas.List.{nil_from_length, take_all}
 use Rattle.grammar_laws.proofs.SourceRefusals.{one_refusal}
@@ -17,20 +17,20 @@ use Rattle.cilkp_program.specs.declared.load.Source.TheVariants as sources
 use Rattle.cilkp_program.proofs.OneRow.{one_held}
 use Rattle.cilkp_program.specs.WholeFiles.{IsUpTo, IsWholeOf}
 
--- the answer is that of a file, which held what the files tell, where they tell
+-- some content of the file explains the result; where the content is known, it is that one
 pub record IsOfFile (holds : Option Content) (name : List ℕ) (limit : ℕ) (answer : Whole) : Type 0 where
   pub file : Option (List ℕ)
   pub told : IfSome holds (λ content. content name ≡ file)
   pub is : IsWholeOf file limit answer
 
--- a file that gives the answer, where nothing is told of it
+-- a content that explains the result, if the content is not known
 some_file : (limit : ℕ) (answer : Whole) → IsUpTo limit answer → (file : Option (List ℕ)) × IsWholeOf file limit answer
 some_file limit (whole.Bytes bytes) up = (Some bytes, (refl, up))
-some_file limit (whole.TooLong bytes) up = (Some bytes, ((sym (take_all bytes (length bytes) (omega arith)), omega arith), up))
+some_file limit (whole.TooLong bytes) up = (Some bytes, ((sym (take_all (length bytes) bytes (omega arith)), omega arith), up))
 some_file limit whole.Missing up = (None, tt)
 some_file limit whole.Failed up = (None, tt)
 
--- each answer is that of a file
+-- some content explains each result
 pub of_file : (holds : Option Content) (name : List ℕ) (limit : ℕ) (answer : Whole) → IsUpTo limit answer
     → IfSome holds (λ content. IsWholeOf (content name) limit answer) → IsOfFile holds name limit answer
 of_file None name limit answer up h = let f = some_file limit answer up in record { file = f.0; told = tt; is = f.1 }
@@ -41,13 +41,13 @@ missing_is_none : (file : Option (List ℕ)) (limit : ℕ) → IsWholeOf file li
 missing_is_none None limit h = refl
 missing_is_none (Some held) limit h = absurd h
 
--- the file is there, and is longer than the limit, as are the bytes that were read
+-- the file exists, and is longer than the limit
 too_long_is_held : (file : Option (List ℕ)) (limit : ℕ) (bytes : List ℕ) → IsWholeOf file limit (whole.TooLong bytes)
     → (held : List ℕ) × (file ≡ Some held) × (limit < length held) × (limit < length bytes)
 too_long_is_held None limit bytes h = absurd h
 too_long_is_held (Some held) limit bytes h = (held, refl, omega (arith, h.0.1, h.1), h.1)
 
--- the file is there, and these are its bytes
+-- the file exists, and these are its bytes
 bytes_are_held : (file : Option (List ℕ)) (limit : ℕ) (bytes : List ℕ) → IsWholeOf file limit (whole.Bytes bytes) → file ≡ Some bytes
 bytes_are_held None limit bytes h = absurd h
 bytes_are_held (Some held) limit bytes h = ap Some (sym h.0)
@@ -56,7 +56,7 @@ bytes_are_held (Some held) limit bytes h = ap Some (sym h.0)
 pub source_is_missing : (file : Option (List ℕ)) (name line : List ℕ) (limit : ℕ) → line ≡ refused_missing name → IsWholeOf file limit whole.Missing → SourceRefusal name file line
 source_is_missing file name line limit e h = rw e (SourceMissing (missing_is_none file limit h))
 
--- what the bytes of a file gave, the file gave
+-- the result of loading the bytes of a file is that of loading the file
 pub file_gave : (file : Option (List ℕ)) (name bytes : List ℕ) (limit : ℕ) (source : Source) → IsWholeOf file limit (whole.Bytes bytes) → IsLoadOf bytes source
     → IsSourceFrom name file source
 file_gave file name bytes limit (sources.Accepted loaded) h g =
@@ -70,13 +70,13 @@ file_gave file name bytes limit (sources.Refused line) h g =
     rw g.line_is (NotAccepted bytes g.refusal (bytes_are_held file limit bytes h) g.refused)
 file_gave file name bytes limit sources.Failed h g = absurd g
 
--- the answer of the bytes of a file
+-- the result for the bytes of a file
 pub source_answer : (holds : Option Content) (name : List ℕ) (limit : ℕ) (bytes : List ℕ) (r : Result Source NoMemory) → IsOfFile holds name limit (whole.Bytes bytes)
     → IfOk r (λ source. IsLoadOf bytes source) → IfOk r (λ source. IsSourceResult holds name source)
 source_answer holds name limit bytes (Ok source) f g = record { file = f.file; told = f.told; gave = file_gave f.file name bytes limit source f.is g }
 source_answer holds name limit bytes (Err m) f g = g
 
--- the lexer refuses the first bytes of a source that is too long, and so the source
+-- the lexer refuses the first bytes of a source that is too long, so the source is refused
 prefix_gave : (file : Option (List ℕ)) (name bytes : List ℕ) (source : Source) → IsWholeOf file LONGEST_SOURCE (whole.TooLong bytes) → IsLoadOf bytes source
     → IsSourceFrom name file source
 prefix_gave file name bytes (sources.Accepted loaded) h g =

@@ -1,4 +1,4 @@
--- A program without `init`: the traces of its loop are those of the loop alone.
+-- In a program without `init`, the traces of the loop are those of the loop alone.
 use Rattle.std.proofs.Common.{◌≡◌, ℤ, List, refl, subst, sym}
 use Rattle.pipe_model.specs.Language.Programs.{pipeline_of}
 use Rattle.pipe_model.specs.Language.ProgramsOfTrees.{whole_of}

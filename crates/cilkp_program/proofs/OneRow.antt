@@ -1,4 +1,4 @@
--- A call has one row of the table.
+-- A call has at most one row of the table.
 use Rattle.std.proofs.Common.{◌≡◌, ◌≢◌, ◌∙◌, ℕ, List, [], ◌++◌, Option, Some, None, refl, ap, sym}
 use Rattle.pipe_model.specs.declared.event.RunLog.{RunLog}
 use Rattle.pipe_model.specs.declared.report.Report.{Report}
@@ -10,19 +10,19 @@ use Rattle.cilkp_program.proofs.OneReports.{one_first_races}
 use Rattle.cilkp_program.specs.CellNames.{race_lines}
 use Rattle.cilkp_program.specs.Rows.{FileContents, run_words, format_words, NamesSource, ByRun, ByFormat, IsSourceOf, IsPlainSourceOf, SourceRefusal, SourceMissing, NotAccepted, InputRefusal, InputMissing, InputNotEmpty, RunResult, Races, Finishes, Traps, elision_columns, elision_accesses, elision_log, elision_output_text, Row, NoCommand, SourceRefused, Formats, NotBuilt, InputRefused, Runs}
 
--- a status, a text and reports are the same as others
+-- two results have the same status, text and reports
 abbrev pub AreOneRow : (status other : ℕ) (text other_text : List ℕ) (reports other_reports : List Report) → Type 0
 AreOneRow status other text other_text reports other_reports = (status ≡ other) × (text ≡ other_text) × (reports ≡ other_reports)
 
--- a file is not both missing and there
+-- a file that is missing has no content
 missing_not_held : (file : Option (List ℕ)) (bytes : List ℕ) → file ≡ None → file ≡ Some bytes → ⊥
 missing_not_held file bytes m h = let e : None ≡ Some bytes = sym m ∙ h in cc (e)
 
--- what is held is one
+-- the content of a file is unique
 pub one_held : (file : Option (List ℕ)) (bytes others : List ℕ) → file ≡ Some bytes → file ≡ Some others → bytes ≡ others
 one_held file bytes others h g = let e : Some bytes ≡ Some others = sym h ∙ g in cc (e)
 
--- a source has one line of refusal
+-- a source has at most one line of refusal
 one_source_refusal : {file : Option (List ℕ)} {name text other : List ℕ} → SourceRefusal name file text → SourceRefusal name file other → text ≡ other
 one_source_refusal (SourceMissing m) (SourceMissing m') = refl
 one_source_refusal (SourceMissing m) (NotAccepted bytes refusal h r) = absurd (missing_not_held _ bytes m h)
@@ -40,7 +40,7 @@ refused_not_accepted_file tree (NotAccepted bytes refusal h r) s =
 pub plain_is_source : {file : Option (List ℕ)} {tree : SyntaxTree} → IsPlainSourceOf file tree → IsSourceOf file tree
 plain_is_source s = record { bytes = s.bytes; held = s.held; accepted = s.form.accepted }
 
--- an input has one line of refusal
+-- an input has at most one line of refusal
 one_input_refusal : {file : Option (List ℕ)} {name text other : List ℕ} → InputRefusal name file text → InputRefusal name file other → text ≡ other
 one_input_refusal (InputMissing m) (InputMissing m') = refl
 one_input_refusal (InputMissing m) (InputNotEmpty bytes h n) = absurd (missing_not_held _ bytes m h)
@@ -52,13 +52,13 @@ pub refused_not_empty : {file : Option (List ℕ)} {name text : List ℕ} → In
 refused_not_empty (InputMissing m) e = missing_not_held _ [] m e
 refused_not_empty (InputNotEmpty bytes h n) e = n (one_held _ bytes [] h e)
 
--- a file is the source of one program
+-- a file is the source of at most one program
 pub one_source : {file : Option (List ℕ)} (tree other : SyntaxTree) → IsSourceOf file tree → IsSourceOf file other → tree ≡ other
 one_source tree other s o =
     let same : o.bytes ≡ s.bytes = one_held _ o.bytes s.bytes o.held s.held in
     one_accepted s.bytes tree other s.accepted (rw same at o.accepted)
 
--- a program comes to one outcome
+-- a program has at most one result
 one_outcome : {tree : SyntaxTree} {status other : ℕ} {text other_text : List ℕ} {reports other_reports : List Report} → RunResult tree [] status text reports
     → RunResult tree [] other other_text other_reports → AreOneRow status other text other_text reports other_reports
 one_outcome {tree} (Races rs some h) (Races rs' some' h') =
@@ -73,7 +73,7 @@ one_outcome (Traps t free e) (Finishes free' e') = absurd (let d : None ≡ Some
 one_outcome {tree} (Traps t free e) (Traps t' free' e') =
     (refl, let d : Some t ≡ Some t' = sym e ∙ e' in let same : t ≡ t' = cc (d) in ap (λ x. elision_output_text tree [] ++ trap_line x) same, refl)
 
--- a program has one run
+-- equal programs have the same results and logs
 one_run : {tree other_tree : SyntaxTree} {status other : ℕ} {text other_text : List ℕ} {reports other_reports : List Report} → tree ≡ other_tree
     → RunResult tree [] status text reports → RunResult other_tree [] other other_text other_reports
     → (status ≡ other) × (text ≡ other_text) × (Some (elision_log tree []) ≡ Some (elision_log other_tree [])) × (reports ≡ other_reports)
@@ -81,31 +81,31 @@ one_run {tree} {other_tree} {status} {other} {text} {other_text} {reports} {othe
     let one : AreOneRow status other text other_text reports other_reports = one_outcome r (rw same r') in
     (one.0, one.1, ap (λ t. Some (elision_log t [])) same, one.2)
 
--- the words name one source, and one input
+-- the source and the input of a `run` command are unique
 pub sources_same : (words : List (List ℕ)) (source source' input input' : List ℕ) → words ≡ run_words source input → words ≡ run_words source' input' → source ≡ source'
 sources_same words source source' input input' w w' = let e : run_words source input ≡ run_words source' input' = sym w ∙ w' in cc (e)
 
 pub inputs_same : (words : List (List ℕ)) (source source' input input' : List ℕ) → words ≡ run_words source input → words ≡ run_words source' input' → input ≡ input'
 inputs_same words source source' input input' w w' = let e : run_words source input ≡ run_words source' input' = sym w ∙ w' in cc (e)
 
--- the command of a run is not that of a format
+-- a `run` command is not a `format` command
 pub run_is_no_format : {words : List (List ℕ)} {source input other : List ℕ} → words ≡ run_words source input → words ≡ format_words other → ⊥
 run_is_no_format {words} {source} {input} {other} w v = let e : run_words source input ≡ format_words other = sym w ∙ v in cc (e)
 
--- a command names one source
+-- a command has at most one source
 pub one_name : {words : List (List ℕ)} {source other : List ℕ} → NamesSource words source → NamesSource words other → source ≡ other
 one_name (ByRun input w) (ByRun input' w') = sources_same _ _ _ input input' w w'
 one_name (ByRun input w) (ByFormat v) = absurd (run_is_no_format w v)
 one_name (ByFormat v) (ByRun input w) = absurd (run_is_no_format w v)
 one_name {source = source} {other = other} (ByFormat v) (ByFormat v') = let e : format_words source ≡ format_words other = sym v ∙ v' in cc (e)
 
--- words that are no command name no source
+-- words that are no command have no source
 pub unnamed : {words : List (List ℕ)} {source : List ℕ} → ((source input : List ℕ) → words ≢ run_words source input) → ((source : List ℕ) → words ≢ format_words source)
     → NamesSource words source → ⊥
 unnamed {source = source} n m (ByRun input w) = n source input w
 unnamed {source = source} n m (ByFormat v) = m source v
 
--- two rows of a call are one
+-- two rows of a call are equal
 pub one_row : {words : List (List ℕ)} {held : FileContents} {status other : ℕ} {text other_text : List ℕ} {log other_log : Option RunLog} {reports other_reports : List Report}
     → Row words held status text log reports → Row words held other other_text other_log other_reports
     → (status ≡ other) × (text ≡ other_text) × (log ≡ other_log) × (reports ≡ other_reports)

@@ -34,9 +34,9 @@ two_words (x ∷ []) a b h p q = absurd (omega (arith, h))
 two_words (x ∷ y ∷ []) a b h p q = cc (ap string_bytes p, ap string_bytes q)
 two_words (x ∷ y ∷ z ∷ ws) a b h p q = absurd (omega (arith, h))
 
--- ---- what is held; the files hold the same throughout
+-- ---- the content of the files, which does not change during the call
 
--- what the files of a run hold, where they tell
+-- the content of the files of a `run`, if it is known
 run_told : (holds : Option Content) (source input : List ℕ) (held : FileContents) → IfSome holds (λ content. content source ≡ held.source)
     → IfSome holds (λ content. content input ≡ held.input) → IfSome holds (λ content. AreHeldBy content (run_words source input) held)
 run_told None source input held s i = tt
@@ -45,7 +45,7 @@ run_told (Some content) source input held s i = record {
   input = λ name named. ap content (inputs_same _ named.0 source name input named.1 refl) ∙ i;
 }
 
--- what the file of a format holds, where it tells
+-- the content of the file of a `format`, if it is known
 format_told : (holds : Option Content) (source : List ℕ) (held : FileContents) → IfSome holds (λ content. content source ≡ held.source)
     → IfSome holds (λ content. AreHeldBy content (format_words source) held)
 format_told None source held s = tt
@@ -54,7 +54,7 @@ format_told (Some content) source held s = record {
   input = λ name named. absurd (run_is_no_format named.1 refl);
 }
 
--- what a file that is not read holds, where the files tell
+-- the content of a file that is not read, if it is known
 unread : Option Content → List ℕ → Option (List ℕ)
 unread None name = None
 unread (Some content) name = content name
@@ -64,7 +64,7 @@ unfolding unread
 unread_told None name = tt
 unread_told (Some content) name = refl
 
--- ---- which answer is given
+-- ---- the result of each kind of call
 
 -- words that are no command
 pub answer_no_command : (words : List (List ℕ)) (holds : Option Content) (faults : ℕ) (text : List ℕ) → ((source input : List ℕ) → words ≢ run_words source input)
@@ -76,7 +76,7 @@ answer_no_command words holds faults text no_run no_format t =
     told None = tt
     told (Some content) = record { source = λ name named. absurd (unnamed no_run no_format named); input = λ name named. absurd (no_run named.0 name named.1) }
 
--- a source that is refused and was to be run
+-- a `run` whose source is refused
 pub run_refused : (holds : Option Content) (before now : ℕ) (source input text : List ℕ) → CountsFault false before now
     → IsSourceResult holds source (sources.Refused text) → IsCallResult (run_words source input) holds before now 1 text None []
 run_refused holds before now source input text same s = OfRow same (record {
@@ -85,7 +85,7 @@ run_refused holds before now source input text same s = OfRow same (record {
   row = SourceRefused source (ByRun input refl) s.gave;
 })
 
--- a source that is refused and was to be printed
+-- a `format` whose source is refused
 pub format_refused : (holds : Option Content) (before now : ℕ) (source text : List ℕ) → CountsFault false before now
     → IsSourceResult holds source (sources.Refused text) → IsCallResult (format_words source) holds before now 1 text None []
 format_refused holds before now source text same s = OfRow same (record {
@@ -108,7 +108,7 @@ program_printed holds before now source loaded same s = OfRow same (record {
   row = Formats source (tree_of loaded.program) refl s.gave.source;
 })
 
--- a program that is not of the first form and was to be run
+-- a `run` of a program that is not of the first form
 pub not_built : (holds : Option Content) (before now : ℕ) (source input text : List ℕ) (loaded : Loaded) → text ≡ refused_program → CountsFault false before now
     → IsFalse loaded.is_first_form → IsSourceResult holds source (sources.Accepted loaded) → IsCallResult (run_words source input) holds before now 1 text None []
 not_built holds before now source input text loaded t same other s = rw t (OfRow same (record {
@@ -136,7 +136,7 @@ input_failed holds before mid now source input text loaded same rose plain s t =
     InputFault source input s.file (tree_of loaded.program) rose.0 rose.1 refl s.told (s.gave.plain plain) in
     rw (t, ← same) at_mid
 
--- a run
+-- a `run` that runs its program
 pub answer_of_run : (holds later : Option Content) (before mid now : ℕ) (source input text : List ℕ) (status : ℕ) (reports : List Report) (loaded : Loaded)
     → later ≡ holds → CountsFault false before mid → CountsFault false mid now → IsTrue loaded.is_first_form → IsSourceResult holds source (sources.Accepted loaded)
     → IsInputResult later input inputs.Empty → RunResult (tree_of loaded.program) [] status text reports
@@ -147,7 +147,7 @@ answer_of_run holds later before mid now source input text status reports loaded
   row = Runs source input (tree_of loaded.program) refl (s.gave.plain plain) i.gave outcome;
 })
 
--- a call that answers this
+-- a call that returns this
 pub answer_given : (words : List (List ℕ)) (holds : Option Content) (before now : ℕ) (r : Result Answer NoMemory) (a : Answer) → IfOk r (λ b. b ≡ a)
     → IsCallResult words holds before now a.status a.text a.run_log a.reports → IfOk r (λ b. IsCallResult words holds before now b.status b.text b.run_log b.reports)
 answer_given words holds before now (Ok b) a e h = rw e h

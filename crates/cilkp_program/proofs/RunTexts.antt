@@ -1,4 +1,4 @@
--- What is printed of a run, by whether there are reports and by its trap.
+-- The text of a run, by whether it has reports and a trap.
 use Rattle.std.proofs.Common.{◌≡◌, ◌≢◌, ◌==◌, ℕ, ℤ, true, false, List, [], ◌++◌, length, Option, Some, None, append-nil, refl}
 use Rattle.std.proofs.lemmas.Bool.{eqb-true}
 use Rattle.std.proofs.lemmas.List.{nil_from_length}
@@ -13,7 +13,7 @@ use Rattle.cilkp_program.specs.RunTexts.{IsPrintedAs, WithRaces, ToItsEnd, WithT
 none_left : (reports : List Report) → (length reports == 0) ≡ true → reports ≡ []
 none_left reports e = nil_from_length reports (eqb-true (length reports) 0 e)
 
--- a list whose length is not 0 is not
+-- a list whose length is not 0 is not empty
 some_left : (reports : List Report) → (length reports == 0) ≡ false → reports ≢ []
 some_left reports some none = let e : (length reports == 0) ≡ true = rw none refl in cc (e, some)
 

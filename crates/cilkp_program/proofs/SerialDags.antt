@@ -1,4 +1,4 @@
--- The dag of a program's serial elision, as it is built from what the elision tells.
+-- The dag of a program's serial elision, built from the elision's columns and accesses.
 use Rattle.std.proofs.Common.{◌≡◌, ◌∙◌, ◌<◌, ◌≤◌, ◌^◌, ℕ, ℤ, zero, suc, All, List, [], ◌∷◌, Option, length, map, refl, sym, ap, subst, arith}
 use Rattle.pipe_model.specs.declared.access.NodeAccess.{NodeAccess}
 use Rattle.pipe_model.specs.declared.column.Column.{Column}
@@ -37,7 +37,7 @@ pub ended_nodes : (traces : List (List Action)) → node_columns (map ended_colu
 ended_nodes [] = refl
 ended_nodes (t ∷ traces) = ap (λ cs. column_of t ∷ cs) (ended_nodes traces)
 
--- what the elision tells of its columns are the program's columns
+-- the columns that the elision returns have the program's instances
 pub told_columns : (tree : SyntaxTree) (columns : List Column) → columns ≡ serial_ended_columns (pipeline_of tree []) → node_columns columns ≡ serial_columns (pipeline_of tree [])
 told_columns tree columns e = ap node_columns e ∙ ended_nodes (serial_traces (pipeline_of tree []))
 
@@ -57,7 +57,7 @@ pub told_columns_rise : (source : List ℕ) (tree : SyntaxTree) (columns : List 
     → columns ≡ serial_ended_columns (pipeline_of tree []) → AreRising (node_columns columns)
 told_columns_rise source tree columns form e = subst AreRising (sym (told_columns tree columns e)) (columns_rise source tree form)
 
--- a column with an instance is one of the columns
+-- the number of a column with an instance is below the number of columns
 column_inside : (columns : List (List Node)) (i k : ℕ) → k < length (nodes_at columns i) → i < length columns
 column_inside [] i k w = absurd (omega (arith, w))
 column_inside (c ∷ cs) zero k w = omega arith
@@ -71,7 +71,7 @@ accesses_inside source tree form =
     subst (λ cs. All (IsAccessOf cs) (serial_accesses (pipeline_of tree []))) h.columns (subst (All (IsAccessOf _)) h.accesses
     (λ k d w. let inside = rules.inside _ (among_at _ k d w) in (column_inside _ _ _ inside, inside)))
 
--- the accesses that the elision tells are made by instances of the dag that is built
+-- the accesses that the elision returns are made by instances of the dag that is built
 pub told_accesses_inside : (source : List ℕ) (tree : SyntaxTree) (dag : List (List Node)) (columns : List Column) (accesses : List NodeAccess) → IsAccepted source tree
     → dag ≡ node_columns columns → columns ≡ serial_ended_columns (pipeline_of tree []) → accesses ≡ serial_accesses (pipeline_of tree []) → All (IsAccessOf dag) accesses
 told_accesses_inside source tree dag columns accesses form d e a =
@@ -82,7 +82,7 @@ told_races : (tree : SyntaxTree) (dag : List (List Node)) (columns : List Column
     → columns ≡ serial_ended_columns (pipeline_of tree []) → accesses ≡ serial_accesses (pipeline_of tree []) → AreFirstRaces dag accesses reports → AreFirstRaces (serial_columns (pipeline_of tree [])) (serial_accesses (pipeline_of tree [])) reports
 told_races tree dag columns accesses reports d e a r = rw (← a, ← (d ∙ told_columns tree columns e)) r
 
--- without `init` they are the first races of the whole program
+-- without `init` they are the whole program's
 whole_races : (tree : SyntaxTree) (dag : List (List Node)) (columns : List Column) (accesses : List NodeAccess) (reports : List Report) → tree.init ≡ Empty
     → dag ≡ node_columns columns → columns ≡ serial_ended_columns (pipeline_of tree []) → accesses ≡ serial_accesses (pipeline_of tree [])
     → AreFirstRaces dag accesses reports → AreFirstRaces (elision_columns tree []) (elision_accesses tree []) reports
@@ -107,7 +107,7 @@ outcome_of_run tree dag columns accesses output trap reports no_init no_final d 
     let alone = loops_alone tree [] no_init no_final in
     rw (none, o ∙ sym alone.0) (Traps at free (alone.1 ∙ sym t ∙ ends))
 
--- the elision has few enough columns for its events to be told
+-- the elision has at most 2 ^ 32 columns, as its events need
 pub told_columns_are_few : (source : List ℕ) (tree : SyntaxTree) (columns : List Column) → IsAccepted source tree
     → columns ≡ serial_ended_columns (pipeline_of tree []) → length columns ≤ 2 ^ 32
 told_columns_are_few source tree columns form e =

@@ -1,4 +1,4 @@
--- The faults of the lexer, the parser and the checker are refusals of the source, and their lines are its line.
+-- A fault of the lexer, the parser or the checker refuses the source, with the line of that fault.
 use Rattle.std.proofs.Common.{◌≡◌, ◌∙◌, ◌↔◌, ℕ, List, Some, None, IsTrue, IsFalse, Bool, true, false, sym}
 use Rattle.pipe_check.specs.declared.fault.CheckFault.{CheckFault}
 use Rattle.pipe_check.specs.declared.fault.CheckFault.TheVariants as checks
@@ -29,7 +29,7 @@ use Rattle.cilkp_program.specs.RefusalLines.{HasPlace, IsCheckLine, IsLexicalLin
 abbrev pub spelled_by : (source : List ℕ) (tokens : List Token) (tree : SyntaxTree) → IsLexed source tokens → Spells (symbols_in source tokens) tree → SourceSpells source tree
 spelled_by source tokens tree lexed spelled = record { tokens = tokens; lexed = lexed; spelled = spelled }
 
--- a fault of the text
+-- a fault of the lexer
 pub text_refused : (source : List ℕ) (fault : LexFault) (line : List ℕ) → IsFaultOf source fault → IsLexicalLine fault line → AreRefused source line
 text_refused source (lexer.BadByte place) line h e = record { refusal = Lexical (BadByte place); refused = ForItsText _ h; line_is = e }
 text_refused source (lexer.TooWide place) line h e = record { refusal = Lexical (TooWide place); refused = ForItsText _ h; line_is = e }
@@ -37,7 +37,7 @@ text_refused source lexer.SourceTooLong line h e = record { refusal = Lexical So
 text_refused source (lexer.NameTooLong place) line h e = record { refusal = Lexical (NameTooLong place); refused = ForItsText _ h; line_is = e }
 text_refused source lexer.NoMemory line h e = absurd e
 
--- a fault of the tokens
+-- a fault of the parser
 pub tokens_refused : (source : List ℕ) (tokens : List Token) (fault : ParseFault) (line : List ℕ) → IsLexed source tokens → IsFault source tokens fault
     → IsSyntaxLine fault line → AreRefused source line
 tokens_refused source tokens (parser.Unexpected place) line l h e =
@@ -48,7 +48,7 @@ tokens_refused source tokens (parser.TooLong place) line l h e =
     record { refusal = Syntactic grammar.TooLong place; refused = ForAToken tokens grammar.TooLong place l h; line_is = e }
 tokens_refused source tokens parser.NoMemory line l h e = absurd e
 
--- the mark of a fault has a place
+-- the mark of a fault has an offset
 pub fault_has_place : (source : List ℕ) (tree : SyntaxTree) (s : SourceSpells source tree) (fault : CheckFault) → IsFirstFaultOf fault (fault_of tree)
     → HasPlace fault (mark_places s.tokens)
 fault_has_place source tree s (checks.LimitOut which) t = tt
@@ -68,7 +68,7 @@ rule_refused : (source : List ℕ) (tree : SyntaxTree) (s : SourceSpells source 
 rule_refused source tree s rule mark line t r =
     record { refusal = RuleBroken rule r.place; refused = ForARule tree rule mark r.place s t r.found; line_is = r.line_is }
 
--- a fault of the program
+-- a fault of the checker
 pub program_refused : (source : List ℕ) (tree : SyntaxTree) (s : SourceSpells source tree) (fault : CheckFault) (line : List ℕ) → IsFirstFaultOf fault (fault_of tree)
     → IsCheckLine fault (mark_places s.tokens) line → AreRefused source line
 program_refused source tree s (checks.LimitOut which) line t e = record { refusal = LimitOut which; refused = ForALimit tree which s t; line_is = e }
@@ -82,11 +82,11 @@ program_refused source tree s (checks.NeedsIndex mark) line t r = rule_refused s
 program_refused source tree s (checks.ZeroSize mark) line t r = rule_refused source tree s _ mark line t r
 program_refused source tree s checks.NoMemory line t e = absurd e
 
--- a test does not come out both ways
+-- a Boolean is not both true and false
 not_both : {b : Bool} → IsTrue b → IsFalse b → ⊥
 not_both h g = let e : true ≡ false = sym h ∙ g in cc (e)
 
--- a program that breaks no rule is accepted, and it is known whether it is of the first form
+-- a program that breaks no rule is accepted, and `is_first_form` is true exactly if it is of the first form
 pub program_accepted : (source : List ℕ) (tree : SyntaxTree) (s : SourceSpells source tree) (is_first_form : Bool) → fault_of tree ≡ None
     → ((source : List ℕ) → IsTrue is_first_form ↔ IsPlain (symbols_in source s.tokens) tree) → AreLoaded source tree is_first_form
 program_accepted source tree s is_first_form obeys plain =

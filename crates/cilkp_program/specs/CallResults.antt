@@ -1,4 +1,4 @@
--- What a call answers, with the faults that came in it.
+-- The result of a call, with the faults in it.
 use Rattle.std.specs.Prelude.{◌≡◌, ◌≤◌, ◌<◌, ℕ, ◌++◌, List, [], length, take, Option, None, IfSome, ◌⊎◌}
 use Rattle.std.specs.Option.{option_map}
 use Rattle.pipe_model.specs.declared.event.RunLog.{RunLog}
@@ -9,14 +9,14 @@ use Rattle.cilkp_program.specs.Faults.{CountRose}
 use Rattle.cilkp_program.specs.Reads.{Content}
 use Rattle.cilkp_program.specs.Rows.{AreHeldBy, FileContents, IsPlainSourceOf, NamesSource, Row, run_words}
 
--- what a call is to give where no fault of reading came in it: the row of its words and of what its files held, which is what these tell, where they tell
+-- the result of a call in which no read failed: the row of its words and of some content of its files; where the content is known, it is that one
 pub record IsRow (words : List (List ℕ)) (holds : Option Content) (status : ℕ) (text : List ℕ) (log : Option RunLog) (reports : List Report) : Type 0 where
   pub held : FileContents
   pub told : IfSome holds (λ content. AreHeldBy content words held)
   pub row : Row words held status text log reports
 
--- the status, the text, the run log and the reports that a call is to give: those of its row where no fault of reading came in the call, and else the line
--- of the fault, the input's where the source has given a program to run. The faults are counted before the call and after it
+-- the status, the text, the run log and the reports of a call: those of its row if no read failed, and otherwise the line of the fault, which is the
+-- input's only if the source is a program to run. `before` and `now` are the counts of faults before and after the call
 pub data IsCallResult (words : List (List ℕ)) (holds : Option Content) (before now : ℕ) : ℕ → List ℕ → Option RunLog → List Report → Type 0 where
   OfRow : {status : ℕ} {text : List ℕ} {log : Option RunLog} {reports : List Report} → now ≡ before → IsRow words holds status text log reports
       → IsCallResult words holds before now status text log reports
@@ -24,11 +24,11 @@ pub data IsCallResult (words : List (List ℕ)) (holds : Option Content) (before
   InputFault : (source input : List ℕ) (file : Option (List ℕ)) (tree : SyntaxTree) → before ≤ now → CountRose before now → words ≡ run_words source input
       → IfSome holds (λ content. content source ≡ file) → IsPlainSourceOf file tree → IsCallResult words holds before now 4 (fault_read input) None []
 
--- the sink has taken so many bytes at the front of the text
+-- the sink took the first `count` bytes of the text; `before` and `now` are its content, if it is known
 abbrev pub HasTaken : ℕ → List ℕ → Option (List ℕ) → Option (List ℕ) → Type 0
 HasTaken count text before now = now ≡ option_map (λ taken. taken ++ take count text) before
 
--- the call's text was taken whole
+-- the call's text was written completely
 pub record IsPrinted (words : List (List ℕ)) (holds : Option Content) (faults_before faults_now status written : ℕ) (log : Option RunLog) (reports : List Report)
     (taken_before taken_now : Option (List ℕ)) : Type 0 where
   pub text : List ℕ
@@ -36,7 +36,7 @@ pub record IsPrinted (words : List (List ℕ)) (holds : Option Content) (faults_
   pub whole : written ≡ length text
   pub taken : HasTaken written text taken_before taken_now
 
--- of the call's text a front was taken, and not all; the run log and the reports are those of the whole answer
+-- a prefix of the call's text was written, and not all of it; the run log and the reports are those of the complete result
 pub record IsCutShort (words : List (List ℕ)) (holds : Option Content) (faults_before faults_now written : ℕ) (log : Option RunLog) (reports : List Report)
     (taken_before taken_now : Option (List ℕ)) : Type 0 where
   pub status : ℕ
@@ -45,7 +45,7 @@ pub record IsCutShort (words : List (List ℕ)) (holds : Option Content) (faults
   pub short : written < length text
   pub taken : HasTaken written text taken_before taken_now
 
--- where memory was refused, nothing was taken, or the call's text was cut short
+-- after out of memory, nothing was taken, or the call's text was cut short
 abbrev pub IsGivenUp : (words : List (List ℕ)) (holds : Option Content) (faults_before faults_now : ℕ) (taken_before taken_now : Option (List ℕ)) → Type 0
 IsGivenUp words holds faults_before faults_now taken_before taken_now =
     (taken_now ≡ taken_before)

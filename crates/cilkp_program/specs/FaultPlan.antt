@@ -3,7 +3,7 @@ use Rattle.std.specs.Prelude.{◌==◌, ℕ, List, Bool}
 use Rattle.std.specs.List.{list_any}
 use Rattle.cilkp_program.specs.Faults.{next_count, count_after}
 
--- the calls that are to fail, by their numbers from 0, and how many calls and faults there were so far
+-- the calls that are to fail, by their numbers from 0, and the counts of calls and faults so far
 pub record Plan : Type 0 where
   pub fail_at : List ℕ
   pub calls : ℕ

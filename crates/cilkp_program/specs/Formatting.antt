@@ -1,4 +1,4 @@
--- What a call promises of a program whose canonical text it is to print.
+-- What a call guarantees when it prints the canonical text of an accepted program.
 use Rattle.std.specs.Prelude.{◌≡◌, ℕ, List, [], length, Option, None}
 use Rattle.pipe_model.specs.declared.event.RunLog.{RunLog}
 use Rattle.pipe_model.specs.declared.report.Report.{Report}
@@ -8,13 +8,13 @@ use Rattle.cilkp_program.specs.CallResults.{HasTaken}
 use Rattle.cilkp_program.specs.Reads.{Content}
 use Rattle.cilkp_program.specs.Rows.{IsSourceOf, format_words}
 
--- the words are a command that prints a source which is accepted as the program
+-- the words are `format SOURCE`, and the source is accepted as the program
 pub record IsToFormat (words : List (List ℕ)) (content : Content) (tree : SyntaxTree) : Type 0 where
   pub source : List ℕ
   pub command : words ≡ format_words source
   pub program : IsSourceOf (content source) tree
 
--- the canonical text of the program was taken whole, with status 0, and nothing was run
+-- the canonical text of the program was written completely, with status 0, and nothing was run
 pub record ReturnsText (tree : SyntaxTree) (status written : ℕ) (run_log : Option RunLog) (reports : List Report) (taken_before taken_now : Option (List ℕ)) : Type 0 where
   pub done : status ≡ 0
   pub whole : written ≡ length (program_text tree)

@@ -1,4 +1,4 @@
--- The headline: what a call promises of a program that it accepts, whatever the throttling limit.
+-- The headline: what a call guarantees for an accepted program of the first form with an empty input, for every throttling limit of at least 1.
 use Rattle.std.specs.Prelude.{◌≡◌, ◌≢◌, ◌≤◌, ◌⊎◌, ◌↔◌, ◌++◌, ℕ, ℤ, List, [], length, Option, Some, None}
 use Rattle.pipe_model.specs.declared.event.RunLog.{RunLog}
 use Rattle.pipe_model.specs.declared.report.Report.{Report}
@@ -14,7 +14,7 @@ use Rattle.cilkp_program.specs.CellNames.{race_lines}
 use Rattle.cilkp_program.specs.Reads.{Content}
 use Rattle.cilkp_program.specs.Rows.{ElisionHasNoRace, IsPlainSourceOf, elision_output_text, run_words, elision_trap}
 
--- the words are a command that runs a source which is accepted as the program, and is of the first form, on an empty input
+-- the words are `run SOURCE INPUT`, the source is accepted as the program and is of the first form, and the input is empty
 pub record IsToRun (words : List (List ℕ)) (content : Content) (tree : SyntaxTree) : Type 0 where
   pub source : List ℕ
   pub input : List ℕ
@@ -22,26 +22,26 @@ pub record IsToRun (words : List (List ℕ)) (content : Content) (tree : SyntaxT
   pub program : IsPlainSourceOf (content source) tree
   pub empty : content input ≡ Some []
 
--- a run of the program under the throttling limit, by its log, its reports, and the status and the text of the call
+-- a run of the program under the throttling limit: its log, its reports, and the status and the text of the call
 pub record MeetsHeadline (tree : SyntaxTree) (input : List ℤ) (limit : ℕ) (log : RunLog) (reports : List Report) (status : ℕ) (text : List ℕ) : Type 0 where
-  -- the log tells a finished run of the program on its input, with the run's own columns
+  -- the log is that of a finished run of the program on its input, with the run's own columns
   pub run : IsFinishedProgramRun (whole_of tree input) limit log
   -- a cell has a report exactly if two conflicting accesses to it are parallel in the run's own dag; it has at most one, and the reports rise by cell
   pub reported : AreRight (columns_after log.events) (accesses_after log.events) reports
-  -- no cell is reported exactly when the dag of the serial elision has no race
+  -- no cell is reported exactly if the dag of the serial elision has no race
   pub silent : (reports ≡ []) ↔ ElisionHasNoRace tree input
-  -- status 2 comes exactly when the dag of the serial elision has a race, and the races are printed
+  -- the status is 2 exactly if the dag of the serial elision has a race, and then the races are printed
   pub racy : (status ≡ 2) ↔ (ElisionHasNoRace tree input → ⊥)
   pub races : status ≡ 2 → text ≡ race_lines tree.cells reports
-  -- otherwise the output and the trap of the serial elision are printed, with status 3 exactly when it has a trap
+  -- otherwise the output and the trap of the serial elision are printed, with status 3 exactly if it has a trap, and status 0 exactly if not
   pub otherwise : ElisionHasNoRace tree input → text ≡ elision_output_text tree input ++ trap_lines (elision_trap tree input)
   pub trapped : (status ≡ 3) ↔ (ElisionHasNoRace tree input × (elision_trap tree input ≢ None))
   pub untrapped : (status ≡ 0) ↔ (ElisionHasNoRace tree input × (elision_trap tree input ≡ None))
   -- at most the throttling limit of iterations are alive at any event
   pub throttled : IsThrottled limit log.events
 
--- the call has answered with the log of a run that meets the headline, whatever the limit, and its text was taken whole.
--- There is no other answer for an accepted program: the status is 0, 2 or 3
+-- the call returned the log of a run that meets the headline for every limit of at least 1, and its text was written completely.
+-- The status is 0, 2 or 3: an accepted program of the first form with an empty input has no other result
 pub record ReturnsRun (tree : SyntaxTree) (status written : ℕ) (run_log : Option RunLog) (reports : List Report) (taken_before taken_now : Option (List ℕ)) : Type 0 where
   pub log : RunLog
   pub logged : run_log ≡ Some log

@@ -1,4 +1,4 @@
--- What the loading of a source and of an input answers.
+-- The results of loading a source and an input.
 use Rattle.std.specs.Prelude.{◌≡◌, ℕ, List, [], Option, Some, IfSome, IsTrue, IsFalse, Bool, true, false}
 use Rattle.pipe_model.specs.Language.FirstForm.{IsFirstForm}
 use Rattle.pipe_model.specs.Language.SourceRefusals.{IsAccepted, IsRefused, Refusal}
@@ -11,13 +11,13 @@ use Rattle.cilkp_program.specs.declared.load.Input.TheVariants as inputs
 use Rattle.cilkp_program.specs.Reads.{Content}
 use Rattle.cilkp_program.specs.Rows.{InputRefusal, IsPlainSourceOf, IsSourceOf, SourceRefusal}
 
--- whether the loading of a source failed
+-- whether a read of the source failed
 abbrev pub is_source_fault : Source → Bool
 is_source_fault (sources.Accepted loaded) = false
 is_source_fault (sources.Refused line) = false
 is_source_fault sources.Failed = true
 
--- the bytes are accepted as the program, and it is known whether they are of the first form
+-- the bytes are accepted as the program, and `is_first_form` is true exactly if they are of the first form
 pub record AreLoaded (bytes : List ℕ) (tree : SyntaxTree) (is_first_form : Bool) : Type 0 where
   pub accepted : IsAccepted bytes tree
   pub plain : IsTrue is_first_form → IsFirstForm bytes tree
@@ -29,43 +29,43 @@ pub record AreRefused (bytes line : List ℕ) : Type 0 where
   pub refused : IsRefused bytes refusal
   pub line_is : line ≡ refusal_line refusal
 
--- the bytes of a source gave this answer
+-- the result of loading these bytes
 abbrev pub IsLoadOf : List ℕ → Source → Type 0
 IsLoadOf bytes (sources.Accepted loaded) = AreLoaded bytes (tree_of loaded.program) loaded.is_first_form
 IsLoadOf bytes (sources.Refused line) = AreRefused bytes line
 IsLoadOf bytes sources.Failed = ⊥
 
--- the file holds the source of the program, and it is known whether it is of the first form
+-- the file holds a source of the program, and `is_first_form` is true exactly if it is of the first form
 pub record IsLoaded (file : Option (List ℕ)) (tree : SyntaxTree) (is_first_form : Bool) : Type 0 where
   pub source : IsSourceOf file tree
   pub plain : IsTrue is_first_form → IsPlainSourceOf file tree
   pub other : IsFalse is_first_form → IsPlainSourceOf file tree → ⊥
 
--- the file gave this answer: its program, or the line that refuses it
+-- the result of loading this file as a source: its program, or the line that refuses it
 abbrev pub IsSourceFrom : List ℕ → Option (List ℕ) → Source → Type 0
 IsSourceFrom name file (sources.Accepted loaded) = IsLoaded file (tree_of loaded.program) loaded.is_first_form
 IsSourceFrom name file (sources.Refused line) = SourceRefusal name file line
 IsSourceFrom name file sources.Failed = Unit {0}
 
--- the answer is what a file of this name gave, which held what the files tell, where they tell
+-- some content of the file explains the result; where the content is known, it is that one
 pub record IsSourceResult (holds : Option Content) (name : List ℕ) (source : Source) : Type 0 where
   pub file : Option (List ℕ)
   pub told : IfSome holds (λ content. content name ≡ file)
   pub gave : IsSourceFrom name file source
 
--- whether the loading of an input failed
+-- whether a read of the input failed
 abbrev pub is_input_fault : Input → Bool
 is_input_fault inputs.Empty = false
 is_input_fault (inputs.Refused line) = false
 is_input_fault inputs.Failed = true
 
--- the file gave this answer: it is empty, or the line refuses it
+-- the result of loading this file as an input: it is empty, or the line refuses it
 abbrev pub IsInputFrom : List ℕ → Option (List ℕ) → Input → Type 0
 IsInputFrom name file inputs.Empty = file ≡ Some []
 IsInputFrom name file (inputs.Refused line) = InputRefusal name file line
 IsInputFrom name file inputs.Failed = Unit {0}
 
--- the answer is what a file of this name gave, which held what the files tell, where they tell
+-- some content of the file explains the result; where the content is known, it is that one
 pub record IsInputResult (holds : Option Content) (name : List ℕ) (input : Input) : Type 0 where
   pub file : Option (List ℕ)
   pub told : IfSome holds (λ content. content name ≡ file)

@@ -1,4 +1,4 @@
--- Files and texts that are held in memory.
+-- Files and texts in memory.
 use Rattle.std.specs.Prelude.{ℕ, ◌-◌, List, [], ◌∷◌, length, map, min, Option, Some, None, if◌then◌else◌, String, string_bytes}
 use Rattle.std.specs.Str.{bytes_eq}
 use Rattle.std.specs.declared.alloc.Global.{Global}
@@ -6,12 +6,12 @@ use Rattle.cilkp_program.specs.Reads.{Content}
 use Rattle.cilkp_program.specs.declared.files.ReadPart.{ReadPart}
 use Rattle.cilkp_program.specs.declared.files.ReadPart.TheVariants.{Got, Missing}
 
--- files in memory, each with its name, and how many bytes a call serves at most
+-- files in memory, each with its name, and the greatest number of bytes that a call serves
 pub record StoredFiles : Type 0 where
   pub files : List (List ℕ × List ℕ)
   pub most : ℕ
 
--- the bytes of each file beside those of its name
+-- each file as the bytes of its name and its content
 abbrev pub named_bytes : List (String Global × List ℕ) → List (List ℕ × List ℕ)
 named_bytes files = map (λ f. (string_bytes f.0, f.1)) files
 
@@ -20,16 +20,16 @@ abbrev pub content_of : List (List ℕ × List ℕ) → Content
 content_of [] name = None
 content_of (f ∷ fs) name = if bytes_eq f.0 name then Some f.1 else content_of fs name
 
--- how many bytes are served of a file at a place, to a part with so much room
+-- how many bytes of a file are served from offset `place`, to a part of `room` bytes
 abbrev pub served_len : List ℕ → ℕ → ℕ → ℕ → ℕ
 served_len bytes place room most = min (min (length bytes - place) room) most
 
--- what a read of a part of a file, or of the want of one, answers
+-- the result of reading a part of a file, or of a file that does not exist
 abbrev pub served : Option (List ℕ) → ℕ → ℕ → ℕ → ReadPart
 served None place room most = Missing
 served (Some bytes) place room most = Got (served_len bytes place room most)
 
--- a text in memory, and how many bytes a call takes at most
+-- a text in memory, and the greatest number of bytes that a call takes
 pub record StoredText : Type 0 where
   pub taken : List ℕ
   pub most : ℕ

@@ -1,4 +1,4 @@
--- The line of each fault of the lexer, the parser and the checker. Want of memory has none.
+-- The line of each fault of the lexer, the parser and the checker. Out of memory has none.
 use Rattle.std.specs.Prelude.{◌≡◌, ℕ, ℤ, pos, List, slice_get, Some}
 use Rattle.pipe_check.specs.declared.fault.CheckFault.{CheckFault}
 use Rattle.pipe_check.specs.declared.fault.CheckFault.TheVariants as checks
@@ -12,7 +12,7 @@ use Rattle.pipe_model.specs.Language.Spelling as grammar
 use Rattle.pipe_model.specs.Texts.{lexical_line, refusal_line, rule_line, syntax_line}
 use Rattle.pipe_model.specs.Language.Tokens.{BadByte, TooWide, SourceTooLong, NameTooLong}
 
--- the line of a fault of the text
+-- the line of a fault of the lexer
 abbrev pub IsLexicalLine : LexFault → List ℕ → Type 0
 IsLexicalLine (lexer.BadByte place) line = line ≡ lexical_line (BadByte place)
 IsLexicalLine (lexer.TooWide place) line = line ≡ lexical_line (TooWide place)
@@ -20,18 +20,18 @@ IsLexicalLine lexer.SourceTooLong line = line ≡ lexical_line SourceTooLong
 IsLexicalLine (lexer.NameTooLong place) line = line ≡ lexical_line (NameTooLong place)
 IsLexicalLine lexer.NoMemory line = ⊥
 
--- the line of a fault of the tokens
+-- the line of a fault of the parser
 abbrev pub IsSyntaxLine : ParseFault → List ℕ → Type 0
 IsSyntaxLine (parser.Unexpected place) line = line ≡ syntax_line grammar.Unexpected place
 IsSyntaxLine (parser.TooDeep place) line = line ≡ syntax_line grammar.TooDeep place
 IsSyntaxLine (parser.TooLong place) line = line ≡ syntax_line grammar.TooLong place
 IsSyntaxLine parser.NoMemory line = ⊥
 
--- the mark with this number has a place
+-- the mark with this number has an offset
 abbrev pub HasPlaceAt : List ℤ → ℕ → Type 0
 HasPlaceAt places mark = (place : ℕ) × (slice_get places mark ≡ Some (pos place))
 
--- the mark of a fault of the program has a place, where the fault has a mark
+-- if a fault of the checker has a mark, the mark has an offset
 abbrev pub HasPlace : CheckFault → List ℤ → Type 0
 HasPlace (checks.LimitOut which) places = Unit {0}
 HasPlace (checks.Unknown mark) places = HasPlaceAt places mark
@@ -44,13 +44,13 @@ HasPlace (checks.NeedsIndex mark) places = HasPlaceAt places mark
 HasPlace (checks.ZeroSize mark) places = HasPlaceAt places mark
 HasPlace checks.NoMemory places = Unit {0}
 
--- the line of a rule that is broken at the mark with this number, by the places of the marks
+-- the line of a rule that is broken at the mark with this number; `places` are the offsets of the marks
 pub record IsRuleLine (rule : checking.CheckingRule) (places : List ℤ) (mark : ℕ) (line : List ℕ) : Type 0 where
   pub place : ℕ
   pub found : slice_get places mark ≡ Some (pos place)
   pub line_is : line ≡ rule_line rule place
 
--- the line of a fault of the program
+-- the line of a fault of the checker
 abbrev pub IsCheckLine : CheckFault → List ℤ → List ℕ → Type 0
 IsCheckLine (checks.LimitOut which) places line = line ≡ refusal_line (LimitOut which)
 IsCheckLine (checks.Unknown mark) places line = IsRuleLine checking.Unknown places mark line

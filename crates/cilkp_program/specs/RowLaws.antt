@@ -1,10 +1,10 @@
--- The table of answers has one row for each call.
+-- The table of results has one row for each call.
 use Rattle.std.specs.Prelude.{◌≡◌, ℕ, List, Option}
 use Rattle.pipe_model.specs.declared.event.RunLog.{RunLog}
 use Rattle.pipe_model.specs.declared.report.Report.{Report}
 use Rattle.cilkp_program.specs.Rows.{FileContents, Row}
 
--- two rows of the same words and the same files have one status, one text, one run log and the same reports
+-- two rows of the same words and the same files have the same status, text, run log and reports
 abbrev pub CallsHaveOneRow : Type 0
 CallsHaveOneRow = (words : List (List ℕ)) (held : FileContents) (status other_status : ℕ) (text other_text : List ℕ) (log other_log : Option RunLog)
     (reports other_reports : List Report)

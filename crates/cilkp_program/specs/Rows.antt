@@ -1,4 +1,4 @@
--- The table of answers: what a call prints, with its status, its run log and its reports of races, where nothing goes wrong outside.
+-- The table of results: what a call prints, with its status, its run log and its reports of races, if no read or write fails.
 use Rattle.std.specs.Prelude.{◌≡◌, ◌≢◌, ℕ, ℤ, ◌++◌, List, [], ◌∷◌, map, Option, Some, None, codes, String, string_bytes}
 use Rattle.std.specs.declared.alloc.Global.{Global}
 use Rattle.pipe_model.specs.declared.access.NodeAccess.{NodeAccess}
@@ -23,33 +23,33 @@ use Rattle.cilkp_program.specs.Reads.{Content}
 abbrev pub words_of : List (String Global) → List (List ℕ)
 words_of words = map string_bytes words
 
--- the command that runs a source on an input: `run SOURCE INPUT`
+-- the words of `run SOURCE INPUT`, which runs a source on an input
 abbrev pub run_words : (source input : List ℕ) → List (List ℕ)
 run_words source input = codes "run" ∷ source ∷ input ∷ []
 
--- the command that prints the canonical text of a source's program: `format SOURCE`
+-- the words of `format SOURCE`, which prints the canonical text of a source's program
 abbrev pub format_words : (source : List ℕ) → List (List ℕ)
 format_words source = codes "format" ∷ source ∷ []
 
--- the words are a command that prints a source's program
+-- the words are a `format` command
 abbrev pub IsFormat : List (List ℕ) → Type 0
 IsFormat words = (source : List ℕ) × (words ≡ format_words source)
 
--- the words are a command on this source
+-- the words are a command with this source
 pub data NamesSource (words : List (List ℕ)) (source : List ℕ) : Type 0 where
   ByRun : (input : List ℕ) → words ≡ run_words source input → NamesSource words source
   ByFormat : words ≡ format_words source → NamesSource words source
 
--- the words are a command that runs a source on this input
+-- the words are a `run` command with this input
 abbrev pub NamesInput : (words : List (List ℕ)) (input : List ℕ) → Type 0
 NamesInput words input = (source : List ℕ) × (words ≡ run_words source input)
 
--- what the two files of a command hold, each by its bytes where there is such a file
+-- the content of a command's source and input; none for a file that does not exist
 pub record FileContents : Type 0 where
   pub source : Option (List ℕ)
   pub input : Option (List ℕ)
 
--- the files of the command hold what these files tell
+-- `held` is the content of the command's source and input
 pub record AreHeldBy (content : Content) (words : List (List ℕ)) (held : FileContents) : Type 0 where
   pub source : (name : List ℕ) → NamesSource words name → content name ≡ held.source
   pub input : (name : List ℕ) → NamesInput words name → content name ≡ held.input
@@ -60,7 +60,7 @@ pub record IsSourceOf (file : Option (List ℕ)) (tree : SyntaxTree) : Type 0 wh
   pub held : file ≡ Some bytes
   pub accepted : IsAccepted bytes tree
 
--- the file holds a source of the first form, which is accepted as the program
+-- the file holds a source of the first form that is accepted as the program
 pub record IsPlainSourceOf (file : Option (List ℕ)) (tree : SyntaxTree) : Type 0 where
   pub bytes : List ℕ
   pub held : file ≡ Some bytes
@@ -88,7 +88,7 @@ elision_trap tree input = program_trap (whole_of tree input)
 abbrev pub elision_columns : SyntaxTree → List ℤ → List (List Node)
 elision_columns tree input = map column_of (loop_traces (whole_of tree input))
 
--- the accesses of its loop: those of `init` and `final` race with nothing
+-- the accesses of its loop; those of `init` and `final` cannot race
 abbrev pub elision_accesses : SyntaxTree → List ℤ → List NodeAccess
 elision_accesses tree input = loop_accesses (whole_of tree input)
 
@@ -107,8 +107,8 @@ pub data RunResult (tree : SyntaxTree) (input : List ℤ) : ℕ → List ℕ →
   Finishes : ElisionHasNoRace tree input → elision_trap tree input ≡ None → RunResult tree input 0 (elision_output_text tree input) []
   Traps : (t : TrapAt) → ElisionHasNoRace tree input → elision_trap tree input ≡ Some t → RunResult tree input 3 (elision_output_text tree input ++ trap_line t) []
 
--- the row of a call by its words and its files: its status, its text, its run log where the program is run, and its reports.
--- The first refusal in this order counts: the words, the source, the input. Only programs of the first form are run
+-- the row of a call by its words and its files: its status, its text, its run log if the program is run, and its reports.
+-- The words are refused before the source, and the source before the input. Only programs of the first form are run
 pub data Row (words : List (List ℕ)) (held : FileContents) : ℕ → List ℕ → Option RunLog → List Report → Type 0 where
   NoCommand : ((source input : List ℕ) → words ≢ run_words source input) → ((source : List ℕ) → words ≢ format_words source)
       → Row words held 1 refused_usage None []

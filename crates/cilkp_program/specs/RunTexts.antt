@@ -1,4 +1,4 @@
--- What a run prints, told by its reports of races, its output and its trap.
+-- What a run prints, defined by its reports of races, its output and its trap.
 use Rattle.std.specs.Prelude.{◌≡◌, ◌≢◌, ℕ, ℤ, List, [], ◌++◌, Option, Some, None}
 use Rattle.pipe_model.specs.declared.report.Report.{Report}
 use Rattle.pipe_model.specs.declared.trap.TrapAt.{TrapAt}
@@ -6,7 +6,7 @@ use Rattle.pipe_model.specs.declared.tree.Declaration.{Declaration}
 use Rattle.pipe_model.specs.Texts.{output_lines, trap_line}
 use Rattle.cilkp_program.specs.CellNames.{race_lines}
 
--- the status and the text of a run: its races where there are any, or else its output and its trap
+-- the status and the text of a run: its races if there are any, and otherwise its output and its trap
 pub data IsPrintedAs (cells : List Declaration) (output : List ℤ) (trap : Option TrapAt) (reports : List Report) : ℕ → List ℕ → Type 0 where
   WithRaces : reports ≢ [] → IsPrintedAs cells output trap reports 2 (race_lines cells reports)
   ToItsEnd : reports ≡ [] → trap ≡ None → IsPrintedAs cells output trap reports 0 (output_lines output)

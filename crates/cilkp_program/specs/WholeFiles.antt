@@ -1,4 +1,4 @@
--- What the reading of a whole file and the writing of a whole text answer and leave.
+-- The results of reading a whole file and of writing a whole text.
 use Rattle.std.specs.Prelude.{◌≡◌, ℕ, ◌≤◌, ◌<◌, List, [], length, take, Option, Some, None, Bool, true, false}
 use Rattle.cilkp_program.specs.declared.files.ReadPart.{ReadPart}
 use Rattle.cilkp_program.specs.declared.files.ReadPart.TheVariants as reads
@@ -7,26 +7,26 @@ use Rattle.cilkp_program.specs.declared.whole.WriteEnd.TheVariants as ends
 use Rattle.cilkp_program.specs.declared.whole.Whole.{Whole}
 use Rattle.cilkp_program.specs.declared.whole.Whole.TheVariants.{Bytes, TooLong, Missing, Failed}
 
--- whether the reading ended with a fault
+-- whether a read failed
 abbrev pub is_file_fault : Whole → Bool
 is_file_fault (Bytes bytes) = false
 is_file_fault (TooLong bytes) = false
 is_file_fault Missing = false
 is_file_fault Failed = true
 
--- these bytes stand at the front of the file, and where there is no file they are none
+-- the bytes are a prefix of the file, and empty if there is no file
 abbrev pub IsFrontOf : Option (List ℕ) → List ℕ → Type 0
 IsFrontOf None bytes = bytes ≡ []
 IsFrontOf (Some held) bytes = (bytes ≡ take (length bytes) held) × (length bytes ≤ length held)
 
--- where bytes are answered, they are no more than the limit
+-- the bytes of a whole file are at most `limit`, and those of a file that is too long are more
 abbrev pub IsUpTo : ℕ → Whole → Type 0
 IsUpTo limit (Bytes bytes) = length bytes ≤ limit
 IsUpTo limit (TooLong bytes) = limit < length bytes
 IsUpTo limit Missing = Unit {0}
 IsUpTo limit Failed = Unit {0}
 
--- an answer that is no fault tells exactly whether there is a file, whether it is longer than the limit, and its bytes
+-- unless a read failed, the result is right: whether there is a file, whether it is longer than the limit, and otherwise exactly its bytes
 abbrev pub IsWholeOf : Option (List ℕ) → ℕ → Whole → Type 0
 IsWholeOf None limit (Bytes bytes) = ⊥
 IsWholeOf None limit (TooLong bytes) = ⊥
@@ -37,13 +37,13 @@ IsWholeOf (Some held) limit (TooLong bytes) = IsFrontOf (Some held) bytes × (li
 IsWholeOf (Some held) limit Missing = ⊥
 IsWholeOf (Some held) limit Failed = Unit {0}
 
--- whether the writing ended with a fault
+-- whether a write failed
 abbrev pub is_text_fault : WriteEnd → Bool
 is_text_fault ends.Whole = false
 is_text_fault ends.Failed = true
 is_text_fault ends.NoMemory = false
 
--- where a further read found nothing more, the bytes are the whole file
+-- if a further read gets 0 bytes, the bytes are the whole file
 abbrev pub EndsAt : Option (List ℕ) → List ℕ → ReadPart → Type 0
 EndsAt None bytes (reads.Got n) = ⊥
 EndsAt None bytes reads.Missing = Unit {0}

@@ -1,21 +1,21 @@
--- What the writing of a part may answer.
+-- The possible results of writing a part of a text.
 use Rattle.std.specs.Prelude.{ℕ, ◌≤◌, ◌<◌, List, ◌++◌, length, take, Bool, true, false}
 use Rattle.cilkp_program.specs.declared.sink.WritePart.{WritePart}
 use Rattle.cilkp_program.specs.declared.sink.WritePart.TheVariants.{Took, Failed, NoMemory}
 
--- whether the answer is a fault
+-- whether the write failed
 abbrev pub is_write_fault : WritePart → Bool
 is_write_fault (Took n) = false
 is_write_fault Failed = true
 is_write_fault NoMemory = false
 
--- where bytes of the part are taken, they are at least one and no more than it has
+-- if bytes are taken, they are at least one and at most all of the part
 abbrev pub TakesSome : WritePart → List ℕ → Type 0
 TakesSome (Took n) part = (0 < n) × (n ≤ length part)
 TakesSome Failed part = Unit {0}
 TakesSome NoMemory part = Unit {0}
 
--- what stands in the sink after the answer
+-- the content of the sink after the write
 abbrev pub taken_after : WritePart → List ℕ → List ℕ → List ℕ
 taken_after (Took n) part taken = taken ++ take n part
 taken_after Failed part taken = taken

@@ -1,4 +1,4 @@
-//! The top call.
+//! The top call: runs a program, or prints its canonical text.
 
 ghost use Rattle.std.specs.Prelude.{◌≡◌, ◌≢◌, ℕ, ◌≤◌, ◌⊎◌, ◌↔◌, List, [], IfOk, IfSome, IfNone, OnErr};
 ghost use Rattle.pipe_model.specs.Language.CanonicalText.{program_text};
@@ -46,18 +46,19 @@ const WRITE_FAULT: u8 = 5;
 /// How a call ended.
 #[derive(Drop)]
 pub struct Ended {
-    /// 0: the run finished without a trap, or the text of the program was printed. 1: refused. 2: the program has a race. 3: the run trapped. 4: a read failed.
-    /// 5: a write failed.
+    /// 0: the run finished without a trap, or the canonical text of the program was printed. 1: the
+    /// words, the source or the input were refused. 2: the program has a race. 3: the run trapped.
+    /// 4: a read failed. 5: a write failed.
     pub status: u8,
-    /// The run of the program: its events, and its own columns; none where nothing was run.
+    /// The events of the run and its columns; `None` if no program was run.
     pub run_log: Option<RunLog>,
-    /// The first race of each cell that has one, rising by cell; none where the program was not run.
+    /// The first race of each cell that has one, rising by cell; empty if no program was run.
     pub reports: Reports,
-    /// How many bytes the sink took in the call.
+    /// The number of bytes that the sink took in the call.
     pub written: u64,
 }
 
-// A status, the text that is to be printed, the log of the run, and the reports of races.
+// The result of a command before its text is printed.
 #[derive(Drop)]
 struct Answer {
     status: u8,
@@ -66,7 +67,7 @@ struct Answer {
     reports: Reports,
 }
 
-// The names of the source and the input, where the words are the command `run SOURCE INPUT`.
+// The names of the source and the input, if the words are `run SOURCE INPUT`.
 fn run_names(words: &[String]) -> Option<(&str, &str)>
     ensures some { IfSome result (λ names. words_of words.now ≡ run_words names.0.now names.1.now) }
     ensures none { IfNone result ((source input : List ℕ) → words_of words.now ≢ run_words source input) }
@@ -83,7 +84,7 @@ fn run_names(words: &[String]) -> Option<(&str, &str)>
     }
 }
 
-// The name of the source, where the words are the command `format SOURCE`.
+// The name of the source, if the words are `format SOURCE`.
 fn format_name(words: &[String]) -> Option<&str>
     ensures some { IfSome result (λ name. words_of words.now ≡ format_words name.now) }
     ensures none { IfNone result ((source : List ℕ) → words_of words.now ≢ format_words source) }
@@ -100,7 +101,7 @@ fn format_name(words: &[String]) -> Option<&str>
     }
 }
 
-// What is printed of a run with these reports of races, this output and this trap, and its status.
+// The status and the text of a run: the lines of its races, or else its output and its trap.
 fn printed_run(
     alloc: Global,
     cells: &[Declaration],
@@ -120,7 +121,7 @@ fn printed_run(
     }
 }
 
-// What a run of the program comes to, with its log: the run is the serial one, one iteration after the other.
+// Runs the program serially, one iteration after the other: status, text, log and reports.
 fn run_program(alloc: Global, program: &Program) -> Result<Answer, NoMemory>
     requires { (source : List ℕ) × IsFirstForm source (tree_of program.now) }
     ensures outcome { IfOk result (λ a. RunResult (tree_of program.now) [] a.status a.text a.reports) }
@@ -143,7 +144,6 @@ fn run_program(alloc: Global, program: &Program) -> Result<Answer, NoMemory>
     })
 }
 
-// A refusal with its line.
 fn refused(alloc: Global, text: Bytes) -> Answer
     ensures { result ≡ record { status = 1; text = text; run_log = None; reports = [] } }
 {
@@ -155,7 +155,6 @@ fn refused(alloc: Global, text: Bytes) -> Answer
     }
 }
 
-// A fault of reading the file of this name.
 fn read_fault(alloc: Global, name: &str) -> Result<Answer, NoMemory>
     ensures { IfOk result (λ a. a ≡ record { status = 4; text = fault_read name.now; run_log = None; reports = [] }) }
 {
@@ -167,7 +166,7 @@ fn read_fault(alloc: Global, name: &str) -> Result<Answer, NoMemory>
     })
 }
 
-// The canonical text of a program.
+// The result of `format` for an accepted program: its canonical text.
 fn text_of(alloc: Global, program: &Program) -> Result<Answer, NoMemory>
     ensures { IfOk result (λ a. a ≡ record { status = 0; text = program_text (tree_of program.now); run_log = None; reports = [] }) }
 {
@@ -179,7 +178,7 @@ fn text_of(alloc: Global, program: &Program) -> Result<Answer, NoMemory>
     })
 }
 
-// What a call is to print that runs this source on this input.
+// The result of `run SOURCE INPUT`.
 fn answer_run<F: Files>(
     alloc: Global,
     files: &mut F,
@@ -211,7 +210,7 @@ fn answer_run<F: Files>(
     Ok(answer)
 }
 
-// What a call is to print that prints the canonical text of this source's program.
+// The result of `format SOURCE`.
 fn answer_format<F: Files>(alloc: Global, files: &mut F, source: &str) -> Result<Answer, NoMemory>
     ensures keeps { F.holds files.new ≡ F.holds files.old }
     ensures grows { OnErr result (F.faults files.old ≤ F.faults files.new) }
@@ -225,7 +224,6 @@ fn answer_format<F: Files>(alloc: Global, files: &mut F, source: &str) -> Result
     }
 }
 
-// What a call with these words is to print.
 fn answer_for<F: Files>(alloc: Global, words: &[String], files: &mut F) -> Result<Answer, NoMemory>
     ensures keeps { F.holds files.new ≡ F.holds files.old }
     ensures grows { OnErr result (F.faults files.old ≤ F.faults files.new) }
@@ -241,11 +239,12 @@ fn answer_for<F: Files>(alloc: Global, words: &[String], files: &mut F) -> Resul
     Ok(refused(alloc, line(alloc, "refused usage\n")?))
 }
 
-/// Answers the words of a command, which are `run SOURCE INPUT` or `format SOURCE`: all text goes to `out`, and what is
-/// answered is the status, the log of the run, the reports of races, and how many bytes were taken. `run` takes sources of
-/// the first form and an empty input. The run is the serial one today, which is a run for every throttling limit of at
-/// least 1. `format` takes every source that is accepted, and prints the canonical text of its program.
-/// The runtime value and the gate are taken and not used yet. Fails for want of memory alone.
+/// Executes the command `run SOURCE INPUT` or `format SOURCE`. Writes all text to `out`, and
+/// returns the status, the log of the run, the reports of races, and how many bytes `out` took.
+/// `run` takes sources of the first form and an empty input. The run is serial today, which is a
+/// run for every throttling limit of at least 1. `format` takes every accepted source, and prints
+/// the canonical text of its program. The runtime value and the gate are not used yet. Returns an
+/// error only if memory runs out.
 pub fn cilkp<R: Drop, F: Files, S: Sink, G: Gate + Sync>(
     _rt: R,
     alloc: Global,
@@ -254,41 +253,47 @@ pub fn cilkp<R: Drop, F: Files, S: Sink, G: Gate + Sync>(
     out: &mut S,
     _gate: &G,
 ) -> Result<Ended, NoMemory>
-    // The headline: for every accepted program and throttling limit, where no fault came from outside, a call that returns
-    // reports a cell exactly when the run's own dag has two parallel conflicting accesses to it, reports some cell exactly
-    // when the serial elision's dag has such a pair, and otherwise prints exactly the serial elision's output and trap; at
-    // most the throttling limit of iterations are alive at any event.
+    // The headline: for every accepted program of the first form with an empty input, and every
+    // throttling limit of at least 1, if the files' content is known and neither count of faults
+    // rises, a call that returns `Ok` reports a cell exactly when the run's own dag has two
+    // parallel conflicting accesses to it, reports some cell exactly when the serial elision's dag
+    // has such a pair, and otherwise prints exactly the serial elision's output and trap; at most
+    // the throttling limit of iterations are alive at any event.
     ensures headline { IfOk result (λ e. ¬ (CountRose (F.faults files.old) (F.faults files.new)) → ¬ (CountRose (S.faults out.old) (S.faults out.new)) →
         IfSome (F.holds files.old) (λ content. (tree : SyntaxTree) → IsToRun (words_of words.now) content tree →
         ReturnsRun tree e.status e.written e.run_log e.reports (S.taken out.old) (S.taken out.new))) }
-    // For every accepted program that is to be printed, where no fault came from outside, its canonical text is taken whole.
+    // For every accepted program, if the files' content is known and neither count of faults rises,
+    // a `format` call that returns `Ok` has written the canonical text of the program completely.
     ensures formatted { IfOk result (λ e. ¬ (CountRose (F.faults files.old) (F.faults files.new)) → ¬ (CountRose (S.faults out.old) (S.faults out.new)) →
         IfSome (F.holds files.old) (λ content. (tree : SyntaxTree) → IsToFormat (words_of words.now) content tree →
         ReturnsText tree e.status e.written e.run_log e.reports (S.taken out.old) (S.taken out.new))) }
 
-    // The text of the call's row, or of its fault of reading, was taken whole; the run log and the reports are those of the row.
+    // Unless the status is 5, the text of the call's row, or the line of a read that failed, was
+    // written completely; the run log and the reports are those of the row.
     ensures printed { IfOk result (λ e. e.status ≢ 5 →
         IsPrinted (words_of words.now) (F.holds files.old) (F.faults files.old) (F.faults files.new)
         e.status e.written e.run_log e.reports (S.taken out.old) (S.taken out.new)) }
-    // After a fault of writing, a front of that text was taken.
+    // If the status is 5, a prefix of that text was written, and not all of it.
     ensures cut_short { IfOk result (λ e. e.status ≡ 5 →
         IsCutShort (words_of words.now) (F.holds files.old) (F.faults files.old) (F.faults files.new)
         e.written e.run_log e.reports (S.taken out.old) (S.taken out.new)) }
-    // For want of memory, nothing was taken or a front of that text.
+    // After out of memory, nothing was written or a prefix of that text.
     ensures given_up { OnErr result
         (IsGivenUp (words_of words.now) (F.holds files.old) (F.faults files.old) (F.faults files.new)
         (S.taken out.old) (S.taken out.new)) }
-    // The run log is there exactly where neither a refusal nor a fault of reading came, and the words are not that of a format.
+    // Unless the status is 5, there is no run log exactly if the call was refused, a read failed,
+    // or the words are a `format` command.
     ensures logged { IfOk result (λ e. e.status ≢ 5 → (e.run_log ≡ None) ↔ ((e.status ≡ 1) ⊎ ((e.status ≡ 4) ⊎ IsFormat (words_of words.now)))) }
 
-    // Each fault has its cause in this call, and is told where its count grew.
+    // If the status is that of a fault, its count rose in this call. If a count grew, the status is
+    // that of a fault.
     ensures read_fault { IfOk result (λ e. e.status ≡ 4 → CountRose (F.faults files.old) (F.faults files.new)) }
     ensures write_fault { IfOk result (λ e. e.status ≡ 5 → CountRose (S.faults out.old) (S.faults out.new)) }
     ensures files_grew { IfOk result (λ e. CountGrew (F.faults files.old) (F.faults files.new) → (e.status ≡ 4) ⊎ (e.status ≡ 5)) }
     ensures sink_grew { IfOk result (λ e. CountGrew (S.faults out.old) (S.faults out.new) → e.status ≡ 5) }
     ensures statuses { IfOk result (λ e. e.status ≤ 5) }
 
-    // The files stay as they were, and no count of faults falls.
+    // The files are unchanged, and no count of faults falls.
     ensures counts { (F.faults files.old ≤ F.faults files.new) × (S.faults out.old ≤ S.faults out.new) }
     ensures keeps { F.holds files.new ≡ F.holds files.old }
 {

@@ -9,7 +9,7 @@ use pipe_model::memory::NoMemory;
 use std::alloc::Global;
 use std::test::Fail;
 
-// A source file, an input file, and one that may not be what it should.
+// The files of a call: the source `a.pipe` and the input `a.in`.
 fn files(alloc: Global, source: &[u8], input: &[u8]) -> Result<Vec<(String, Bytes)>, NoMemory> {
     let mut files = Vec::new(alloc);
     for (name, text) in [("a.pipe", source), ("a.in", input)] {
@@ -35,7 +35,7 @@ fn numbers(alloc: Global, number: Option<u32>) -> Result<Vec<u32>, NoMemory> {
     Ok(numbers)
 }
 
-// A call with a source and an input in files that serve seven bytes a call, and a sink that takes two.
+// A call to test. Its files serve seven bytes a call, and its sink takes two.
 #[derive(Clone, Copy)]
 pub struct Case<'a> {
     pub words: &'a [&'static str],
@@ -56,7 +56,7 @@ impl<'a> Case<'a> {
         }
     }
 
-    // The call that prints the text of the source's program.
+    // The call that prints the canonical text of the source's program.
     pub fn format(source: &'a [u8]) -> Self {
         Case {
             words: &["format", "a.pipe"],
@@ -64,7 +64,7 @@ impl<'a> Case<'a> {
         }
     }
 
-    // The call, before it is made.
+    // Builds the files, the words and the sink, without making the call.
     pub fn set_up(self, alloc: Global) -> Result<Call, NoMemory> {
         let fails = numbers(alloc, self.read_fails)?;
         Ok(Call {
@@ -74,14 +74,14 @@ impl<'a> Case<'a> {
         })
     }
 
-    // How the call ends, and what the sink has taken.
+    // Makes the call, and returns its result and what the sink took.
     pub fn run(self, alloc: Global) -> Result<(Ended, Vec<u8>), NoMemory> {
         let mut call = self.set_up(alloc)?;
         let ended = call.make(alloc)?;
         Ok((ended, call.sink.taken().as_slice().to_vec(alloc)?))
     }
 
-    // Fails the test where the call ends otherwise, or another text was taken.
+    // Fails the test if the status or the text differs.
     pub fn check(self, alloc: Global, name: &str, status: u8, text: &str) -> Result<(), Fail> {
         let (ended, taken) = self.run(alloc)?;
         if ended.status != status
@@ -97,7 +97,7 @@ impl<'a> Case<'a> {
     }
 }
 
-// A call with what it is made of.
+// A call that is set up, with its words, files and sink.
 #[derive(Drop)]
 pub struct Call {
     words: Vec<String>,
@@ -118,7 +118,7 @@ impl Call {
     }
 }
 
-// A source of these limits, with the rest of the program.
+// A source of `rest` after these limits.
 pub fn source(alloc: Global, limits: [u32; 4], rest: &str) -> Result<String, NoMemory> {
     let [iterations, stages, steps, emits] = limits;
     Ok(format!(in alloc;

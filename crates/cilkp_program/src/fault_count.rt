@@ -6,7 +6,7 @@ ghost use Rattle.std.specs.Prelude.{true};
 
 use std::marker::Model;
 
-/// How many faults there were, up to 2^64 - 1.
+/// The number of faults, at most 2^64 - 1.
 #[derive(Clone, Copy, PartialEq, Eq, Debug)]
 pub struct FaultCount {
     count: u64,
@@ -23,21 +23,21 @@ impl Model for FaultCount {
 }
 
 impl FaultCount {
-    /// No fault so far.
+    /// Creates a count of no faults.
     pub const fn new() -> Self
         ensures { result ≡ 0 }
     {
         FaultCount { count: 0 }
     }
 
-    /// The number of faults.
+    /// Returns the number of faults.
     pub fn get(self) -> u64
         ensures { result ≡ self }
     {
         self.count
     }
 
-    /// Counts a fault; the count stays at its last value.
+    /// Counts a fault. The count stays at its greatest value.
     pub fn rise(&mut self)
         ensures next { self.new ≡ next_count self.old }
         ensures cause { CountsFault true self.old self.new }

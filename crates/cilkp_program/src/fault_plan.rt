@@ -7,11 +7,12 @@ ghost use Rattle.cilkp_program.specs.FaultPlan.{first_plan, fails_next, after_ca
 use crate::fault_count::FaultCount;
 use std::marker::Model;
 
-/// Which calls are to fail, by their numbers counted from 0, and how many calls and faults there were so far.
+/// Which calls are to fail, by their numbers counted from 0, and how many calls and faults there
+/// were so far.
 #[derive(Drop)]
 pub struct FaultPlan {
     fail_at: Vec<u32>,
-    // Stays at 2^64 - 1, which is the number of no call that can be listed.
+    // Stays at 2^64 - 1, which `fail_at` cannot contain.
     calls: u64,
     faults: FaultCount,
 }
@@ -25,7 +26,7 @@ impl Model for FaultPlan {
 }
 
 impl FaultPlan {
-    /// A plan before the first call.
+    /// Creates a plan before the first call.
     pub fn new(fail_at: Vec<u32>) -> Self
         ensures { result ≡ first_plan fail_at.items }
     {
@@ -36,7 +37,7 @@ impl FaultPlan {
         }
     }
 
-    /// Counts a call, and answers whether it is to fail.
+    /// Counts a call, and returns whether it is to fail.
     pub fn next_fails(&mut self) -> bool
         ensures answer { result ≡ fails_next self.old }
         ensures after { self.new ≡ after_call self.old }
@@ -50,7 +51,7 @@ impl FaultPlan {
         fails
     }
 
-    // Whether the number of the next call is listed.
+    // Whether `fail_at` contains the number of the next call.
     fn is_listed(&self) -> bool
         ensures { result ≡ fails_next self.now }
     {

@@ -2,30 +2,31 @@
 
 ghost use Rattle.std.specs.Prelude.{◌≡◌, ℕ, ◌<◌, length, Option, IfSome};
 
-/// How the reading of a part ended.
+/// The result of reading a part of a file.
 #[derive(Clone, Copy, PartialEq, Eq, Debug)]
 pub enum ReadPart {
-    /// So many bytes stand at the front of the part: none exactly at the file's end or past it.
+    /// The number of bytes read, to the start of the part: 0 exactly at the file's end or past it.
     Got(u32),
-    /// There is no file of that name.
+    /// There is no file of this name.
     Missing,
-    /// The reading failed.
+    /// The read failed.
     Failed,
 }
 
-/// Files by their names.
+/// Files that can be read by name.
 pub trait Files {
     ghost use Rattle.cilkp_program.specs.Faults.{CountsFault};
     ghost use Rattle.cilkp_program.specs.Reads.{Content, is_read_fault, IsWithin, ReadsFrom};
 
-    /// What the files hold, where that is told.
+    /// The content of the files, if it is known.
     ghost holds: { Self → Option Content };
 
-    /// How many faults of reading there were.
+    /// The count of reads that failed.
     ghost faults: { Self → ℕ };
 
-    /// Reads what stands at a place, counted in bytes from 0, of the file of a name, into a part that is not empty. Fails
-    /// only where the count of faults rises. What stands in `part` behind the bytes read is left open.
+    /// Reads the file `name` from `place`, an offset in bytes, into `part`, which must not be
+    /// empty. Returns `Failed` only if the count of faults rises. The bytes of `part` after those
+    /// read are unspecified.
     fn read_part(&mut self, name: &str, place: u64, part: &mut [u8]) -> ReadPart
         requires { 0 < length part.old }
         ensures keeps { holds self.new ≡ holds self.old }

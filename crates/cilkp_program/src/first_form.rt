@@ -1,4 +1,5 @@
-//! Which programs are of the first form, the part of the language that has plain cells, statements on names, and stages.
+//! Which programs are of the first form, the part of the language that has plain cells, statements
+//! on names, and stages.
 
 ghost use Rattle.std.specs.Prelude.{◌≡◌, ◌==◌, ◌↔◌, ℕ, List, IsFalse, IsTrue};
 ghost use Rattle.std.specs.List.{count_by, list_all};
@@ -9,19 +10,19 @@ ghost use Rattle.pipe_model.specs.Language.Tokens.{symbol_as, symbols_in};
 use pipe_model::token::{Token, TokenKind};
 use pipe_model::tree::{Declaration, Expr, Program, Stmt};
 
-// the codes of `<` and `+`
+// The codes of `<` and `+`.
 const LESS: u8 = 5;
 
 const PLUS: u8 = 9;
 
-// the places of `init` and `final` among the reserved words
+// The indices of `init` and `final` in the list of reserved words.
 const INIT: u8 = 7;
 
 const FINAL: u8 = 11;
 
 const OPEN_ROUND: u8 = b'(';
 
-// Whether an expression is made of numbers and names with `<` and `+`.
+// Whether an expression has only numbers, names, `<` and `+`.
 fn is_plain_expression(e: &Expr) -> bool
     ensures { result ≡ first_form.is_plain_expression (expression_of e.now) }
 {
@@ -32,7 +33,8 @@ fn is_plain_expression(e: &Expr) -> bool
     }
 }
 
-// Whether a statement is a stage or one on names, with plain expressions.
+// Whether a statement is a stage, `let`, assignment to a name or `emit`, and its expression, if
+// any, is plain.
 fn is_plain_statement(s: &Stmt) -> bool
     ensures { result ≡ first_form.is_plain_statement (statement_of s.now) }
 {
@@ -44,21 +46,20 @@ fn is_plain_statement(s: &Stmt) -> bool
     }
 }
 
-// Whether all statements are plain.
 fn are_plain_statements(statements: &[Stmt]) -> bool
     ensures { result ≡ first_form.are_plain_statements (statements_of statements.now) }
 {
     statements.iter().all(is_plain_statement)
 }
 
-// Whether a statement goes to a next stage.
+// Whether a statement begins a stage.
 fn is_stage(s: &Stmt) -> bool
     ensures { result ≡ (first_form.stages_of (statement_of s.now) == 1) }
 {
     matches!(s, Stmt::Wait(_) | Stmt::Continue(_))
 }
 
-// How many stages stand among the statements, outside inner blocks.
+// The number of stages among the statements, not counting inner blocks.
 #[tactic(auto, using(crate::proofs::FirstFormTests::stages_counted))]
 fn count_stages(statements: &[Stmt]) -> usize
     ensures { result ≡ first_form.stages_in (statements_of statements.now) }
@@ -66,21 +67,18 @@ fn count_stages(statements: &[Stmt]) -> usize
     statements.iter().filter(|s| is_stage(s)).count()
 }
 
-// Whether no cell has a size.
 fn are_plain_cells(cells: &[Declaration]) -> bool
     ensures { result ≡ list_all first_form.is_plain_cell cells.now }
 {
     cells.iter().all(|cell| cell.size.is_none())
 }
 
-// Whether a token is `(`.
 fn is_open_round(token: &Token) -> bool
     ensures { (text : List ℕ) → result ≡ first_form.is_open_round (symbol_as token.now.kind text) }
 {
     token.kind == TokenKind::Sign(OPEN_ROUND)
 }
 
-// How many tokens are `(`.
 fn count_open_round(tokens: &[Token]) -> usize
     ensures { (source : List ℕ) → result ≡ count_by first_form.is_open_round (symbols_in source tokens.now) }
 {
@@ -94,14 +92,13 @@ fn begins_part(token: &Token) -> bool
     matches!(token.kind, TokenKind::Word(INIT | FINAL))
 }
 
-// Whether a token among these is `init` or `final`.
+// Whether one of the tokens is `init` or `final`.
 fn has_part(tokens: &[Token]) -> bool
     ensures { (source : List ℕ) → IsFalse result ↔ (count_by first_form.begins_part (symbols_in source tokens.now) ≡ 0) }
 {
     tokens.iter().any(begins_part)
 }
 
-// Whether a block has no statement.
 #[tactic(auto, using(crate::proofs::FirstFormTests::no_statement))]
 fn is_empty_block(statements: &[Stmt]) -> bool
     ensures { IsTrue result ↔ (statements_of statements.now ≡ Empty) }
@@ -109,9 +106,10 @@ fn is_empty_block(statements: &[Stmt]) -> bool
     statements.is_empty()
 }
 
-/// Whether a program is of the first form: its cells have no size, its test and the expressions of its loop are numbers and
-/// names with `<` and `+`, the statements of its loop are `let`, assignment to a name, `emit` and stages, and its tokens have
-/// neither `init` nor `final`, nor a `(` besides one of the test and one of each stage.
+/// Returns whether a program is of the first form: its cells have no size, its test and the
+/// expressions of its loop have only numbers, names, `<` and `+`, the statements of its loop are
+/// `let`, assignment to a name, `emit` and stages, and its tokens have neither `init` nor `final`,
+/// nor a `(` besides one for the test and one for each stage.
 pub fn is_first_form(tokens: &[Token], program: &Program) -> bool
     ensures { (source : List ℕ) → IsTrue result ↔ first_form.IsPlain (symbols_in source tokens.now) (tree_of program.now) }
 {

@@ -1,14 +1,14 @@
-//! Where a worker may be held before it runs a stage instance.
+//! A hook that may hold a worker before it runs a stage instance.
 
 use pipe_model::node::NodeId;
 
-/// What a worker passes before it runs a stage instance.
+/// A hook that a worker calls before it runs a stage instance.
 pub trait Gate {
-    /// Called by a worker, counted from 0, before the instance runs.
+    /// Is called by worker `worker`, counted from 0, before it runs the instance `node`.
     fn at(&self, worker: u32, node: NodeId);
 }
 
-/// The gate that holds nobody.
+/// The gate that holds no worker.
 #[derive(Clone, Copy, PartialEq, Eq, Debug)]
 pub struct OpenGate;
 

@@ -1,8 +1,8 @@
-//! The law of the table of answers.
+//! The law of the table of results.
 
 ghost use Rattle.cilkp_program.specs.RowLaws.{CallsHaveOneRow};
 
-/// The words and the files of a call decide its row: one status, one text and the same reports.
+/// States that the words and the files of a call determine its status, text, run log and reports.
 pub fn calls_have_one_row()
     ensures { CallsHaveOneRow }
 {}

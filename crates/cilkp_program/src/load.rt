@@ -22,15 +22,16 @@ const MISSING: &str = "refused missing ";
 
 const INPUT_NOT_BUILT: &str = "refused input NotYetBuilt\n";
 
-/// The program of a source that is accepted.
+/// The program of an accepted source.
 #[derive(Drop)]
 pub struct Loaded {
     pub program: Checked,
-    /// Whether the source is of the first form, comments aside: only such programs can be run today.
+    /// Whether the source is of the first form, comments aside. Only such programs can be run
+    /// today.
     pub is_first_form: bool,
 }
 
-/// How the loading of a source ended.
+/// The result of loading a source.
 #[derive(Drop)]
 pub enum Source {
     /// The source is accepted.
@@ -41,8 +42,8 @@ pub enum Source {
     Failed,
 }
 
-/// Loads the program of a source. Fails for want of memory alone; a file that is missing, refused or not read is told by the
-/// answer.
+/// Loads the program of a source. Returns an error only if memory runs out; a file that is missing,
+/// is refused or cannot be read is an `Ok` result.
 pub fn load_source<F: Files>(alloc: Global, files: &mut F, name: &str) -> Result<Source, NoMemory>
     ensures keeps { F.holds files.new ≡ F.holds files.old }
     ensures cause { IfOk result (λ source. CountsFault (is_source_fault source) (F.faults files.old) (F.faults files.new)) }
@@ -58,7 +59,8 @@ pub fn load_source<F: Files>(alloc: Global, files: &mut F, name: &str) -> Result
     }
 }
 
-// The program of these bytes, or the line that refuses them: the first fault of the lexer, the parser or the checker.
+// The program of these bytes, or the line that refuses them: the first fault of the lexer, the
+// parser or the checker.
 fn source_of(alloc: Global, source: &[u8]) -> Result<Source, NoMemory>
     ensures { IfOk result (λ answer. IsLoadOf source.now answer) }
 {
@@ -80,7 +82,7 @@ fn source_of(alloc: Global, source: &[u8]) -> Result<Source, NoMemory>
     }
 }
 
-/// How the loading of an input ended.
+/// The result of loading an input.
 #[derive(Drop)]
 pub enum Input {
     /// The input is empty.
@@ -91,7 +93,8 @@ pub enum Input {
     Failed,
 }
 
-/// Loads an input, which has to be empty: no more than its first byte is read. Fails for want of memory alone.
+/// Loads an input, which must be empty: at most its first byte is read. Returns an error only if
+/// memory runs out.
 pub fn load_input<F: Files>(alloc: Global, files: &mut F, name: &str) -> Result<Input, NoMemory>
     ensures keeps { F.holds files.new ≡ F.holds files.old }
     ensures cause { IfOk result (λ input. CountsFault (is_input_fault input) (F.faults files.old) (F.faults files.new)) }

@@ -1,5 +1,5 @@
-//! The program `cilkp`: it hands its words, the files of the system and the standard output to the top call, and ends
-//! with the status that the call answers.
+//! The program `cilkp`: it passes its words, the files of the system and the standard output to the
+//! top call, and exits with the status that the call returns.
 #![tactic(auto)]
 
 pub mod call;
@@ -37,10 +37,11 @@ use std::env;
 use std::io::ErrorKind;
 use std::process::ExitCode;
 
-/// The status for want of memory, which only the program answers.
+// The status if memory runs out, which only the program returns.
 const NO_MEMORY: u8 = 6;
 
-// The words of the command line without the program's name. A word that is no text makes no command, and so do no words.
+// The words of the command line without the program's name; empty, which is not a command, if a
+// word is not text.
 fn words(rt: &HostRuntime) -> Result<Vec<String>, NoMemory> {
     let mut words = Vec::new(rt.alloc());
     match env::args(rt) {
@@ -55,7 +56,7 @@ fn words(rt: &HostRuntime) -> Result<Vec<String>, NoMemory> {
     Ok(words)
 }
 
-// The call with the real files and the real sink.
+// Makes the top call with the real files and the real sink.
 fn run(rt: &HostRuntime) -> Result<Ended, NoMemory> {
     let words = words(rt)?;
     let mut files = RealFiles::new(rt);

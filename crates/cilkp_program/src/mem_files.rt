@@ -1,4 +1,4 @@
-//! Files in memory, which serve only so many bytes a call, and may fail at chosen calls.
+//! Files in memory, which serve a limited number of bytes a call, and may fail at chosen calls.
 
 ghost use Rattle.std.specs.Prelude.{◌≡◌, ◌<◌, length, IfSome, IfNone, Some, None, if◌then◌else◌, false};
 ghost use Rattle.cilkp_program.specs.Faults.{CountsFault};
@@ -30,7 +30,8 @@ impl Model for CleanFiles {
 }
 
 impl CleanFiles {
-    /// The files of these names; of two with one name the first serves. A call reads at most `most` bytes, at least 1.
+    /// Creates files with these names; of two with one name the first is read. A call reads at most
+    /// `most` bytes, which is at least 1.
     pub fn new(files: Vec<(String, Bytes)>, most: u32) -> Self
         requires { 0 < most }
         ensures { result ≡ record { files = named_bytes files.items; most = most } }
@@ -38,8 +39,8 @@ impl CleanFiles {
         CleanFiles { files, most }
     }
 
-    /// Reads as many bytes as there are at the place, but no more than there is room for and than a call serves. The part
-    /// is not empty.
+    /// Reads all bytes from offset `place`, but at most as many as `part` has room for, and at most
+    /// `most`. `part` must not be empty.
     pub fn serve(&self, name: &str, place: u64, part: &mut [u8]) -> ReadPart
         requires { 0 < length part.old }
         ensures answer { result ≡ served (content_of self.now.files name.now) place (length part.old) self.now.most }
@@ -52,7 +53,7 @@ impl CleanFiles {
     }
 }
 
-// The bytes of the first file of the name.
+// The bytes of the first file with this name.
 fn first_named<'a>(files: &'a [(String, Bytes)], name: &str) -> Option<&'a [u8]>
     ensures some { IfSome result (λ bytes. content_of (named_bytes files.now) name.now ≡ Some bytes.now) }
     ensures none { IfNone result (content_of (named_bytes files.now) name.now ≡ None) }
@@ -65,7 +66,7 @@ fn first_named<'a>(files: &'a [(String, Bytes)], name: &str) -> Option<&'a [u8]>
     None
 }
 
-// Copies what stands at the place to the front of the part.
+// Copies the bytes from offset `place` to the start of `part`, and returns their number.
 fn copy_part(bytes: &[u8], place: u64, most: u32, part: &mut [u8]) -> u32
     requires room { 0 < length part.old }
     requires some { 0 < most }
@@ -106,15 +107,16 @@ impl Files for CleanFiles {
 /// Files in memory that fail at the calls of a plan.
 #[derive(Drop)]
 pub struct MemFiles {
-    /// What is served where a call does not fail.
+    /// The files for the calls that do not fail.
     pub files: CleanFiles,
-    /// Which calls fail, and how many did.
+    /// Which calls fail, and how many have failed.
     pub plan: FaultPlan,
 }
 
 impl MemFiles {
-    /// The files of these names; of two with one name the first serves. A call reads at most `most` bytes, at least 1, and
-    /// the calls whose numbers, counted from 0, are listed in `fail_at` fail.
+    /// Creates files with these names; of two with one name the first is read. A call reads at most
+    /// `most` bytes, which is at least 1, and the calls whose numbers, counted from 0, are in
+    /// `fail_at` fail.
     pub fn new(files: Vec<(String, Bytes)>, most: u32, fail_at: Vec<u32>) -> Self
         requires { 0 < most }
         ensures files { result.files ≡ record { files = named_bytes files.items; most = most } }

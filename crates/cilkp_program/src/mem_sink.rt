@@ -1,4 +1,4 @@
-//! Sinks in memory, which take only so many bytes a call, and may fail at chosen calls.
+//! Sinks in memory, which take a limited number of bytes a call, and may fail at chosen calls.
 
 ghost use Rattle.std.specs.Prelude.{◌≡◌, ◌≢◌, ◌<◌, ◌↔◌, [], length, min, true, false};
 ghost use Rattle.cilkp_program.specs.Faults.{CountsFault};
@@ -32,7 +32,7 @@ impl Model for CleanSink {
 }
 
 impl CleanSink {
-    /// A sink that has taken nothing. A call takes at most `most` bytes, at least 1.
+    /// Creates an empty sink. A call takes at most `most` bytes, which is at least 1.
     pub fn new(alloc: Global, most: u32) -> Self
         requires { 0 < most }
         ensures { result ≡ record { taken = []; most = most } }
@@ -44,14 +44,15 @@ impl CleanSink {
         }
     }
 
-    /// The bytes that were taken, in order.
+    /// Returns the bytes that were taken, in order.
     pub fn taken(&self) -> &Bytes
         ensures { result.now ≡ self.now.taken }
     {
         &self.taken
     }
 
-    /// Takes as many bytes of a part, which is not empty, as a call may; where memory is refused it takes none.
+    /// Takes the first bytes of `part`, which must not be empty: all of it, or `most` bytes if it
+    /// has more. Takes none if memory runs out, and returns `NoMemory`.
     pub fn take(&mut self, part: &[u8]) -> WritePart
         requires { 0 < length part.now }
         ensures answer { result ≢ WritePart.NoMemory → result ≡ WritePart.Took (min (length part.now) self.old.most) }
@@ -90,15 +91,15 @@ impl Sink for CleanSink {
 /// A sink in memory that fails at the calls of a plan.
 #[derive(Drop)]
 pub struct MemSink {
-    /// What takes the bytes where a call does not fail.
+    /// The sink for the calls that do not fail.
     pub sink: CleanSink,
-    /// Which calls fail, and how many did.
+    /// Which calls fail, and how many have failed.
     pub plan: FaultPlan,
 }
 
 impl MemSink {
-    /// A sink that has taken nothing. A call takes at most `most` bytes, at least 1, and the calls whose numbers, counted
-    /// from 0, are listed in `fail_at` fail.
+    /// Creates an empty sink. A call takes at most `most` bytes, which is at least 1, and the calls
+    /// whose numbers, counted from 0, are in `fail_at` fail.
     pub fn new(alloc: Global, most: u32, fail_at: Vec<u32>) -> Self
         requires { 0 < most }
         ensures sink { result.sink ≡ record { taken = []; most = most } }
@@ -110,7 +111,7 @@ impl MemSink {
         }
     }
 
-    /// The bytes that were taken, in order.
+    /// Returns the bytes that were taken, in order.
     pub fn taken(&self) -> &Bytes
         ensures { result.now ≡ self.now.sink.taken }
     {

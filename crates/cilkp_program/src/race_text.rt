@@ -13,7 +13,7 @@ use pipe_model::report::{Report, Reports};
 use pipe_model::tree::Declaration;
 use std::alloc::{AllocError, Global};
 
-// How many cells a declaration has.
+// The number of cells of a declaration.
 fn size_of(declaration: &Declaration) -> u64
     ensures { result ≡ declared_size declaration.now.size }
 {
@@ -23,7 +23,7 @@ fn size_of(declaration: &Declaration) -> u64
     }
 }
 
-// Adds the name of one of a declaration's cells.
+// Appends the name of a declaration's cell, by its index.
 fn push_element(
     text: &mut Vec<u8>,
     alloc: Global,
@@ -40,7 +40,7 @@ fn push_element(
     Ok(())
 }
 
-// Adds the name of a declared cell, which is the one at this place among them.
+// Appends the name of a declared cell, by its index among the cells of all declarations.
 #[tactic(auto, using(crate::proofs::RaceText::name_step))]
 fn push_declared(
     text: &mut Vec<u8>,
@@ -61,7 +61,7 @@ fn push_declared(
     Ok(())
 }
 
-// Adds the name of a cell.
+// Appends the name of a cell.
 fn push_cell(
     text: &mut Vec<u8>,
     alloc: Global,
@@ -77,7 +77,6 @@ fn push_cell(
     }
 }
 
-// The word of an access kind.
 fn word_of(kind: AccessKind) -> &'static str
     ensures { result.now ≡ kind_text kind }
 {
@@ -87,7 +86,7 @@ fn word_of(kind: AccessKind) -> &'static str
     }
 }
 
-// Adds an access: its kind, and its instance by the iteration and the stage number.
+// Appends an access: its kind, and its instance by iteration and stage number.
 fn push_access(
     text: &mut Vec<u8>,
     alloc: Global,
@@ -104,7 +103,7 @@ fn push_access(
     text.extend_from_slice(access.as_bytes())
 }
 
-// Adds the line of a race.
+// Appends the line of a race.
 fn push_race(
     text: &mut Vec<u8>,
     alloc: Global,
@@ -133,7 +132,8 @@ fn push_race(
     Ok(())
 }
 
-/// The lines of races, one for each report; the declarations name the cells. Fails for want of memory alone.
+/// Builds the lines of races, one for each report, with the names of the declared cells. Returns an
+/// error only if memory runs out.
 pub fn race_text(alloc: Global, cells: &[Declaration], reports: &Reports) -> Result<Bytes, NoMemory>
     ensures { IfOk result (λ bytes. bytes ≡ race_lines cells.now reports.now) }
 {

@@ -20,7 +20,7 @@ fn declaration(alloc: Global, name: &[u8], size: Option<i64>) -> Result<Declarat
     })
 }
 
-// A race of the first two iterations on a cell, in their stages 3 and 4, which are their second instances.
+// A race of the first two iterations on a cell, in their second instances, of stages 3 and 4.
 fn report(cell: u32, earlier_kind: AccessKind, later_kind: AccessKind) -> Report {
     Report {
         cell: CellId(cell),

@@ -1,5 +1,5 @@
-//! The real files and the real standard output: the edge that is trusted. They tell nothing of what is read and
-//! taken.
+//! The real files and the real standard output, which are trusted. Their contracts do not say which
+//! bytes are read and taken.
 
 ghost use Rattle.std.specs.Prelude.{◌≡◌, ◌≢◌, ◌≤◌, length, IfOk};
 ghost use Rattle.cilkp_program.specs.Faults.{CountsFault, count_after};
@@ -17,12 +17,12 @@ use std::{io, rt};
 #[derive(Drop)]
 pub struct RealFiles<R> {
     rt: R,
-    /// How many reads failed.
+    /// The number of reads that failed.
     pub faults: FaultCount,
 }
 
 impl<R> RealFiles<R> {
-    /// The files of the system, before the first fault.
+    /// Creates the files of the system, before the first fault.
     pub fn new(rt: R) -> Self
         ensures { result.faults ≡ 0 }
     {
@@ -33,7 +33,7 @@ impl<R> RealFiles<R> {
     }
 }
 
-// Reads at the place of the file of a path.
+// Reads a part of the file at `path`, from offset `place`.
 fn read_at<R: rt::Files>(rt: &R, path: &str, place: u64, part: &mut [u8]) -> io::Result<usize>
     ensures { IfOk result (λ n. n ≤ length part.new) }
 {
@@ -69,12 +69,12 @@ impl<R: rt::Files> Files for RealFiles<R> {
 #[derive(Drop)]
 pub struct RealSink<R> {
     rt: R,
-    /// How many writes failed.
+    /// The number of writes that failed.
     pub faults: FaultCount,
 }
 
 impl<R> RealSink<R> {
-    /// The standard output, before the first fault.
+    /// Creates the standard output, before the first fault.
     pub fn new(rt: R) -> Self
         ensures { result.faults ≡ 0 }
     {

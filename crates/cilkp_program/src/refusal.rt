@@ -20,7 +20,8 @@ fn numbered_line(alloc: Global, before: &str, number: u32) -> Result<Bytes, NoMe
     Ok(Bytes::from_vec(text.into_bytes()))
 }
 
-/// The line of a fault of the lexer. Fails for want of memory alone, which is the answer to a fault that is one too.
+/// Builds the line of a fault of the lexer. Returns an error only if memory runs out or the fault
+/// is `NoMemory`.
 pub fn lexical_line(alloc: Global, fault: LexFault) -> Result<Bytes, NoMemory>
     ensures { IfOk result (λ bytes. IsLexicalLine fault bytes) }
 {
@@ -35,7 +36,8 @@ pub fn lexical_line(alloc: Global, fault: LexFault) -> Result<Bytes, NoMemory>
     }
 }
 
-/// The line of a fault of the parser. Fails for want of memory alone, which is the answer to a fault that is one too.
+/// Builds the line of a fault of the parser. Returns an error only if memory runs out or the fault
+/// is `NoMemory`.
 pub fn syntax_line(alloc: Global, fault: ParseFault) -> Result<Bytes, NoMemory>
     ensures { IfOk result (λ bytes. IsSyntaxLine fault bytes) }
 {
@@ -51,7 +53,7 @@ pub fn syntax_line(alloc: Global, fault: ParseFault) -> Result<Bytes, NoMemory>
     }
 }
 
-// A line that ends in the place of the mark with this number.
+// A line that ends in the offset of the mark with this number.
 fn placed_line(alloc: Global, before: &str, places: &[i64], mark: u32) -> Result<Bytes, NoMemory>
     requires { HasPlaceAt places.now mark }
     ensures { IfOk result (λ bytes. (place : ℕ) × (slice_get places.now mark ≡ Some (pos place)) × (bytes ≡ numbered_line before.now place)) }
@@ -61,8 +63,8 @@ fn placed_line(alloc: Global, before: &str, places: &[i64], mark: u32) -> Result
     Ok(Bytes::from_vec(text.into_bytes()))
 }
 
-/// The line of a fault of the checker, by the places of the program's marks. Fails for want of memory alone, which is the
-/// answer to a fault that is one too.
+/// Builds the line of a fault of the checker; `places` are the offsets of the program's marks.
+/// Returns an error only if memory runs out or the fault is `NoMemory`.
 pub fn check_line(alloc: Global, fault: CheckFault, places: &[i64]) -> Result<Bytes, NoMemory>
     requires { HasPlace fault places.now }
     ensures { IfOk result (λ bytes. IsCheckLine fault places.now bytes) }

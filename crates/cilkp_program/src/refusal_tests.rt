@@ -1,5 +1,6 @@
-// Sources that are refused, one for each line of refusals and one for each bound. An `@` stands before what is refused, and is
-// no part of the source. Other sources that are refused so are in the crate `language_tests`.
+// Sources that are refused, one for each line of refusals and one for each bound. An `@` marks the
+// offset of the refusal, and is not part of the source. The crate `language_tests` has more sources
+// that are refused.
 
 use crate::cases::Case;
 use std::alloc::Global;
@@ -35,13 +36,13 @@ const REFUSED: [(&str, &str); 12] = [
     ("check ZeroSize", "cell @a[0] = 0; pipe_while (0) { }"),
 ];
 
-// Fails the test unless `run` and `format` refuse the source with this line.
+// Fails the test unless `format` and `run` refuse the source with this line.
 fn expect_line(alloc: Global, source: &str, line: &str) -> Result<(), Fail> {
     Case::format(source.as_bytes()).check(alloc, line, 1, line)?;
     Case::of(source.as_bytes()).check(alloc, line, 1, line)
 }
 
-// The source after its limits is refused at the offset of the `@`.
+// Fails the test unless the source after its limits is refused at the offset of the `@`.
 fn expect_refusal(alloc: Global, kind: &str, rest: &str) -> Result<(), Fail> {
     let Some((before, after)) = rest.split_once('@') else {
         return Err(Fail::new(format_args!("{rest}: no offset")));
@@ -52,7 +53,8 @@ fn expect_refusal(alloc: Global, kind: &str, rest: &str) -> Result<(), Fail> {
     expect_line(alloc, source.as_str(), line.as_str())
 }
 
-// Limits, and the number of the one that is out of its range, which counts before the unknown name.
+// Limits, and the number of the one that is out of range; the fault precedes that of the unknown
+// name.
 const RANGES: [([i64; 4], u32); 6] = [
     ([0, 1, 1, 0], 1),
     ([9_223_372_036_854_775_807, 4097, 1, 0], 1),
@@ -73,7 +75,6 @@ fn limits_refused(alloc: Global) -> Result<(), Fail> {
     Ok(())
 }
 
-// This text n times.
 fn repeated(alloc: Global, text: &str, n: usize) -> Result<String, Fail> {
     let mut all = String::new(alloc);
     for _ in 0..n {
@@ -82,7 +83,8 @@ fn repeated(alloc: Global, text: &str, n: usize) -> Result<String, Fail> {
     Ok(all)
 }
 
-// At most 64 brackets are open at once, an expression has at most 256 symbols, a part 64 locals and a source 1,048,576 bytes.
+// At most 64 brackets are open at once, an expression has at most 256 symbols, a part 64 locals,
+// and a source 1,048,576 bytes.
 fn bounds(alloc: Global) -> Result<(), Fail> {
     let brackets = repeated(alloc, "(", 64)?;
     let deep = format!(in alloc; "pipe_while {brackets}@(")?;

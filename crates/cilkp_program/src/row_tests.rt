@@ -1,4 +1,5 @@
-// Rows of the top call, over files and sinks in memory: each with its status and the bytes that were written.
+// Rows of the top call, over files and sinks in memory, with the status and the bytes written of
+// each.
 
 use crate::cases::{Case, source};
 use pipe_model::access::{Access, AccessKind, CellId};
@@ -27,10 +28,10 @@ const RACING_SUMS: &str =
 
 const RACING_LINES: &str = "race output write 0/1 read 1/1\nrace s write 0/1 read 1/1\n";
 
-// Limits, the rest of a source, the status and the text of its call.
+// The limits and the rest of a source, and the status and text of its call.
 type Row = ([u32; 4], &'static str, u8, &'static str);
 
-// A loop with n locals.
+// A loop with `count` locals.
 fn many_locals(alloc: Global, count: usize) -> Result<String, NoMemory> {
     let mut body = String::from_str(alloc, "pipe_while (0) {")?;
     for k in 0..count {
@@ -96,11 +97,11 @@ const PROGRAMS: [Row; 39] = [
         "trap Overflow at 0/0\n",
     ),
     // Pipelines: their output and trap, or their race lines.
-    // A last stage in order of the iterations.
+    // The last stage runs in the order of the iterations.
     ([8, 4, 100, 8], PREFIX_SUMS, 0, "1\n3\n6\n"),
-    // Without the wait both what is summed and the output race.
+    // Without the wait, both the sum and the output race.
     ([8, 4, 100, 8], RACING_SUMS, 2, RACING_LINES),
-    // The next iteration counts on before the last stage reads.
+    // The next iteration may count before the last stage reads.
     (
         [8, 4, 100, 8],
         "cell n = 0; cell s = 0; pipe_while (n < 3) { n = n + 1; let t = n; pipe_wait(1); s = s + n; emit s; }",
@@ -131,21 +132,23 @@ const PROGRAMS: [Row; 39] = [
         0,
         "",
     ),
-    // A stage that the iteration before skipped follows the last stage before it, so 0/1 and 1/2 are in order.
+    // A wait for a stage that the previous iteration skipped follows its last stage before that
+    // one, so 0/1 precedes 1/2.
     (
         [3, 3, 50, 0],
         "cell n = 0; cell s = 0; pipe_while (n < 2) { n = n + 1; let t = n; pipe_wait(t); s = s + t; }",
         0,
         "",
     ),
-    // The other way about, the later stage of the left column is not before the earlier one of the next.
+    // In the other direction, the later stage of the left column does not precede the earlier stage
+    // of the next.
     (
         [3, 3, 50, 0],
         "cell n = 3; cell m = -1; cell s = 0; pipe_while (1 < n) { let t = n; n = n + m; pipe_wait(t); s = s + t; }",
         2,
         "race s write 0/3 read 1/2\n",
     ),
-    // A continue before a wait leaves the stage of the wait in order.
+    // After a continue, the stage of a later wait is still in order.
     (
         [3, 3, 50, 4],
         "cell n = 0; pipe_while (n < 2) { n = n + 1; let t = n; pipe_continue(1); let u = t + t; pipe_wait(2); emit u; }",
@@ -159,7 +162,7 @@ const PROGRAMS: [Row; 39] = [
         0,
         "1\n3\n6\n",
     ),
-    // The stage number overflows, and so does the implied one after the greatest.
+    // The stage number overflows, and so does the implied number after the greatest one.
     (
         [1, 3, 50, 0],
         "cell n = 9223372036854775807; pipe_while (n) { pipe_wait(n + 1); }",
@@ -172,21 +175,22 @@ const PROGRAMS: [Row; 39] = [
         3,
         "trap Overflow at 0/9223372036854775807\n",
     ),
-    // A trap in a later stage ends its iteration alone, and the line is that of the least iteration.
+    // A trap in a later stage ends only its iteration, and the line is that of the least iteration.
     (
         [3, 3, 50, 4],
         "cell n = 0; pipe_while (n < 2) { n = n + 1; let t = n; pipe_wait(1); emit t; let u = 9223372036854775807 + t; }",
         3,
         "1\n2\ntrap Overflow at 0/1\n",
     ),
-    // The left column ended early, by a trap in stage 2, so stage 4 of the next follows that.
+    // The left column ends early, by a trap in stage 2, so stage 4 of the next follows stage 2.
     (
         [3, 3, 50, 4],
         "cell n = 0; cell m = 1; pipe_while (n < 2) { n = n + 1; let t = n; let u = t + t; pipe_wait(u); emit t; pipe_wait(u); }",
         3,
         "1\n2\ntrap StageOrder at 0/2\n",
     ),
-    // Stages 6 and 7 both follow the left stage 5, so the edge to 7 is redundant, and 7 is parallel to the left 9.
+    // Stages 6 and 7 both follow stage 5 on the left, so the edge to 7 is redundant, and 7 is
+    // parallel to stage 9 on the left.
     (
         [2, 3, 50, 4],
         "cell n = 0; cell a = 5; cell b = 9; cell m = -2; cell s = 0; pipe_while (n < 2) { n = n + 1; let t = a; let u = b; a = a + 1; b = b + m; pipe_wait(t); s = s + t; pipe_wait(u); emit t; }",
@@ -200,7 +204,7 @@ const PROGRAMS: [Row; 39] = [
         2,
         "race s write 0/1 read 1/1\n",
     ),
-    // Each instance has steps of its own: the first takes 9, and the second 2.
+    // Each instance has its own limit on steps: the first takes 9 steps, and the second 2.
     (
         [1, 2, 9, 1],
         "cell n = 0; pipe_while (n < 1) { n = n + 1; pipe_wait(); emit n; }",
@@ -213,14 +217,14 @@ const PROGRAMS: [Row; 39] = [
         3,
         "trap Budget at 0/0\n",
     ),
-    // A stage without a number has the next one after a continue too.
+    // A stage without a number has the next number, after a continue too.
     (
         [2, 2, 9, 0],
         "cell n = 0; pipe_while (n < 1) { n = n + 1; pipe_continue(); pipe_wait(); }",
         3,
         "trap StageLimit at 0/1\n",
     ),
-    // The greatest stage number can be named.
+    // A program can use the greatest stage number.
     (
         [2, 2, 50, 1],
         "cell n = 0; pipe_while (n < 2) { n = n + 1; let t = n; pipe_continue(9223372036854775807); let x = 9223372036854775806 + t; emit x; }",
@@ -239,7 +243,7 @@ fn runs(alloc: Global) -> Result<(), Fail> {
     Case::of(most.as_bytes()).check(alloc, "64 locals", 0, "")
 }
 
-// Programs that break no rule and cannot run yet, and one that runs, with a comment.
+// Accepted programs that cannot run yet, and one with a comment, which runs.
 fn forms(alloc: Global) -> Result<(), Fail> {
     let rows = [
         "pipe_while ((0)) { }",
@@ -273,7 +277,7 @@ const ARRAY: &str =
 const ARRAY_TEXT: &str =
     "limits iterations 1, stages 1, steps 1, emits 1;\ncell d[2] = -7;\ninit {\n  d[0] = 1;\n}\npipe_while (d[1]) {\n  if (1) {\n  } else {\n    emit -(2 * (d[0] + 1));\n  }\n}\n";
 
-// Programs of the first form and others are printed, and a text is printed as it is.
+// Programs of the first form and others are printed, and a canonical text is printed unchanged.
 fn formats(alloc: Global) -> Result<(), Fail> {
     let sums = source(alloc, [8, 4, 100, 8], PREFIX_SUMS)?;
     for (source, text) in [
@@ -286,7 +290,7 @@ fn formats(alloc: Global) -> Result<(), Fail> {
     Ok(())
 }
 
-// Other words, files that are missing, and an input that is not empty, in the order of the refusals.
+// Wrong words, missing files, and an input that is not empty, in the order of the refusals.
 fn calls_refused(alloc: Global) -> Result<(), Fail> {
     let good = Case::of(COUNT_TO_TWO.as_bytes());
     let rows: [(&[&str], &str); 14] = [
@@ -368,7 +372,7 @@ fn faults(alloc: Global) -> Result<(), Fail> {
     Ok(())
 }
 
-// Fails the test unless these are the events of the program's run, and its columns are as many.
+// Fails the test unless these are the events of the program's run, and its log has two columns.
 fn expect_events(
     alloc: Global,
     limits: [u32; 4],
@@ -386,7 +390,8 @@ fn expect_events(
     Ok(())
 }
 
-// The events of a pipeline that finishes, and of one that traps in its second stage, in the order in which they happen.
+// The events of a pipeline that finishes, and of one that traps in its second stage, in their
+// order.
 fn events(alloc: Global) -> Result<(), Fail> {
     expect_events(
         alloc,
@@ -433,8 +438,8 @@ fn access(cell: u32, kind: AccessKind, value: i64) -> Access {
     }
 }
 
-// Fails the test unless the call ends as usual, or is out of memory after a prefix of its text. Out of memory before the call
-// is no failure.
+// Fails the test unless the call has the usual result, or runs out of memory after a prefix of its
+// text. Out of memory before the call is not a failure.
 fn prefix_or_all(alloc: Global, rest: &str, status: u8, text: &str) -> Result<(), Fail> {
     let Ok(source) = source(alloc, [8, 4, 100, 8], rest) else {
         return Ok(());

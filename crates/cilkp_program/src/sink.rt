@@ -1,16 +1,16 @@
-//! What takes a text part by part.
+//! Sinks that take a text part by part.
 
 ghost use Rattle.std.specs.Prelude.{◌≡◌, ℕ, ◌<◌, List, length, Option};
 ghost use Rattle.std.specs.Option.{option_map};
 
-/// How the writing of a part ended.
+/// The result of writing a part of a text.
 #[derive(Clone, Copy, PartialEq, Eq, Debug)]
 pub enum WritePart {
-    /// So many bytes at the front of the part were taken, at least one.
+    /// The number of bytes taken, from the start of the part: at least one.
     Took(u32),
-    /// The writing failed, and nothing was taken.
+    /// The write failed, and nothing was taken.
     Failed,
-    /// There was no memory to keep the bytes in, and nothing was taken.
+    /// The sink was out of memory, and nothing was taken.
     NoMemory,
 }
 
@@ -19,13 +19,14 @@ pub trait Sink {
     ghost use Rattle.cilkp_program.specs.Faults.{CountsFault};
     ghost use Rattle.cilkp_program.specs.Writes.{is_write_fault, TakesSome, taken_after};
 
-    /// The bytes that were taken, where that is told.
+    /// The bytes that were taken, if they are known.
     ghost taken: { Self → Option (List ℕ) };
 
-    /// How many faults of writing there were.
+    /// The count of writes that failed.
     ghost faults: { Self → ℕ };
 
-    /// Takes bytes at the front of a part, which is not empty. Fails only where the count of faults rises.
+    /// Takes a prefix of `part`, which must not be empty. Returns `Failed` only if the count of
+    /// faults rises.
     fn write_part(&mut self, part: &[u8]) -> WritePart
         requires { 0 < length part.now }
         ensures cause { CountsFault (is_write_fault result) (faults self.old) (faults self.new) }

@@ -1,4 +1,5 @@
-// The real files and the real sink, and the files and sinks in memory that never fail. Those that fail are in the rows of the call.
+// The real files and the real sink, and the files and sinks in memory that never fail. `row_tests`
+// has those that fail.
 
 use crate::files::{Files, ReadPart};
 use crate::gate::{Gate, OpenGate};
@@ -57,7 +58,7 @@ fn real_files(rt: HostRuntime) -> Result<(), Fail> {
     assert_eq!(rt; end, ReadPart::Got(0));
     assert!(rt; is_text(&whole?));
     assert_eq!(rt; real.faults.get(), 0);
-    // A folder can be opened, but not read.
+    // A folder can be opened but not read.
     assert_eq!(rt; real.read_part(".", 0, &mut part), ReadPart::Failed);
     assert_eq!(rt; real.faults.get(), 1);
     Ok(())
@@ -70,7 +71,7 @@ fn real_sink(rt: HostRuntime) {
     // A write that takes nothing is a fault.
     assert_eq!(rt; real.write_part(b""), WritePart::Failed);
     assert_eq!(rt; real.faults.get(), 1);
-    // Waits for nobody.
+    // The open gate returns at once.
     OpenGate.at(
         0,
         NodeId {

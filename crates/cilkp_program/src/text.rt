@@ -9,14 +9,14 @@ use pipe_model::memory::NoMemory;
 use pipe_model::trap::{Trap, TrapAt, TrapPlace};
 use std::alloc::{AllocError, Global};
 
-/// A line as it stands. Fails for want of memory alone.
+/// Copies a line, which is printed as it is. Returns an error only if memory runs out.
 pub fn line(alloc: Global, text: &str) -> Result<Bytes, NoMemory>
     ensures { IfOk result (λ bytes. bytes ≡ text.now) }
 {
     Ok(Bytes::from_vec(text.as_bytes().to_vec(alloc)?))
 }
 
-/// A line that ends in a name. Fails for want of memory alone.
+/// Builds a line that ends in a name. Returns an error only if memory runs out.
 pub fn named_line(alloc: Global, before: &str, name: &str) -> Result<Bytes, NoMemory>
     ensures { IfOk result (λ bytes. bytes ≡ before.now ++ (name.now ++ codes "\n")) }
 {
@@ -24,14 +24,13 @@ pub fn named_line(alloc: Global, before: &str, name: &str) -> Result<Bytes, NoMe
     Ok(Bytes::from_vec(text.into_bytes()))
 }
 
-// Adds the line of an emitted number.
+// Appends the line of an emitted number.
 fn push_number(text: &mut String, number: i64) -> Result<(), AllocError>
     ensures { OnOk result (string_bytes text.new ≡ string_bytes text.old ++ (signed_decimal number ++ codes "\n")) }
 {
     writeln!(text, "{number}")
 }
 
-// The name of a trap.
 fn name_of(trap: Trap) -> &'static str
     ensures { result.now ≡ trap_name trap }
 {
@@ -48,7 +47,7 @@ fn name_of(trap: Trap) -> &'static str
     }
 }
 
-// Adds the line of a trap.
+// Appends the line of a trap.
 fn push_trap(text: &mut String, at: TrapAt) -> Result<(), AllocError>
     ensures { OnOk result (string_bytes text.new ≡ string_bytes text.old ++ trap_line at) }
 {
@@ -63,7 +62,6 @@ fn push_trap(text: &mut String, at: TrapAt) -> Result<(), AllocError>
     }
 }
 
-// The lines of the emitted numbers.
 fn number_lines(alloc: Global, output: &[i64]) -> Result<String, AllocError>
     ensures { IfOk result (λ text. string_bytes text ≡ output_lines output.now) }
 {
@@ -74,7 +72,8 @@ fn number_lines(alloc: Global, output: &[i64]) -> Result<String, AllocError>
     Ok(text)
 }
 
-/// The lines of a run: its output, and then its trap, where it has one. Fails for want of memory alone.
+/// Builds the lines of a run: its output, and then its trap, if it has one. Returns an error only
+/// if memory runs out.
 pub fn outcome_text(
     alloc: Global,
     output: &Numbers,

@@ -1,4 +1,4 @@
-//! Whole files and whole texts, part after part.
+//! Reads whole files and writes whole texts, part by part.
 
 ghost use Rattle.std.specs.Prelude.{◌≡◌, ◌+◌, ◌++◌, ◌≤◌, ◌<◌, ◌↔◌, length, take, IsOk, IfOk, OnErr, IfSome};
 ghost use Rattle.std.specs.Option.{option_map};
@@ -12,23 +12,24 @@ use pipe_model::list::Bytes;
 use pipe_model::memory::NoMemory;
 use std::alloc::Global;
 
-/// How the reading of a file ended.
+/// The result of reading a file.
 #[derive(Drop)]
 pub enum Whole {
-    /// All bytes of the file, which are no more than the limit.
+    /// All bytes of the file, at most the limit.
     Bytes(Bytes),
-    /// The file is longer than the limit. These are its first bytes, of which there are more than the limit.
+    /// The file is longer than the limit.
     TooLong(Bytes),
-    /// There is no file of that name.
+    /// There is no file of this name.
     Missing,
     /// A read failed.
     Failed,
 }
 
-// How many bytes are asked for at once.
+// The most bytes that a read asks for.
 const PART: usize = 4096;
 
-// How many bytes the next part has room for, with so many read already: no more than up to one byte past the limit.
+// The length of the next part, with `read` bytes read already: no read goes more than one byte past
+// the limit.
 fn next_room(limit: usize, read: usize) -> usize
     requires { read ≤ limit }
     ensures some { 0 < result }
@@ -38,8 +39,8 @@ fn next_room(limit: usize, read: usize) -> usize
     (limit - read).min(PART - 1) + 1
 }
 
-/// Reads a file of at most `limit` bytes, part after part, and no further than one byte past the limit. Fails for want of
-/// memory alone; that a read failed is told by the answer.
+/// Reads a file of at most `limit` bytes, part by part, and at most one byte past the limit.
+/// Returns an error only if memory runs out; if a read fails, the result is `Ok(Whole::Failed)`.
 pub fn read_whole<F: Files>(
     alloc: Global,
     files: &mut F,
@@ -67,7 +68,7 @@ pub fn read_whole<F: Files>(
     Ok(Whole::TooLong(Bytes::from_vec(bytes)))
 }
 
-// Reads a part of the file behind the bytes at its front that were read before.
+// Reads the next part of the file, after `bytes`, into `part`, and appends it to `bytes`.
 fn read_more<F: Files>(
     files: &mut F,
     name: &str,
@@ -94,24 +95,24 @@ fn read_more<F: Files>(
 /// How the writing of a text ended.
 #[derive(Clone, Copy, PartialEq, Eq, Debug)]
 pub enum WriteEnd {
-    /// All of it was taken.
+    /// All of the text was taken.
     Whole,
     /// A write failed.
     Failed,
-    /// The sink had no memory to keep more.
+    /// The sink was out of memory.
     NoMemory,
 }
 
-/// How the writing of a text ended, and how many bytes at its front were taken.
+/// How the writing of a text ended, and the length of the prefix that was taken.
 #[derive(Clone, Copy, PartialEq, Eq, Debug)]
 pub struct Written {
-    /// How it ended.
+    /// How the writing ended.
     pub end: WriteEnd,
-    /// How many bytes were taken.
+    /// The number of bytes taken, from the start of the text.
     pub count: u64,
 }
 
-/// Writes a text, part after part, until it is written whole or the sink refuses a part.
+/// Writes a text, part by part, until all of it is written or the sink does not take a part.
 pub fn write_text<S: Sink>(out: &mut S, text: &[u8]) -> Written
     ensures cause { CountsFault (is_text_fault result.end) (S.faults out.old) (S.faults out.new) }
     ensures count { result.count ≤ length text.now }
@@ -129,7 +130,7 @@ pub fn write_text<S: Sink>(out: &mut S, text: &[u8]) -> Written
     ended(WriteEnd::Whole, done)
 }
 
-// The answer after so many bytes.
+// The result after `done` bytes.
 fn ended(end: WriteEnd, done: usize) -> Written
     ensures { result ≡ record { end = end; count = done } }
 {

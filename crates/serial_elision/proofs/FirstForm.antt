@@ -78,7 +78,7 @@ not_broken : (breaks : Bool) (rule : CheckingRule) (rest : Option CheckingRule) 
 not_broken true rule rest h = absurd (let e : Some rule ≡ None = h in cc (e))
 not_broken false rule rest h = (refl, h)
 
--- with a cell that breaks no rule there are mark_at most 65,536 cells
+-- with a cell that breaks no rule there are at most 65,536 cells
 cell_fits : (before : List Declaration) (d : Declaration) → broken_at (mark_at (opening regions.Cells before) (DeclaredCell d.name d.size)) ≡ None
     → cell_total before + declared_size d.size ≤ 65536
 cell_fits before d h =
