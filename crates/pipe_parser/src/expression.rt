@@ -149,8 +149,8 @@ fn read_unary<'a>(alloc: Global, code: u8, symbols: &Symbols<'a>) -> Read<'a, Ex
     Ok((Expr::Unary(code, boxed(alloc, e)?), rest))
 }
 
-/// Reads an expression of the level. Returns an error if a symbol may not come there, if the symbols
-/// end too early, or if memory runs out.
+/// Reads an expression of the level. Returns an error if a symbol may not come there, if the
+/// symbols end too early, or if memory runs out.
 #[cycle(expression)]
 pub fn read_expression<'a>(alloc: Global, level: u8, symbols: &Symbols<'a>) -> Read<'a, Expr>
     requires from { any_expression ≤ level }
