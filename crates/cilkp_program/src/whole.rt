@@ -17,7 +17,7 @@ use std::alloc::Global;
 pub enum Whole {
     /// All bytes of the file, at most the limit.
     Bytes(Bytes),
-    /// The file is longer than the limit.
+    /// The file is longer than the limit. These are its first bytes, more than the limit.
     TooLong(Bytes),
     /// There is no file of this name.
     Missing,

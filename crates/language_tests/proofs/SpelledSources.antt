@@ -1,4 +1,4 @@
--- The checker can check what the parser made of a source.
+-- The checker can check each program that the parser returns.
 use Rattle.std.proofs.Common.{ℕ, List}
 use Rattle.language_laws.proofs.SpellablePrograms.{spelled_is_spellable}
 use Rattle.pipe_model.specs.declared.token.Token.{Token}

@@ -37,7 +37,8 @@ const UNFINISHED: [Parts; 3] = [
     &[(BODY, 1), ("emit -1", 1), (" + 1", 127), (" @1; }", 1)],
 ];
 
-// An expression that is no part of another has at most 256 symbols: `--1` and 127 times ` + 1` has 257.
+// An expression that is no part of another has at most 256 symbols: `--1` and 127 times ` + 1` has
+// 257.
 const TOO_LONG: [Parts; 8] = [
     &[
         (FINAL, 1),

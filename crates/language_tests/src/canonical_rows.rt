@@ -64,14 +64,15 @@ const PROGRAMS: [(&str, &str); 14] = [
     ),
 ];
 
-// A program with each part, and its text, which has the limits and the initial values as they were given.
+// A program with each part, and its text, which has the limits and the initial values as they were
+// given.
 const WHOLE: (&str, &str) = (
     "limits iterations 8, stages 4, steps 100, emits 0; cell a[3] = -1; cell n = 9223372036854775807; init { a[0] = 5; } pipe_while (more()) { let t = take(); if (a[0] < 1) { while (n) { } } else { if (n) { } pipe_wait(); } n = -((n + t) * iter()); } final { emit !n; }",
     "limits iterations 8, stages 4, steps 100, emits 0;\ncell a[3] = -1;\ncell n = 9223372036854775807;\ninit {\n  a[0] = 5;\n}\npipe_while (more()) {\n  let t = take();\n  if (a[0] < 1) {\n    while (n) {\n    }\n  } else {\n    if (n) {\n    }\n    pipe_wait();\n  }\n  n = -((n + t) * iter());\n}\nfinal {\n  emit !n;\n}\n",
 );
 
-// Expressions and their texts. Operators of one level group from the left, and brackets are printed where the grouping
-// needs them.
+// Expressions and their texts. Operators of one level group from the left, and brackets are printed
+// only if the grouping needs them.
 const EXPRESSIONS: [(&str, &str); 18] = [
     ("((a+b))*c", "(a + b) * c"),
     ("a-(b-c)", "a - (b - c)"),
@@ -147,8 +148,8 @@ fn programs_have_canonical_texts(rt: HostRuntime) -> Result<(), Fail> {
     Ok(())
 }
 
-// `a other b` as an operand of another operator: on the left it has brackets where its level is lower, and on the right
-// where it is lower or the same.
+// `a other b` as an operand of another operator: on the left it has brackets if its level is lower,
+// and on the right if it is lower or the same.
 fn expect_operands(alloc: Global, outer: (&str, u32), inner: (&str, u32)) -> Result<(), Fail> {
     let (sign, level) = outer;
     let (other, other_level) = inner;

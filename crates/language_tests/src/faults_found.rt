@@ -11,8 +11,8 @@ use std::test::Fail;
 /// Limits in their ranges, 49 bytes.
 pub const LIMITS: &str = "limits iterations 1, stages 1, steps 1, emits 1; ";
 
-// The first fault of a source as `Debug` prints it, empty for a program that breaks no rule, and the offsets of the marks
-// where the source is a program.
+// The first fault of a source as `Debug` prints it, empty for a program that breaks no rule, and
+// the offsets of the marks if the source is a program.
 #[derive(Drop)]
 struct FoundFault {
     fault: String,
@@ -37,7 +37,8 @@ fn find_fault(alloc: Global, source: &[u8]) -> Result<FoundFault, NoMemory> {
     Ok(FoundFault { fault, places })
 }
 
-/// The first fault of a source as `Debug` prints it, empty for a program that breaks no rule.
+/// Returns the first fault of a source as `Debug` prints it, empty for a program that breaks no
+/// rule. Returns an error only if memory runs out.
 pub fn first_fault(alloc: Global, source: &str) -> Result<String, NoMemory> {
     Ok(find_fault(alloc, source.as_bytes())?.fault)
 }
@@ -74,7 +75,8 @@ fn number_of_mark(places: &[i64], offset: usize) -> Option<usize> {
         .position(|place| i128::from(*place) == offset as i128)
 }
 
-/// Expects the fault in each source, with texts around the row.
+/// Fails the test unless each source `before`, row, `after` has the fault, at the offset of its
+/// first `@`.
 pub fn expect_faults(
     alloc: Global,
     kind: &str,

@@ -10,7 +10,8 @@ use std::test::Fail;
 
 const LONGEST_SOURCE: usize = 1_048_576;
 
-// A source, and its tokens with offset and length, or its fault. Words are counted from 0, and operators have codes from 1.
+// A source, and its tokens with offset and length, or its fault. Words are counted from 0, and
+// operators have codes from 1.
 const TOKENS: [(&[u8], &str); 36] = [
     (b"", ""),
     (b" \t\r\n", ""),
@@ -109,7 +110,7 @@ fn reserved_words_are_no_names(rt: HostRuntime) -> Result<(), Fail> {
     Ok(())
 }
 
-// A lexical fault counts before each fault of the syntax, also where it comes later.
+// A lexical fault counts before each fault of the syntax, even if it comes later in the text.
 #[test]
 fn lexical_faults_come_first(rt: HostRuntime) -> Result<(), Fail> {
     let alloc = rt.alloc();

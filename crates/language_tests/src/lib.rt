@@ -1,4 +1,5 @@
-//! Tests of the crates that read, check and print sources. Each row is a source with the expected result, written by hand.
+//! Tests of the crates that read, check and print sources. Each row is a source with the expected
+//! result, written by hand.
 #![tactic(auto)]
 
 #[cfg(test)]

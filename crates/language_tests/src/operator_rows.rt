@@ -2,8 +2,8 @@
 
 use op_table::operators::OPS;
 
-// Bytes, and the symbol and the level of the longest operator with which they begin; a greater level binds more tightly.
-// No operator has the code 0.
+// Bytes, and the symbol and the level of the longest operator with which they begin; a greater
+// level binds more tightly. No operator has the code 0.
 const PREFIXES: [(&str, &str, Option<u8>); 12] = [
     ("<=x", "<=", Some(4)),
     ("<x", "<", Some(4)),

@@ -126,7 +126,8 @@ fn programs_are_accepted(rt: HostRuntime) -> Result<(), Fail> {
 const COUNTING: &str =
     "limits iterations 2, stages 1, steps 50, emits 2; cell n = 0; pipe_while (n < 3) { n = n + 1; emit n; }";
 
-// A proper prefix of a program is none: it ends too early, at a token that the rest would make longer or at its end.
+// A proper prefix of a program is no program: it ends too early, at a token that the rest would
+// make longer or at its end.
 #[test]
 fn proper_prefixes_are_refused(rt: HostRuntime) -> Result<(), Fail> {
     let alloc = rt.alloc();

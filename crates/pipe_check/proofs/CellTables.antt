@@ -19,7 +19,7 @@ found_before : (ds : List Declaration) (d : Declaration) (x : List ℕ) → byte
 found_before [] d x h = rw h refl
 found_before (e ∷ ds) d x h = ap (λ o. if bytes_eq e.name x then Some e.size else o) (found_before ds d x h)
 
--- where the first is passed over, the others decide
+-- if the first is passed over, the others decide
 passed_over : (b : Bool) (size : Option ℤ) (o rest last : Option (Option ℤ)) → (if b then Some size else o) ≡ None → (o ≡ None → rest ≡ last)
     → (if b then Some size else rest) ≡ last
 passed_over true size o rest last h f = absurd (let e : Some size ≡ None = h in cc (e))
@@ -60,7 +60,7 @@ table_more sizes grown total count ds d key table named new counted few updates 
   few = few;
 }
 
--- one more is taken of the declarations
+-- the declarations before index i, and the one at i
 pub take_next : (cells : List Declaration) (i : ℕ) (d : Declaration) → i < length cells → d ≡ get_or cells i d → take (i + 1) cells ≡ take i cells ++ d ∷ []
 take_next cells i d h e = take_more cells i d h ∙ ap (λ x. take i cells ++ x ∷ []) (sym e)
 
@@ -69,7 +69,7 @@ cell_obeys : (ds : List Declaration) (d : Declaration) → is_cell ds d.name ≡
     → (declared_size d.size == 0) ≡ false → broken_at (mark_at (opening regions.Cells ds) (DeclaredCell d.name d.size)) ≡ None
 cell_obeys ds d new few some = rw (new, few, some) refl
 
--- behind a declaration without a fault, the first fault is that of the others
+-- after a declaration without a fault, the first fault is that of the others
 pub cell_passed : (cells : List Declaration) (i n : ℕ) (d : Declaration) → i < length cells → d ≡ get_or cells i d → is_cell (take i cells) d.name ≡ false
     → nat_lt 65536 (cell_total (take i cells) + declared_size d.size) ≡ false → (declared_size d.size == 0) ≡ false
     → first_fault (n + 1) (marks_of_cells (take (i + 1) cells) (drop (i + 1) cells)) ≡ first_fault n (marks_of_cells (take i cells) (drop i cells))

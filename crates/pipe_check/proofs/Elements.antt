@@ -6,14 +6,14 @@ use Rattle.pipe_check.proofs.Faults.{fails_first, passes_then}
 use Rattle.pipe_model.specs.Language.Marks.{Scope, mark_at, Indexed, marks_of_expression, marks_of_statement}
 use Rattle.pipe_model.specs.Language.SyntaxTree.{Expression, AssignElement}
 
--- the index is refused
+-- the index has a fault
 pub index_refused : (scope : Scope) (n k : ℕ) (x : List ℕ) (i e : Expression) (refusal : CheckFault) → PassesMarks (Ok k) n (mark_at scope (Indexed x) ∷ [])
     → PassesMarks (Err refusal) k (marks_of_expression scope i) → PassesMarks (Err refusal) n (marks_of_statement scope (AssignElement x i e))
 index_refused scope n k x i e refusal p q =
     passes_then (Err refusal) n k (mark_at scope (Indexed x) ∷ []) (marks_of_expression scope i ++ marks_of_expression scope e) p
     (fails_first refusal k (marks_of_expression scope i) (marks_of_expression scope e) q)
 
--- name and index pass, and the value decides
+-- the name and the index pass, and the value decides
 pub value_decides : (scope : Scope) (n k j : ℕ) (x : List ℕ) (i e : Expression) (answer : Result ℕ CheckFault) → PassesMarks (Ok k) n (mark_at scope (Indexed x) ∷ [])
     → PassesMarks (Ok j) k (marks_of_expression scope i) → PassesMarks answer j (marks_of_expression scope e) → PassesMarks answer n (marks_of_statement scope (AssignElement x i e))
 value_decides scope n k j x i e answer p q r =

@@ -6,7 +6,7 @@ use Rattle.pipe_check.proofs.Faults.{fails_first, passes_then}
 use Rattle.pipe_model.specs.Language.Marks.{Scope, marks_of_expression}
 use Rattle.pipe_model.specs.Language.SyntaxTree.{Expression, And, Or, Binary, binary_expression}
 
--- whichever of the three it is
+-- whichever of the three forms the expression has
 marks_either : (scope : Scope) (code : ℕ) (a b : Expression) (first second : Bool)
     → marks_of_expression scope (if first then Or a b else (if second then And a b else Binary code a b)) ≡ marks_of_expression scope a ++ marks_of_expression scope b
 marks_either scope code a b true second = refl
@@ -16,7 +16,7 @@ marks_either scope code a b false false = refl
 pub marks_joined : (scope : Scope) (code : ℕ) (a b : Expression) → marks_of_expression scope (binary_expression code a b) ≡ marks_of_expression scope a ++ marks_of_expression scope b
 marks_joined scope code a b = marks_either scope code a b (code == 1) (code == 2)
 
--- the left side is refused
+-- the left side has a fault
 pub left_refused : (scope : Scope) (code n : ℕ) (a b whole : Expression) (refusal : CheckFault) → whole ≡ binary_expression code a b
     → PassesMarks (Err refusal) n (marks_of_expression scope a) → PassesMarks (Err refusal) n (marks_of_expression scope whole)
 left_refused scope code n a b whole refusal is h =

@@ -6,7 +6,7 @@ use Rattle.pipe_check.specs.Passing.{IsFirstFaultOf, PassesMarks, Fits}
 use Rattle.pipe_model.specs.Language.CheckingRules.{CheckingRule, Fault, broken_at, fault_or, first_fault}
 use Rattle.pipe_model.specs.Language.Marks.{Mark}
 
--- a fault that stands in what follows a mark stands behind it
+-- if y has the fault of x, then a mark before y has the fault of the mark before x
 fault_stays : (broken : Option CheckingRule) (n : ℕ) (x y : Option Fault) (fault : Fault) → (x ≡ Some fault → y ≡ Some fault)
     → fault_or broken n x ≡ Some fault → fault_or broken n y ≡ Some fault
 fault_stays (Some rule) n x y fault f h = h
@@ -18,7 +18,7 @@ first_stays n [] b fault h = absurd (let e : None ≡ Some fault = h in cc (e))
 first_stays n (mark ∷ a) b fault h =
     fault_stays (broken_at mark) n (first_fault (n + 1) a) (first_fault (n + 1) (a ++ b)) fault (first_stays (n + 1) a b fault) h
 
--- where there is no fault, neither the mark nor what follows has one
+-- neither the mark nor what follows has a fault
 record HasNone (broken : Option CheckingRule) (n : ℕ) (x : Option Fault) : Type 0 where
   pub follows : x ≡ None
   pub skips : (y : Option Fault) → fault_or broken n y ≡ y
@@ -27,14 +27,14 @@ has_none : (broken : Option CheckingRule) (n : ℕ) (x : Option Fault) → fault
 has_none (Some rule) n x h = absurd (let e : Some _ ≡ None = h in cc (e))
 has_none None n x h = record { follows = h; skips = λ y. refl }
 
--- behind marks without a fault, the first fault is that of what follows
+-- after marks without a fault, the first fault is that of what follows
 pub first_behind : (n : ℕ) (a b : List Mark) → first_fault n a ≡ None → first_fault n (a ++ b) ≡ first_fault (n + length a) b
 first_behind n [] b h = ap (λ k. first_fault k b) (omega arith)
 first_behind n (mark ∷ a) b h =
     let none = has_none (broken_at mark) n (first_fault (n + 1) a) h in
     none.skips (first_fault (n + 1) (a ++ b)) ∙ first_behind (n + 1) a b none.follows ∙ ap (λ k. first_fault k b) (omega arith)
 
--- what a refusal tells of one answer it tells of another that has the same fault
+-- an error that reports the fault of x reports that of y, if y has the same fault
 pub tells_more : (refusal : CheckFault) (x y : Option Fault) → ((fault : Fault) → x ≡ Some fault → y ≡ Some fault) → IsFirstFaultOf refusal x → IsFirstFaultOf refusal y
 tells_more (faults.Unknown n) x y f h = f _ h
 tells_more (faults.Twice n) x y f h = f _ h
@@ -47,11 +47,11 @@ tells_more (faults.NeedsIndex n) x y f h = f _ h
 tells_more (faults.ZeroSize n) x y f h = f _ h
 tells_more faults.NoMemory x y f h = tt
 
--- a refusal stays, whatever follows
+-- an error stays the same, whatever follows
 pub fails_first : (refusal : CheckFault) (n : ℕ) (a b : List Mark) → PassesMarks (Err refusal) n a → PassesMarks (Err refusal) n (a ++ b)
 fails_first refusal n a b h = tells_more refusal (first_fault n a) (first_fault n (a ++ b)) (first_stays n a b) h
 
--- marks without a fault are passed, and then what follows
+-- marks without a fault pass, and then what follows decides
 pub passes_then : (answer : Result ℕ CheckFault) (n k : ℕ) (a b : List Mark) → PassesMarks (Ok k) n a → PassesMarks answer k b → PassesMarks answer n (a ++ b)
 passes_then (Ok end) n k a b p q =
     let behind : first_fault n (a ++ b) ≡ first_fault k b = first_behind n a b p.0 ∙ ap (λ j. first_fault j b) (sym p.1) in

@@ -1,11 +1,11 @@
--- The first fault is found exactly where a rule is broken.
+-- The first fault is found exactly when a rule is broken.
 use Rattle.std.proofs.Common.{◌≡◌, ◌∙◌, ℕ, zero, suc, ◌+◌, ◌<◌, Bool, true, false, if◌then◌else◌, List, [], ◌∷◌, ◌++◌, length, slice_index_or, All, Option, Some, None, refl, sym, ap, subst, arith}
 use Rattle.pipe_check.specs.RuleLaws.{ObeysThese, ObeysAllRules, IsFirstBroken}
 use Rattle.pipe_model.specs.Language.CheckingRules.{CheckingRule, Fault, LimitOut, Broken, breaks, broken_at, first_broken, first_fault, fault_of, fault_or, limit_fault_or, first_limit_out, rules_in_order}
 use Rattle.pipe_model.specs.Language.Marks.{Mark, marks_of}
 use Rattle.pipe_model.specs.Language.SyntaxTree.{SyntaxTree}
 
--- all of a list with one more at its front, and of none
+-- `All` of the empty list, and of a list with one more item before it
 pub all_none : {X : Type 0} (P : X → Type 0) → All P []
 all_none P = λ k d within. absurd (omega (arith, within))
 
@@ -16,7 +16,7 @@ all_more {X} P x xs p ps = λ k d within. at_place k d within
     at_place zero d within = p
     at_place (suc k) d within = ps k d (omega (arith, within))
 
--- the first and the others of all
+-- the first item, and the others
 first_of : {X : Type 0} (P : X → Type 0) (x : X) (xs : List X) → All P (x ∷ xs) → P x
 first_of P x xs h = h 0 x (omega arith)
 
@@ -41,7 +41,7 @@ not_broken mark (rule ∷ rules) h =
     let one = first_of (λ r. breaks r mark.scope mark.occurrence ≡ false) rule rules h in
     rw one (not_broken mark rules (others_of (λ r. breaks r mark.scope mark.occurrence ≡ false) rule rules h))
 
--- what a first broken rule is
+-- the rule is the first of the rules that the mark breaks
 record IsFirstRule (mark : Mark) (rules : List CheckingRule) (rule : CheckingRule) : Type 0 where
   pub earlier : List CheckingRule
   pub later : List CheckingRule
@@ -94,7 +94,7 @@ none_found n (mark ∷ marks) h =
     let one = not_broken mark rules_in_order (first_of (λ m. ObeysThese m rules_in_order) mark marks h) in
     ap (λ broken. fault_or broken n (first_fault (n + 1) marks)) one ∙ none_found (n + 1) marks (others_of (λ m. ObeysThese m rules_in_order) mark marks h)
 
--- the number is counted from n on
+-- the numbers of the marks are counted from n on
 record IsFirstFrom (n : ℕ) (marks : List Mark) (rule : CheckingRule) (number : ℕ) : Type 0 where
   pub place : ℕ
   pub first : IsFirstBroken marks rule place

@@ -1,4 +1,4 @@
--- The marks of a program, region by region: what is behind the first ones decides of all.
+-- The marks of a program, region by region: when the first ones pass, those after them decide.
 use Rattle.std.proofs.Common.{◌≡◌, ◌∙◌, ℕ, ◌≤◌, List, [], ◌∷◌, ◌++◌, length, sym, arith, refl, Result, Ok, Err, None}
 use Rattle.pipe_check.specs.declared.fault.CheckFault.{CheckFault}
 use Rattle.pipe_check.specs.Passing.{PassesMarks, Fits}
@@ -28,21 +28,21 @@ pub record AreLeft (k : ℕ) (left all : List Mark) : Type 0 where
   pub decide : (answer : Result ℕ CheckFault) → PassesMarks answer k left → PassesMarks answer 0 all
   pub fit : Fits k left
 
--- the first ones pass
+-- the first marks pass
 next_region : (k j : ℕ) (a b all : List Mark) → AreLeft k (a ++ b) all → PassesMarks (Ok j) k a → AreLeft j b all
 next_region k j a b all at p = record {
   decide = λ answer q. at.decide answer (passes_then answer k j a b p q);
   fit = fits_then k j a b at.fit p;
 }
 
--- the first ones are refused, or fit
+-- the first marks have a fault, or their numbers are within the bound
 region_fails : (refusal : CheckFault) (k : ℕ) (a b all : List Mark) → AreLeft k (a ++ b) all → PassesMarks (Err refusal) k a → PassesMarks (Err refusal) 0 all
 region_fails refusal k a b all at q = at.decide (Err refusal) (fails_first refusal k a b q)
 
 region_fits : (k : ℕ) (a b all : List Mark) → AreLeft k (a ++ b) all → Fits k a
 region_fits k a b all at = fits_first k a b at.fit
 
--- as many marks as declarations
+-- there are as many marks as declarations
 pub cells_length : (before cells : List Declaration) → length (marks_of_cells before cells) ≡ length cells
 cells_length before [] = refl
 cells_length before (d ∷ ds) = let rest = cells_length (before ++ d ∷ []) ds in omega (arith, rest)
@@ -51,7 +51,7 @@ cells_length before (d ∷ ds) = let rest = cells_length (before ++ d ∷ []) ds
 pub at_cells : (tree : SyntaxTree) → IsSpellable tree → AreLeft 0 (marks_of tree) (marks_of tree)
 at_cells tree s = record { decide = λ answer p. p; fit = omega (arith, s.bounded) }
 
--- a program has not too many declarations
+-- a program has at most 4194304 declarations
 pub few_cells : (tree : SyntaxTree) → IsSpellable tree → length tree.cells ≤ 4194304
 few_cells tree s =
     let fits = region_fits 0 (marks_of_cells [] tree.cells) (init_marks tree ++ (test_marks tree ++ (body_marks tree ++ last_marks tree))) (marks_of tree) (at_cells tree s) in
@@ -62,7 +62,7 @@ pub cells_fail : (tree : SyntaxTree) (refusal : CheckFault) → IsSpellable tree
 cells_fail tree refusal s =
     region_fails refusal 0 (marks_of_cells [] tree.cells) (init_marks tree ++ (test_marks tree ++ (body_marks tree ++ last_marks tree))) (marks_of tree) (at_cells tree s)
 
--- behind the declarations
+-- after the declarations
 pub at_init : (tree : SyntaxTree) (k : ℕ) → IsSpellable tree → first_fault 0 (marks_of_cells [] tree.cells) ≡ None → k ≡ length tree.cells
     → AreLeft k (init_marks tree ++ (test_marks tree ++ (body_marks tree ++ last_marks tree))) (marks_of tree)
 at_init tree k s none counted =
@@ -76,7 +76,7 @@ pub init_fails : (tree : SyntaxTree) (refusal : CheckFault) (k : ℕ) → AreLef
     → PassesMarks (Err refusal) k (init_marks tree) → PassesMarks (Err refusal) 0 (marks_of tree)
 init_fails tree refusal k = region_fails refusal k (init_marks tree) (test_marks tree ++ (body_marks tree ++ last_marks tree)) (marks_of tree)
 
--- behind `init`
+-- after `init`
 pub at_test : (tree : SyntaxTree) (k j : ℕ) → AreLeft k (init_marks tree ++ (test_marks tree ++ (body_marks tree ++ last_marks tree))) (marks_of tree)
     → PassesMarks (Ok j) k (init_marks tree) → AreLeft j (test_marks tree ++ (body_marks tree ++ last_marks tree)) (marks_of tree)
 at_test tree k j = next_region k j (init_marks tree) (test_marks tree ++ (body_marks tree ++ last_marks tree)) (marks_of tree)
@@ -88,7 +88,7 @@ pub test_fails : (tree : SyntaxTree) (refusal : CheckFault) (k : ℕ) → AreLef
     → PassesMarks (Err refusal) k (test_marks tree) → PassesMarks (Err refusal) 0 (marks_of tree)
 test_fails tree refusal k = region_fails refusal k (test_marks tree) (body_marks tree ++ last_marks tree) (marks_of tree)
 
--- behind the loop's test
+-- after the loop's test
 pub at_body : (tree : SyntaxTree) (k j : ℕ) → AreLeft k (test_marks tree ++ (body_marks tree ++ last_marks tree)) (marks_of tree)
     → PassesMarks (Ok j) k (test_marks tree) → AreLeft j (body_marks tree ++ last_marks tree) (marks_of tree)
 at_body tree k j = next_region k j (test_marks tree) (body_marks tree ++ last_marks tree) (marks_of tree)
@@ -100,7 +100,7 @@ pub body_fails : (tree : SyntaxTree) (refusal : CheckFault) (k : ℕ) → AreLef
     → PassesMarks (Err refusal) k (body_marks tree) → PassesMarks (Err refusal) 0 (marks_of tree)
 body_fails tree refusal k = region_fails refusal k (body_marks tree) (last_marks tree) (marks_of tree)
 
--- behind the loop
+-- after the loop
 pub at_last : (tree : SyntaxTree) (k j : ℕ) → AreLeft k (body_marks tree ++ last_marks tree) (marks_of tree) → PassesMarks (Ok j) k (body_marks tree)
     → AreLeft j (last_marks tree) (marks_of tree)
 at_last tree k j = next_region k j (body_marks tree) (last_marks tree) (marks_of tree)

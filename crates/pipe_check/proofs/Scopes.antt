@@ -1,4 +1,4 @@
--- Statements bring locals into scope behind those that are in scope already, so the first ones are those of the place where they began.
+-- Statements append locals to those in scope, so the first ones are those that were in scope at the beginning.
 use Rattle.std.proofs.Common.{◌≡◌, ◌∙◌, ℕ, List, [], ◌∷◌, ◌++◌, length, take, refl, sym, ap, append_assoc, append-nil}
 use Rattle.std.proofs.Math.Seq.{take-append_seam}
 use Rattle.pipe_model.specs.Language.Marks.{Scope, after_statement, after_statements}

@@ -11,15 +11,15 @@ use Rattle.pipe_model.specs.Language.Marks.{Scope, after_block, after_statement,
 use Rattle.pipe_model.specs.Language.SpellablePrograms.{statement_count, statement_counts}
 use Rattle.pipe_model.specs.Language.SyntaxTree.{Expression, If, While, Statement, Statements, Empty, Then, statement_of, statements_of}
 
--- from a place of the list on there is one statement, and then the others
+-- from index i of the list on there is one statement, and then the others
 statements_from : (ss : List Stmt) (i : ℕ) (s : Stmt) → i < length ss → s ≡ get_or ss i s → statements_of (drop i ss) ≡ Then (statement_of s) (statements_of (drop (i + 1) ss))
 statements_from ss i s h e = at_drop_more statements_of ss i s h ∙ ap (λ x. Then (statement_of x) (statements_of (drop (i + 1) ss))) (sym e)
 
--- past the end of the list there is nothing
+-- after the end of the list there is nothing
 pub none_left : (ss : List Stmt) (i : ℕ) → length ss ≤ i → statements_of (drop i ss) ≡ Empty
 none_left ss i h = ap statements_of (drop_all i ss h)
 
--- the statement at a place is refused, and so are the statements from there on
+-- a fault of the statement at index i is the first fault of the statements from there on
 pub block_refused : (scope : Scope) (ss : List Stmt) (i n : ℕ) (s : Stmt) (refusal : CheckFault) (whole : Option Fault) → i < length ss → s ≡ get_or ss i s
     → first_fault n (marks_of_statements scope (statements_of (drop i ss))) ≡ whole
     → PassesMarks (Err refusal) n (marks_of_statement scope (statement_of s)) → IsFirstFaultOf refusal whole
@@ -29,13 +29,13 @@ block_refused scope ss i n s refusal whole h e is p =
     fails_first refusal n (marks_of_statement scope (statement_of s)) (marks_of_statements (after_statement scope (statement_of s)) rest) p in
     subst (λ fault. IsFirstFaultOf refusal fault) (ap (λ t. first_fault n (marks_of_statements scope t)) (sym (statements_from ss i s h e)) ∙ is) all
 
--- the statement at a place passes, and the others have the faults, the numbers and the end of the statements from there on
+-- the statement at index i passes, and the others have the faults, the last number and the final scope of the statements from there on
 pub record IsStep (scope next_scope : Scope) (ss : List Stmt) (i n next : ℕ) : Type 0 where
   pub faults : first_fault next (marks_of_statements next_scope (statements_of (drop (i + 1) ss))) ≡ first_fault n (marks_of_statements scope (statements_of (drop i ss)))
   pub numbers : next + length (marks_of_statements next_scope (statements_of (drop (i + 1) ss))) ≡ n + length (marks_of_statements scope (statements_of (drop i ss)))
   pub behind : after_statements next_scope (statements_of (drop (i + 1) ss)) ≡ after_statements scope (statements_of (drop i ss))
 
--- the numbers of the statement at a place fit
+-- the numbers of the statement at index i are within the bound
 pub statement_fits : (scope : Scope) (ss : List Stmt) (i n all : ℕ) (s : Stmt) → i < length ss → s ≡ get_or ss i s
     → n + length (marks_of_statements scope (statements_of (drop i ss))) ≡ all → all ≤ 4194304 → Fits n (marks_of_statement scope (statement_of s))
 statement_fits scope ss i n all s h e is few =
@@ -76,7 +76,7 @@ statement_passed scope next_scope ss i n next s h e p behind =
       behind = ap (λ x. after_statements x rest) behind ∙ ap (after_statements scope) from;
     }
 
--- behind a block its own locals are out of scope again
+-- after a block its own locals are out of scope again
 pub block_left : (outer inner : Scope) (ss : Statements) → inner ≡ after_statements outer ss
     → record { region = inner.region; cells = inner.cells; visible = take (length outer.visible) inner.visible; lets = inner.lets } ≡ after_block outer ss
 block_left outer inner ss is =
@@ -86,14 +86,14 @@ block_left outer inner ss is =
 
 -- ---- branches and loops, by their plain data
 
--- the test is refused
+-- the test has a fault
 pub test_refused : (scope : Scope) (n : ℕ) (e : Expression) (a b : Statements) (whole : Statement) (refusal : CheckFault) → whole ≡ If e a b
     → PassesMarks (Err refusal) n (marks_of_expression scope e) → PassesMarks (Err refusal) n (marks_of_statement scope whole)
 test_refused scope n e a b whole refusal is p =
     subst (λ s. PassesMarks (Err refusal) n (marks_of_statement scope s)) (sym is)
     (fails_first refusal n (marks_of_expression scope e) (marks_of_statements scope a ++ marks_of_statements (after_block scope a) b) p)
 
--- the first block decides where it is refused
+-- the first block decides if it has a fault
 pub first_refused : (scope : Scope) (n k : ℕ) (e : Expression) (a b : Statements) (whole : Statement) (refusal : CheckFault) → whole ≡ If e a b
     → PassesMarks (Ok k) n (marks_of_expression scope e) → PassesMarks (Err refusal) k (marks_of_statements scope a) → PassesMarks (Err refusal) n (marks_of_statement scope whole)
 first_refused scope n k e a b whole refusal is p q =
@@ -101,7 +101,7 @@ first_refused scope n k e a b whole refusal is p q =
     subst (λ s. PassesMarks (Err refusal) n (marks_of_statement scope s)) (sym is)
     (passes_then (Err refusal) n k (marks_of_expression scope e) (marks_of_statements scope a ++ marks_of_statements (after_block scope a) b) p blocks)
 
--- and else the second one
+-- otherwise the second one decides
 pub second_decides : (scope between : Scope) (n k j : ℕ) (e : Expression) (a b : Statements) (whole : Statement) (answer : Result ℕ CheckFault) → whole ≡ If e a b
     → between ≡ after_block scope a → PassesMarks (Ok k) n (marks_of_expression scope e) → PassesMarks (Ok j) k (marks_of_statements scope a)
     → PassesMarks answer j (marks_of_statements between b) → PassesMarks answer n (marks_of_statement scope whole)
@@ -111,7 +111,7 @@ second_decides scope between n k j e a b whole answer is behind p q r =
     subst (λ s. PassesMarks answer n (marks_of_statement scope s)) (sym is)
     (passes_then answer n k (marks_of_expression scope e) (marks_of_statements scope a ++ marks_of_statements (after_block scope a) b) p blocks)
 
--- the numbers of both blocks fit
+-- the numbers of both blocks are within the bound
 pub first_fits : (scope : Scope) (n k : ℕ) (e : Expression) (a b : Statements) (whole : Statement) → whole ≡ If e a b
     → Fits n (marks_of_statement scope whole) → PassesMarks (Ok k) n (marks_of_expression scope e) → Fits k (marks_of_statements scope a)
 first_fits scope n k e a b whole is h p =
@@ -127,19 +127,19 @@ second_fits scope between n k j e a b whole is behind h p q =
     let blocks = fits_then n k (marks_of_expression scope e) (marks_of_statements scope a ++ marks_of_statements (after_block scope a) b) whole_fits p in
     subst (λ x. Fits j (marks_of_statements x b)) (sym behind) (fits_then k j (marks_of_statements scope a) (marks_of_statements (after_block scope a) b) blocks q)
 
--- both blocks are left
+-- the scope after both blocks
 pub branch_left : (scope between after : Scope) (e : Expression) (a b : Statements) (whole : Statement) → whole ≡ If e a b → between ≡ after_block scope a
     → after ≡ after_block between b → after ≡ after_statement scope whole
 branch_left scope between after e a b whole is first second = second ∙ ap (λ x. after_block x b) first ∙ ap (after_statement scope) (sym is)
 
--- the test of a loop is refused
+-- the test of a loop has a fault
 pub loop_refused : (scope : Scope) (n : ℕ) (e : Expression) (a : Statements) (whole : Statement) (refusal : CheckFault) → whole ≡ While e a
     → PassesMarks (Err refusal) n (marks_of_expression scope e) → PassesMarks (Err refusal) n (marks_of_statement scope whole)
 loop_refused scope n e a whole refusal is p =
     subst (λ s. PassesMarks (Err refusal) n (marks_of_statement scope s)) (sym is)
     (fails_first refusal n (marks_of_expression scope e) (marks_of_statements scope a) p)
 
--- and else the body decides
+-- otherwise the body decides
 pub body_decides : (scope : Scope) (n k : ℕ) (e : Expression) (a : Statements) (whole : Statement) (answer : Result ℕ CheckFault) → whole ≡ While e a
     → PassesMarks (Ok k) n (marks_of_expression scope e) → PassesMarks answer k (marks_of_statements scope a) → PassesMarks answer n (marks_of_statement scope whole)
 body_decides scope n k e a whole answer is p q =
@@ -151,7 +151,7 @@ body_fits scope n k e a whole is h p =
     let whole_fits : Fits n (marks_of_statement scope (While e a)) = subst (λ s. Fits n (marks_of_statement scope s)) is h in
     fits_then n k (marks_of_expression scope e) (marks_of_statements scope a) whole_fits p
 
--- the body is left
+-- the scope after the body
 pub loop_left : (scope after : Scope) (e : Expression) (a : Statements) (whole : Statement) → whole ≡ While e a → after ≡ after_block scope a
     → after ≡ after_statement scope whole
 loop_left scope after e a whole is behind = behind ∙ ap (after_statement scope) (sym is)

@@ -5,7 +5,7 @@ use Rattle.pipe_model.specs.Language.CheckingRules.{cell_total, fault_of}
 use Rattle.pipe_model.specs.Language.SpellablePrograms.{IsSpellable}
 use Rattle.pipe_model.specs.Language.SyntaxTree.{tree_of}
 
--- a source may spell the program, it breaks no rule, and it has so many cells, `input` and `output` counted
+-- a source may spell the program, it breaks no rule, and it has `cells` cells, `input` and `output` counted
 pub record IsChecked (program : Program) (cells : ℕ) : Type 0 where
   pub spellable : IsSpellable (tree_of program)
   pub obeys : fault_of (tree_of program) ≡ None

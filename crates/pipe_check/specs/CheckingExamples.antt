@@ -1,4 +1,4 @@
--- Worked examples: programs with their faults, where the numbers of the marks are counted by hand.
+-- Worked examples: programs with their faults, in which the numbers of the marks are counted by hand.
 use Rattle.std.specs.Prelude.{◌≡◌, ℕ, zero, suc, pos, List, [], ◌∷◌, ◌++◌, Option, Some, None, map, codes}
 use Rattle.pipe_model.specs.declared.tree.StageKind.TheVariants as kinds
 use Rattle.pipe_model.specs.declared.tree.Declaration.{Declaration}
@@ -11,7 +11,7 @@ pub record CheckingExample : Type 0 where
   pub program : SyntaxTree
   pub fault : Option Fault
 
--- each program has the fault that stands beside it
+-- each program has the fault that is given with it
 abbrev pub HaveFaults : List CheckingExample → Type 0
 HaveFaults examples = map (λ example. fault_of example.program) examples ≡ map (λ example. example.fault) examples
 
@@ -51,22 +51,22 @@ block (s ∷ ss) = Then s (block ss)
 abbrev limits : (iterations stages steps emits : ℕ) → Limits
 limits iterations stages steps emits = record { iterations = pos iterations; stages = pos stages; steps = pos steps; emits = pos emits }
 
--- a program of these cells and this body
+-- a program with these cells and this body
 abbrev program : List Declaration → List Statement → SyntaxTree
 program cells body = record { limits = limits 1 1 1 0; cells = cells; init = Empty; test = one; body = block body; last = Empty }
 
--- and its fault
+-- such a program with its fault
 abbrev body : List Declaration → List Statement → Option Fault → CheckingExample
 body cells ss fault = record { program = program cells ss; fault = fault }
 
--- a program of the cell n and the body `let x = 1; emit x;`, with what stands before the loop, in its test and behind it
+-- a program with the cell n and the body `let x = 1; emit x;`, and these statements before the loop, this test, and these statements after the loop
 abbrev parts : List Statement → Expression → List Statement → Option Fault → CheckingExample
 parts init test last fault = record {
   program = record { limits = limits 1 1 1 0; cells = plain n ∷ []; init = block init; test = test; body = block (Let x one ∷ Emit (Name x) ∷ []); last = block last };
   fault = fault;
 }
 
--- a program of these limits that breaks a rule too, at mark 1
+-- a program with these limits that also breaks a rule at mark 1
 abbrev limited : Limits → Option Fault → CheckingExample
 limited some fault = record {
   program = record { limits = some; cells = plain n ∷ []; init = Empty; test = one; body = block (Emit (Name x) ∷ []); last = Empty };
@@ -77,7 +77,7 @@ limited some fault = record {
 abbrev broken : CheckingRule → ℕ → Option Fault
 broken rule number = Some (Broken rule number)
 
--- so many `let` statements, of different names
+-- `let` statements of this number, of different names
 abbrev locals : ℕ → List Statement
 locals zero = []
 locals (suc k) = Let (k ∷ []) one ∷ locals k
@@ -120,7 +120,7 @@ declarations =
     ∷ body (plain n ∷ []) (locals 64 ++ Let n one ∷ []) (broken Twice 65)
     ∷ []
 
--- what may stand where
+-- what may be used in which region
 abbrev pub regions : List CheckingExample
 regions =
     parts (Let x one ∷ []) Iter (Let x one ∷ []) None
@@ -132,7 +132,7 @@ regions =
     ∷ parts [] one (Emit (Name x) ∷ []) (broken Unknown 3)
     ∷ []
 
--- where locals of blocks are in scope, and that their names are taken
+-- where locals of blocks are in scope, and that their names stay taken
 abbrev pub scopes : List CheckingExample
 scopes =
     body (plain n ∷ []) (Let x one ∷ If one (block (Emit (Name x) ∷ Let y one ∷ Emit (Name y) ∷ [])) (block (Emit (Name x) ∷ Let z one ∷ []))

@@ -1,4 +1,4 @@
--- What the walk over a program answers: how many marks are behind it, or the first fault.
+-- The result of the walk over a program: the number of marks so far, or the first fault.
 use Rattle.pipe_model.specs.declared.bounds.TheConstants.{LARGEST_PROGRAM}
 use Rattle.std.specs.Prelude.{◌≡◌, ℕ, List, length, ◌+◌, ◌≤◌, Result, Ok, Err, Option, Some, None}
 use Rattle.pipe_check.specs.declared.fault.CheckFault.{CheckFault}
@@ -6,7 +6,7 @@ use Rattle.pipe_check.specs.declared.fault.CheckFault.TheVariants as faults
 use Rattle.pipe_model.specs.Language.CheckingRules.{Fault, LimitOut, Broken, Unknown, Twice, PipeOutside, TooManyCells, TooManyLocals, NotAnArray, NeedsIndex, ZeroSize, first_fault}
 use Rattle.pipe_model.specs.Language.Marks.{Mark}
 
--- the refusal is this fault; nothing is said where memory was refused
+-- the checker returns this first fault; `NoMemory` says nothing about it
 abbrev pub IsFirstFaultOf : CheckFault → Option Fault → Type 0
 IsFirstFaultOf (faults.Unknown n) fault = fault ≡ Some (Broken Unknown n)
 IsFirstFaultOf (faults.Twice n) fault = fault ≡ Some (Broken Twice n)
@@ -19,11 +19,11 @@ IsFirstFaultOf (faults.NeedsIndex n) fault = fault ≡ Some (Broken NeedsIndex n
 IsFirstFaultOf (faults.ZeroSize n) fault = fault ≡ Some (Broken ZeroSize n)
 IsFirstFaultOf faults.NoMemory fault = Unit {0}
 
--- the marks, of which the first has this number, break no rule, and the answer is the number behind them; or it is their first fault
+-- the marks, of which the first has this number, break no rule, and the result is the number after them; or it is their first fault
 abbrev pub PassesMarks : Result ℕ CheckFault → ℕ → List Mark → Type 0
 PassesMarks (Ok end) next marks = (first_fault next marks ≡ None) × (end ≡ next + length marks)
 PassesMarks (Err fault) next marks = IsFirstFaultOf fault (first_fault next marks)
 
--- the numbers of these marks fit
+-- the numbers of these marks are within the bound
 abbrev pub Fits : ℕ → List Mark → Type 0
 Fits next marks = next + length marks ≤ LARGEST_PROGRAM

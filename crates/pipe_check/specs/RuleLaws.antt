@@ -1,4 +1,4 @@
--- What a fault and its absence mean, told of all marks at once.
+-- What a fault and its absence mean for all marks at once.
 use Rattle.std.specs.Prelude.{◌≡◌, ◌↔◌, ℕ, true, false, List, ◌∷◌, ◌++◌, length, All, Some, None}
 use Rattle.pipe_model.specs.Language.CheckingRules.{CheckingRule, Broken, breaks, fault_of, first_limit_out, rules_in_order}
 use Rattle.pipe_model.specs.Language.Marks.{Mark, marks_of}
@@ -13,11 +13,11 @@ pub record ObeysAllRules (tree : SyntaxTree) : Type 0 where
   pub limits : first_limit_out tree.limits ≡ None
   pub marks : All (λ mark. ObeysThese mark rules_in_order) (marks_of tree)
 
--- a program has no fault exactly where it breaks no rule
+-- a program has no fault exactly when it breaks no rule
 abbrev pub FaultlessProgramsBreakNoRule : Type 0
 FaultlessProgramsBreakNoRule = (tree : SyntaxTree) → fault_of tree ≡ None ↔ ObeysAllRules tree
 
--- of these marks, the one with this number breaks the rule, and no earlier one; and no mark before it breaks a rule
+-- the mark with this number breaks the rule and no earlier rule, and no mark before it breaks a rule
 pub record IsFirstBroken (marks : List Mark) (rule : CheckingRule) (number : ℕ) : Type 0 where
   pub before : List Mark
   pub mark : Mark

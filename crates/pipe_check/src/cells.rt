@@ -51,7 +51,7 @@ impl<'a> Model for Cells<'a> {
     ghost invariant = { λ c. IsCellTable c.sizes c.total c.declared.now };
 }
 
-/// How many cells a declaration has, where they are at most so many.
+// The number of cells of a declaration; `None` if there are more than `most`.
 fn count_of(size: Option<i64>, most: u32) -> Option<u32>
     requires size { HasNoNegativeSize size }
     ensures some { IfSome result (λ count. count ≡ declared_size size) }
@@ -66,7 +66,8 @@ fn count_of(size: Option<i64>, most: u32) -> Option<u32>
 }
 
 impl<'a> Cells<'a> {
-    /// The cells that are declared, each once, or the first fault of the declarations.
+    /// Returns the declared cells, whose names all differ, or the first fault of the declarations.
+    /// `NoMemory` is returned only if memory runs out.
     pub fn of(alloc: Global, declared: &'a [Declaration]) -> Result<Self, CheckFault>
         requires sizes { All (λ (d : Declared). HasNoNegativeSize d.size) declared.now }
         requires few { length declared.now ≤ bounds.LARGEST_PROGRAM }
@@ -100,14 +101,14 @@ impl<'a> Cells<'a> {
         })
     }
 
-    /// How many names are declared.
+    /// Returns the number of declared names.
     pub fn len(&self) -> usize
         ensures { result ≡ length self.now }
     {
         self.declared.len()
     }
 
-    /// How many cells there are, array elements counted: at most 65,536.
+    /// Returns the number of cells, array elements counted: at most 65,536.
     pub fn total(&self) -> u32
         ensures total { result ≡ cell_total self.now }
         ensures few { result ≤ bounds.MOST_CELLS }
@@ -115,7 +116,8 @@ impl<'a> Cells<'a> {
         self.total
     }
 
-    // The size with which the name is declared, where it is the name of a cell; a plain cell has none.
+    // The size with which the name is declared, if it is the name of a cell; a plain cell has no
+    // size.
     fn size_of(&self, name: &Name) -> Option<Option<i64>>
         ensures { result ≡ size_in self.now name.now }
     {

@@ -34,7 +34,7 @@ impl Model for Checked {
 }
 
 impl Checked {
-    /// The program, which has so many cells and breaks no rule.
+    /// Returns the program as one that is checked; it has `cells` cells and breaks no rule.
     pub(crate) fn new(program: Program, cells: u32) -> Self
         requires { IsChecked program cells }
         ensures { result ≡ program }
@@ -42,7 +42,7 @@ impl Checked {
         Checked { program, cells }
     }
 
-    /// The program: a source may spell it, and it breaks no rule.
+    /// Returns the program. A source may spell it, and it breaks no rule.
     pub fn program(&self) -> &Program
         ensures program { result.now ≡ self.now }
         ensures spellable { IsSpellable (tree_of self.now) }
@@ -51,7 +51,8 @@ impl Checked {
         &self.program
     }
 
-    /// How many cells the program has, the elements of arrays and the cells `input` and `output` counted: 2 to 65,538.
+    /// Returns the number of cells of the program, the elements of arrays and the cells `input` and
+    /// `output` counted: 2 to 65,538.
     pub fn cell_count(&self) -> u32
         ensures count { result ≡ cell_total self.now.cells + 2 }
         ensures few { result ≤ 65538 }

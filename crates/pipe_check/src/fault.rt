@@ -1,4 +1,4 @@
-//! Why a program is refused.
+//! Why the checker rejects a program.
 
 ghost use Rattle.std.specs.Prelude.{◌≡◌};
 ghost use Rattle.pipe_check.specs.declared.fault.CheckFault.TheVariants as faults;
@@ -6,8 +6,8 @@ ghost use Rattle.pipe_check.specs.declared.fault.CheckFault.TheVariants as fault
 use pipe_model::memory::NoMemory;
 use thiserror::Error;
 
-/// The first rule that a program breaks. Each carries the number of the mark that breaks it, counted from 0 in the order of the
-/// text: a mark is a name, `iter`, or the word of a stage statement.
+/// The first rule that a program breaks. A fault at a mark carries the mark's number, counted from
+/// 0 in the order of the text. A mark is a name, `iter`, or the word of a stage statement.
 #[derive(Clone, Copy, PartialEq, Eq, Debug, Error)]
 pub enum CheckFault {
     /// A used name is neither a cell declared so far nor a local in scope.
@@ -16,17 +16,17 @@ pub enum CheckFault {
     /// A declared name is a cell already, or the name of an earlier `let` of the same part.
     #[error("the name at mark {0} is declared twice")]
     Twice(u32),
-    /// A limit is out of its range: 1 the iterations, 2 the stages, 3 the product of the two, 4 the steps, 5 the emitted numbers.
-    /// Limits come before all marks.
+    /// A limit is out of its range: 1 the iterations, 2 the stages, 3 the product of the two, 4 the
+    /// steps, 5 the emitted numbers. Limits come before all marks.
     #[error("limit {0} is out of its range")]
     LimitOut(u32),
-    /// A stage statement stands outside the loop's body, or `iter` outside the loop.
-    #[error("the word at mark {0} stands outside the loop")]
+    /// A stage statement is outside the loop's body, or `iter` is outside the loop.
+    #[error("the word at mark {0} is outside the loop")]
     PipeOutside(u32),
-    /// The cells declared so far, array elements counted, are more than 65,536.
+    /// More than 65,536 cells are declared so far, array elements counted.
     #[error("with the cell at mark {0} there are too many")]
     TooManyCells(u32),
-    /// It is the 65th `let` of its part.
+    /// The `let` is the 65th of its part.
     #[error("with the local at mark {0} there are too many")]
     TooManyLocals(u32),
     /// A plain cell or a local has an index.
@@ -38,8 +38,8 @@ pub enum CheckFault {
     /// An array is declared without elements.
     #[error("the array at mark {0} has no elements")]
     ZeroSize(u32),
-    /// Memory was refused.
-    #[error("memory was refused")]
+    /// Out of memory.
+    #[error("out of memory")]
     NoMemory,
 }
 

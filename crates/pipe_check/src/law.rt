@@ -1,15 +1,16 @@
-//! Laws of the rules, and worked examples. Each function has an empty body, and its contract is the law or the examples.
+//! Laws of the rules, and worked examples. Each function has an empty body, and its contract is the
+//! law or the examples.
 
 ghost use Rattle.pipe_check.specs.CheckingExamples.{HaveFaults, declarations, ranges, regions, scopes, uses};
 ghost use Rattle.pipe_check.specs.RuleLaws.{FaultlessProgramsBreakNoRule, FaultsAreFirst};
 
-/// A program has no fault exactly where each limit is in its range and no mark breaks a rule.
+/// A program has no fault exactly when each limit is in its range and no mark breaks a rule.
 pub fn faultless_programs_break_no_rule()
     ensures { FaultlessProgramsBreakNoRule }
 {}
 
-/// The fault of a mark is the first one: no limit is out of its range, no mark before breaks a rule, and the mark breaks no earlier
-/// rule.
+/// A fault at a mark is the first one: no limit is out of its range, no earlier mark breaks a rule,
+/// and the mark breaks no earlier rule.
 pub fn faults_are_first()
     ensures { FaultsAreFirst }
 {}

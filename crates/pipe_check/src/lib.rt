@@ -1,5 +1,5 @@
-//! The rules that a program obeys beside its grammar: limits in their ranges, and names that are declared once, before they are
-//! used, and used as what they are.
+//! The rules that a program obeys besides its grammar: limits are in their ranges, and names are
+//! declared once, before they are used, and used as what they are.
 #![tactic(auto)]
 
 mod cells;

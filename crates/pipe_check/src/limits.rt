@@ -6,15 +6,15 @@ ghost use Rattle.pipe_model.specs.Language.CheckingRules.{is_between, first_limi
 use pipe_model::bounds::{MOST_EMITS, MOST_INSTANCES, MOST_ITERATIONS, MOST_STAGES, MOST_STEPS};
 use pipe_model::tree::Limits;
 
-/// Whether the number is from low to high, both counted in.
+// Whether the number is from `low` to `high`, both included.
 fn is_between(low: i64, high: i64, number: i64) -> bool
     ensures { result ≡ is_between low high number }
 {
     low <= number && number <= high
 }
 
-/// The first limit that is out of its range: 1 the iterations, 2 the stages, 3 the product of the two, 4 the steps, 5 the emitted
-/// numbers.
+/// Returns the first limit that is out of its range, if there is one: 1 the iterations, 2 the
+/// stages, 3 the product of the two, 4 the steps, 5 the emitted numbers.
 pub fn first_limit_out(limits: &Limits) -> Option<u32>
     ensures { result ≡ first_limit_out limits.now }
 {

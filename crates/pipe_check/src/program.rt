@@ -20,10 +20,10 @@ use pipe_model::region::Region;
 use pipe_model::tree::{Block, Expr, Program};
 use std::alloc::Global;
 
-/// The cells `input` and `output`, which no program declares.
+// The cells `input` and `output`, which no program declares.
 const OWN_CELLS: u32 = 2;
 
-// the marks of a block that is a region of its own
+// Checks the marks of a block that is a region of its own.
 fn check_region(
     alloc: Global,
     cells: &Cells,
@@ -42,7 +42,7 @@ fn check_region(
     )
 }
 
-// the marks of the loop's test
+// Checks the marks of the loop's test.
 fn check_test(alloc: Global, cells: &Cells, next: u32, test: &Expr) -> Result<u32, CheckFault>
     requires { Fits next (marks_of_expression (opening regions.Test cells.now) (expression_of test.now)) }
     ensures { PassesMarks result next (marks_of_expression (opening regions.Test cells.now) (expression_of test.now)) }
@@ -50,7 +50,7 @@ fn check_test(alloc: Global, cells: &Cells, next: u32, test: &Expr) -> Result<u3
     check_expression(&Scope::opening(alloc, Region::Test, cells), next, test)
 }
 
-// the marks of a program: how many cells it declares, or the first fault
+// Checks the marks of a program. Returns the number of cells that it declares, or the first fault.
 fn check_marks(alloc: Global, program: &Program) -> Result<u32, CheckFault>
     requires { IsSpellable (tree_of program.now) }
     ensures total { IfOk result (λ total. total ≡ cell_total program.now.cells) }
@@ -67,8 +67,9 @@ fn check_marks(alloc: Global, program: &Program) -> Result<u32, CheckFault>
     Ok(cells.total())
 }
 
-/// The program, where it breaks no rule, or else its first fault: of its limits, in their order, and then of its marks, in the order
-/// of the text; at one mark that of the earlier rule. Beside these, it fails for want of memory alone.
+/// Returns the program if it breaks no rule, or else its first fault: of its limits, in their
+/// order, and then of its marks, in the order of the text; at one mark the earlier rule counts. The
+/// only other error is that memory runs out.
 pub fn check(alloc: Global, program: Program) -> Result<Checked, CheckFault>
     requires spellable { IsSpellable (tree_of program) }
     ensures program { IfOk result (λ checked. checked ≡ program) }

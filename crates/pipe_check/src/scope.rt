@@ -1,4 +1,4 @@
-//! What is known mark_at a place of a program's text.
+//! What is known at one point of a program's text.
 
 ghost use Rattle.std.specs.Prelude.{◌≡◌, ◌<◌, ◌∷◌, [], OnOk, length, take};
 ghost use Rattle.pipe_check.specs.Passing.{PassesMarks};
@@ -15,8 +15,8 @@ use pipe_model::region::Region;
 use std::alloc::Global;
 use std::marker::Model;
 
-/// What is known mark_at a place of a program's text: its region, the cells, the locals in scope, and the names of all the `let`
-/// statements of the region so far.
+/// What is known at one point of a program's text: its region, the cells, the locals in scope, and
+/// the names of all the `let` statements of the region so far.
 #[derive(Drop)]
 pub struct Scope<'a, 'b> {
     region: Region,
@@ -33,7 +33,6 @@ impl<'a, 'b> Model for Scope<'a, 'b> {
     ghost view = { λ s. record { region = s.region; cells = s.cells.now; visible = s.visible.items; lets = s.lets.items } };
 }
 
-/// Whether the name is one of these.
 fn is_among(names: &[Name], name: &Name) -> bool
     ensures { result ≡ is_among names.now name.now }
 {
@@ -41,7 +40,7 @@ fn is_among(names: &[Name], name: &Name) -> bool
 }
 
 impl<'a, 'b> Scope<'a, 'b> {
-    /// What is known mark_at the beginning of a region.
+    /// Returns what is known at the beginning of a region.
     pub fn opening(alloc: Global, region: Region, cells: &'a Cells<'b>) -> Self
         ensures { result ≡ opening region cells.now }
     {
@@ -53,7 +52,8 @@ impl<'a, 'b> Scope<'a, 'b> {
         }
     }
 
-    /// The mark of a used name without an index.
+    /// Checks mark `next`, a name that is used without an index. Returns the next mark's number, or
+    /// the fault.
     pub fn check_plain(&self, next: u32, name: &Name) -> Result<u32, CheckFault>
         requires { next < bounds.LARGEST_PROGRAM }
         ensures { PassesMarks result next (mark_at self.now (Plain name.now) ∷ []) }
@@ -68,7 +68,8 @@ impl<'a, 'b> Scope<'a, 'b> {
         }
     }
 
-    /// The mark of a used name with an index.
+    /// Checks mark `next`, a name that is used with an index. Returns the next mark's number, or
+    /// the fault.
     pub fn check_indexed(&self, next: u32, name: &Name) -> Result<u32, CheckFault>
         requires { next < bounds.LARGEST_PROGRAM }
         ensures { PassesMarks result next (mark_at self.now (Indexed name.now) ∷ []) }
@@ -83,7 +84,7 @@ impl<'a, 'b> Scope<'a, 'b> {
         }
     }
 
-    /// The mark of `iter`.
+    /// Checks mark `next`, the word `iter`. Returns the next mark's number, or the fault.
     pub fn check_iter(&self, next: u32) -> Result<u32, CheckFault>
         requires { next < bounds.LARGEST_PROGRAM }
         ensures { PassesMarks result next (mark_at self.now IterWord ∷ []) }
@@ -94,7 +95,8 @@ impl<'a, 'b> Scope<'a, 'b> {
         }
     }
 
-    /// The mark of the word of a stage statement.
+    /// Checks mark `next`, the word of a stage statement. Returns the next mark's number, or the
+    /// fault.
     pub fn check_stage(&self, next: u32) -> Result<u32, CheckFault>
         requires { next < bounds.LARGEST_PROGRAM }
         ensures { PassesMarks result next (mark_at self.now StageWord ∷ []) }
@@ -107,7 +109,8 @@ impl<'a, 'b> Scope<'a, 'b> {
         }
     }
 
-    /// The mark of the name that a `let` declares.
+    /// Checks mark `next`, the name that a `let` declares. Returns the next mark's number, or the
+    /// fault.
     pub fn check_local(&self, next: u32, name: &Name) -> Result<u32, CheckFault>
         requires { next < bounds.LARGEST_PROGRAM }
         ensures { PassesMarks result next (mark_at self.now (DeclaredLocal name.now) ∷ []) }
@@ -121,7 +124,7 @@ impl<'a, 'b> Scope<'a, 'b> {
         Ok(next + 1)
     }
 
-    /// Brings a local into scope.
+    /// Brings a local into scope. Returns an error only if memory runs out.
     pub fn declare(&mut self, alloc: Global, name: &Name) -> Result<(), NoMemory>
         ensures { OnOk result (self.new ≡ after_let self.old name.now) }
     {
@@ -130,14 +133,14 @@ impl<'a, 'b> Scope<'a, 'b> {
         Ok(())
     }
 
-    /// How many locals are in scope.
+    /// Returns the number of locals in scope.
     pub fn visible_len(&self) -> usize
         ensures { result ≡ length self.now.visible }
     {
         self.visible.len()
     }
 
-    /// Takes all locals out of scope but the first ones.
+    /// Takes all locals but the first `kept` out of scope.
     pub fn leave(&mut self, kept: usize)
         ensures { self.new ≡ record { region = self.old.region; cells = self.old.cells; visible = take kept self.old.visible; lets = self.old.lets } }
     {

@@ -13,7 +13,7 @@ use pipe_model::name::Name;
 use pipe_model::tree::{Block, Expr, Stmt};
 use std::alloc::Global;
 
-// a declaration of a local, which is in scope behind its expression
+// Checks a declaration of a local, which is in scope after its expression.
 fn check_let(
     alloc: Global,
     scope: &mut Scope,
@@ -31,7 +31,7 @@ fn check_let(
     Ok(next)
 }
 
-// an assignment to a local or a plain cell
+// Checks an assignment to a local or a plain cell.
 fn check_assign(scope: &Scope, next: u32, name: &Name, e: &Expr) -> Result<u32, CheckFault>
     requires fits { Fits next (marks_of_statement scope.now (Assign name.now (expression_of e.now))) }
     ensures { PassesMarks result next (marks_of_statement scope.now (Assign name.now (expression_of e.now))) }
@@ -40,7 +40,7 @@ fn check_assign(scope: &Scope, next: u32, name: &Name, e: &Expr) -> Result<u32, 
     check_expression(scope, next, e)
 }
 
-// an assignment to an element of an array
+// Checks an assignment to an element of an array.
 fn check_element(
     scope: &Scope,
     next: u32,
@@ -56,7 +56,7 @@ fn check_element(
     check_expression(scope, next, e)
 }
 
-// a stage statement, with or without a number
+// Checks a stage statement, with or without a number.
 fn check_stage(scope: &Scope, next: u32, number: &Option<Expr>) -> Result<u32, CheckFault>
     requires fits { Fits next (marks_of_statement scope.now (stage_statement kinds.Wait number.now)) }
     ensures { PassesMarks result next (marks_of_statement scope.now (stage_statement kinds.Wait number.now)) }
@@ -68,8 +68,8 @@ fn check_stage(scope: &Scope, next: u32, number: &Option<Expr>) -> Result<u32, C
     }
 }
 
-/// The marks of a statement, from the one with this number on: the number behind them, or the first fault. The scope is then that
-/// behind the statement.
+// Checks the marks of a statement, the first of which has the number `next`. Returns the number
+// after the last mark, or the first fault. On `Ok`, the scope is that after the statement.
 #[cycle(walk)]
 fn check_statement(alloc: Global, scope: &mut Scope, next: u32, s: &Stmt) -> Result<u32, CheckFault>
     requires fits { Fits next (marks_of_statement scope.old (statement_of s.now)) }
@@ -95,8 +95,8 @@ fn check_statement(alloc: Global, scope: &mut Scope, next: u32, s: &Stmt) -> Res
     }
 }
 
-/// The marks of a block, from the one with this number on: the number behind them, or the first fault. Its locals are then out of
-/// scope.
+/// Checks the marks of a block, the first of which has the number `next`. Returns the number after
+/// the last mark, or the first fault. On `Ok`, the block's locals are out of scope.
 #[cycle(walk)]
 pub fn check_block(
     alloc: Global,

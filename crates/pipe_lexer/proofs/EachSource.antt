@@ -25,7 +25,7 @@ use Rattle.pipe_lexer.proofs.ScanLaws.{at_end, at_flaw, at_start, past_piece, pi
 
 -- ---- the longest symbol of a table
 
--- bytes begin with a text or not
+-- the bytes begin with the text, or they do not
 front_or_not : (text bytes : List ℕ) → StartsWith text bytes ⊎ (StartsWith text bytes → ⊥)
 front_or_not text bytes = by_test (bytes_eq (take (length text) bytes) text) refl
   where
@@ -37,12 +37,12 @@ front_or_not text bytes = by_test (bytes_eq (take (length text) bytes) text) ref
         let same : take (length text) bytes ≡ text = ap (λ x. take (length text) x) front.1 ∙ take-append_seam text front.0 in
         false≢true (sym e ∙ (bytes_eq-Decides (take (length text) bytes) text).1 same))
 
--- a row outdoes another or not
+-- the row outdoes the best one so far, or it does not
 outdoes_or_not : (row : OpRow) (best : Option OpRow) → Outdoes row best ⊎ (Outdoes row best → ⊥)
 outdoes_or_not row None = inl tt
 outdoes_or_not row (Some other) = elim (cases_lt (length (text_of other)) (length (text_of row))) [ inl h ↦ inl h | inr h ↦ inr (λ less. omega (arith, h, less)) ]
 
--- one more row
+-- the best row after one more row
 one_more_row : (seen : List OpRow) (bytes : List ℕ) (best : Option OpRow) (row : OpRow) → IsBest seen bytes best → (other : Option OpRow) × IsBest (seen ++ row ∷ []) bytes other
 one_more_row seen bytes best row h = by_both (front_or_not (text_of row) bytes) (outdoes_or_not row best)
   where
@@ -52,7 +52,7 @@ one_more_row seen bytes best row h = by_both (front_or_not (text_of row) bytes) 
     by_both (inl front) (inr not_out) = (best, keeps seen bytes best row h (λ front out. not_out out))
     by_both (inr no_front) out = (best, keeps seen bytes best row h (λ front out. no_front front))
 
--- of all rows
+-- the best of all rows
 best_of : (rows seen : List OpRow) (bytes : List ℕ) (best : Option OpRow) → IsBest seen bytes best → (other : Option OpRow) × IsBest (seen ++ rows) bytes other
 best_of [] seen bytes best h = (best, rw (append-nil seen) h)
 best_of (row ∷ rows) seen bytes best h =
@@ -60,13 +60,13 @@ best_of (row ∷ rows) seen bytes best h =
     let all = best_of rows (seen ++ row ∷ []) bytes one.0 one.1 in
     (all.0, rw (← append_assoc seen (row ∷ []) rows) all.1)
 
--- ---- what stands at the front of bytes
+-- ---- the piece with which bytes begin
 
--- a piece stands there, or something is wrong
+-- the bytes begin with a piece, or something is wrong there
 abbrev PieceOrFlaw : List ℕ → Type 0
 PieceOrFlaw bytes = ((piece : Piece) × IsPiece bytes piece) ⊎ ((flaw : Flaw) × IsFlaw bytes flaw)
 
--- so it is where punctuation begins
+-- this holds if punctuation begins there
 punctuation_or_flaw : (bytes : List ℕ) (first : ℕ) → BeginsPunctuation first bytes → PieceOrFlaw bytes
 punctuation_or_flaw bytes first begins =
     let best = best_of OPS.rows [] bytes None (λ k d within. absurd (omega arith)) in by_best best.0 best.1
@@ -79,7 +79,7 @@ punctuation_or_flaw bytes first begins =
     by_best (Some row) h = inl (_, operator_piece bytes first row.code begins (record { row = row; longest = h; same = refl }))
     by_best None h = by_sign (is_sign first) refl h
 
--- a word or name begins there
+-- this holds if a word or name begins there
 word_or_flaw : (bytes behind : List ℕ) (b : ℕ) → bytes ≡ b ∷ behind → is_letter b ≡ true → PieceOrFlaw bytes
 word_or_flaw bytes behind b e letter = by_place (word_place (take (1 + prefix_len is_name_byte behind) bytes)) refl
   where
@@ -92,7 +92,7 @@ word_or_flaw bytes behind b e letter = by_place (word_place (take (1 + prefix_le
     by_place (Some k) h = inl (_, word_piece bytes behind _ b _ k e letter refl refl h)
     by_place None h = by_length h (cases_lt 64 (length (take (1 + prefix_len is_name_byte behind) bytes)))
 
--- a number begins there
+-- this holds if a number begins there
 number_or_flaw : (bytes behind : List ℕ) (b : ℕ) → bytes ≡ b ∷ behind → is_letter b ≡ false → is_digit b ≡ true → PieceOrFlaw bytes
 number_or_flaw bytes behind b e letter digit = by_value (cases_lt (number_of (take (1 + prefix_len is_digit behind) bytes)) (2 ^ 63))
   where
@@ -100,7 +100,7 @@ number_or_flaw bytes behind b e letter digit = by_value (cases_lt (number_of (ta
     by_value (inl fits) = inl (_, number_piece bytes behind _ b _ _ e letter digit refl refl refl (omega (arith, ints, fits)))
     by_value (inr wide) = inr (_, number_flaw bytes behind _ b _ e letter digit refl refl wide)
 
--- whatever the first byte is
+-- this holds whatever the first byte is
 piece_or_flaw : (b : ℕ) (behind : List ℕ) → PieceOrFlaw (b ∷ behind)
 piece_or_flaw b behind = by_tests (is_blank b) (begins_comment (b ∷ behind)) (is_letter b) (is_digit b) refl refl refl refl
   where
@@ -115,14 +115,14 @@ piece_or_flaw b behind = by_tests (is_blank b) (begins_comment (b ∷ behind)) (
 
 -- ---- whole sources
 
--- the flaw that is reached is a fault
+-- a flaw after the tokens found so far is a fault of the source
 flaw_is_fault : (source : List ℕ) (found : List Token) (rest : List ℕ) (flaw : Flaw) → Reaches source found rest → IsFlaw rest flaw
     → (fault : LexicalFault) × HasFault source fault
 flaw_is_fault source found rest flaws.BadByte r f = (_, at_flaw source found rest flaws.BadByte _ r f refl)
 flaw_is_fault source found rest flaws.TooWide r f = (_, at_flaw source found rest flaws.TooWide _ r f refl)
 flaw_is_fault source found rest flaws.NameTooLong r f = (_, at_flaw source found rest flaws.NameTooLong _ r f refl)
 
--- from what is reached on, with so many bytes left at most
+-- if at most `bound` bytes are left, the source has tokens or a fault
 goes_on : (bound : ℕ) (source : List ℕ) (found : List Token) (rest : List ℕ) → length rest ≤ bound → Reaches source found rest → IsLexedOrHasFault source
 goes_on bound source found [] h r = inl (found, at_end source found r)
 goes_on zero source found (b ∷ behind) h r = absurd (omega arith)
@@ -134,7 +134,6 @@ goes_on (suc bound) source found (b ∷ behind) h r = elim (piece_or_flaw b behi
   | inr f ↦ inr (flaw_is_fault source found (b ∷ behind) f.0 r f.1)
 ]
 
--- each source has tokens or a fault
 pub lexed_or_fault : (source : List ℕ) → IsLexedOrHasFault source
 lexed_or_fault source = elim (cases_lt 1048576 (length source)) [
   | inl long ↦ inr (_, IsTooLong long)

@@ -1,4 +1,4 @@
--- What stands at the front of bytes, by the kind of its first byte: comments, words, names and numbers.
+-- The piece with which bytes begin, by the kind of the first byte: comments, words, names and numbers.
 use Rattle.std.proofs.Common.{◌≡◌, ◌∙◌, ap, sym, ℕ, ℤ, pos, ◌+◌, ◌<◌, ◌≤◌, ◌^◌, ◌-◌, ◌≤ℤ◌, Bool, true, false, not, List, [], ◌∷◌, length, length-take-le, take, drop, refl, suc, arith, position, Option, Some, None, ◌==◌}
 use Rattle.std.specs.List.{prefix_len}
 use Rattle.std.specs.Str.{bytes_eq}
@@ -16,11 +16,11 @@ use Rattle.pipe_lexer.specs.declared.piece.Piece.TheVariants as pieces
 use Rattle.pipe_lexer.specs.Pieces.{IsFlaw, IsPiece, AComment, AToken, NameIsLong, NumberIsWide}
 use Rattle.pipe_lexer.proofs.Longest.{front_passes, rest_fails, word_is, word_is_longest, number_is, number_is_longest}
 
--- the place of a text among the reserved words
+-- the index of a text among the reserved words
 abbrev pub word_place : List ℕ → Option ℕ
 word_place text = position (λ word. bytes_eq word text) reserved_words
 
--- the front of bytes by its first byte
+-- a prefix of bytes, split after the first byte
 pub front_is : (bytes behind : List ℕ) (b m : ℕ) → bytes ≡ b ∷ behind → take (1 + m) bytes ≡ b ∷ take m behind
 front_is bytes behind b m e = let s : 1 + m ≡ suc m = omega arith in rw (e, s) refl
 
@@ -38,7 +38,7 @@ two_in_line a b bs h =
     let second : in_line b ≡ true = grind (arith, nat_tests, parts.1) in
     rw (first, second) (omega arith)
 
--- what ends the line ends the comment
+-- if a line ends here, so does a comment
 line_ends : (bytes rest : List ℕ) → drop (prefix_len in_line bytes) bytes ≡ rest → EndsComment rest
 line_ends bytes [] e = tt
 line_ends bytes (c ∷ more) e = not-false (is_line_feed c) (rest_fails in_line bytes c more e)
@@ -63,14 +63,14 @@ is_token : (b : ℕ) (bs : List ℕ) (m : ℕ) (s : Symbol) → symbol_of (b ∷
 is_token b bs m s symbol longest none =
     record { symbol = symbol; longest = longest; no_comment = ap (λ x. begins_comment (b ∷ x)) (take-append-drop m bs) ∙ none }
 
--- so they are a piece, within their bounds
+-- they are a piece if they are within their bounds
 pub token_piece : (b : ℕ) (bs : List ℕ) (m : ℕ) (s : Symbol) → m ≤ length bs → symbol_of (b ∷ take m bs) ≡ Some s → IsLongest (b ∷ take m bs) (drop m bs)
     → begins_comment (b ∷ bs) ≡ false → IsKindWithinBounds (kind_of s) (1 + m) → IsPiece (b ∷ bs) (pieces.Taken (kind_of s) (1 + m))
 token_piece b bs m s within symbol longest none bounded =
     let e : 1 + m ≡ suc m = omega arith in
     rw e (AToken s (suc m) (omega arith) (omega arith) (is_token b bs m s symbol longest none) (rw e at bounded))
 
--- and the bytes begin with them
+-- the bytes begin with that token
 pub begins_with : (b : ℕ) (bs : List ℕ) (m : ℕ) (s : Symbol) → symbol_of (b ∷ take m bs) ≡ Some s → IsLongest (b ∷ take m bs) (drop m bs)
     → begins_comment (b ∷ bs) ≡ false → BeginsWith (b ∷ bs) s
 begins_with b bs m s symbol longest none =
@@ -81,19 +81,19 @@ letter_no_comment : (b : ℕ) (bs : List ℕ) → is_letter b ≡ true → begin
 letter_no_comment b [] h = refl
 letter_no_comment b (c ∷ bs) h = grind (arith, nat_tests)
 
--- nor does a digit
+-- nor does a digit begin one
 digit_no_comment : (b : ℕ) (bs : List ℕ) → is_digit b ≡ true → begins_comment (b ∷ bs) ≡ false
 digit_no_comment b [] h = refl
 digit_no_comment b (c ∷ bs) h = grind (arith, nat_tests)
 
 -- ---- words and names
 
--- the front from a letter on is the word or name that its place tells
+-- the letters, digits and `_` from a letter on are the reserved word at the given index, or a name if there is no index
 as_word : (b : ℕ) (behind text : List ℕ) (o : Option ℕ) → is_letter b ≡ true → text ≡ b ∷ take (prefix_len is_name_byte behind) behind → word_place text ≡ o
     → symbol_of (b ∷ take (prefix_len is_name_byte behind) behind) ≡ Some (word_or_name o text)
 as_word b behind text o letter t place = word_is b behind letter ∙ ap (λ x. Some (word_symbol x)) (sym t) ∙ ap (λ p. Some (word_or_name p text)) place
 
--- a front is as long as was counted
+-- the length of a prefix of 1 + m bytes
 front_length : (bytes behind text : List ℕ) (b m : ℕ) → bytes ≡ b ∷ behind → m ≤ length behind → text ≡ take (1 + m) bytes → length text ≡ 1 + m
 front_length bytes behind text b m e within t =
     ap length t ∙ length-take-le (1 + m) bytes (omega (arith, ap length e, within))
@@ -123,7 +123,7 @@ name_flaw bytes behind text b m e letter counted t place long =
 
 -- ---- numbers
 
--- the digits at the front are this number
+-- the digits with which the bytes begin are this number
 number_as : (bytes behind text : List ℕ) (b m : ℕ) → bytes ≡ b ∷ behind → is_letter b ≡ false → is_digit b ≡ true → m ≡ prefix_len is_digit behind → text ≡ take (1 + m) bytes
     → symbol_of (b ∷ take (prefix_len is_digit behind) behind) ≡ Some (symbols.Number (pos (number_of text)))
 number_as bytes behind text b m e letter digit counted t =

@@ -1,4 +1,4 @@
--- Operators and signs at the front of bytes.
+-- Operators and signs with which bytes begin.
 use Rattle.std.proofs.Common.{◌≡◌, ◌≢◌, ◌∙◌, ap, sym, ℕ, ◌+◌, ◌<◌, ◌≤◌, Bool, true, false, List, [], ◌∷◌, ◌++◌, length, length-append, take, drop, refl, arith, cond, ◌⊎◌, inl, inr, position, Option, Some, None, Contains, append_assoc}
 use Rattle.std.specs.Str.{bytes_eq}
 use Rattle.std.proofs.Math.Seq.{drop-append_seam, take-append_seam}
@@ -20,7 +20,7 @@ use Rattle.pipe_lexer.proofs.Longest.{as_punctuation}
 
 -- ---- which texts are punctuation
 
--- a sign by its one byte
+-- the text is the one byte of this sign
 record IsSignText (text : List ℕ) (s : Symbol) : Type 0 where
   pub byte : ℕ
   pub is : text ≡ byte ∷ []
@@ -45,9 +45,9 @@ punctuation_is text s e = by_place (position (λ operator. bytes_eq operator tex
     by_place (Some k) h e = inl (k + 1, operator_row text k h)
     by_place None h e = inr (is_sign_text text s e)
 
--- ---- fronts of bytes that begin with punctuation
+-- ---- prefixes of bytes that begin with punctuation
 
--- each front that is a symbol is punctuation
+-- each prefix that is a symbol is punctuation
 front_is_punctuation : (bytes text rest : List ℕ) (first : ℕ) (s : Symbol) → BeginsPunctuation first bytes → bytes ≡ text ++ rest → symbol_of text ≡ Some s
     → punctuation_symbol text ≡ Some s
 front_is_punctuation bytes [] rest first s begins e t = (let none : None ≡ Some s = t in cc (none))
@@ -56,7 +56,7 @@ front_is_punctuation bytes (b ∷ text) rest first s begins e t =
     let same : first ≡ b = cc (both) in
     sym (as_punctuation b text (rw same at begins.no_letter) (rw same at begins.no_digit)) ∙ t
 
--- and the other way round
+-- and each prefix that is punctuation is a symbol
 punctuation_at_front : (bytes text rest : List ℕ) (first : ℕ) (s : Symbol) → BeginsPunctuation first bytes → bytes ≡ text ++ rest → text ≢ [] → punctuation_symbol text ≡ Some s
     → symbol_of text ≡ Some s
 punctuation_at_front bytes [] rest first s begins e some t = absurd (some refl)
@@ -65,33 +65,33 @@ punctuation_at_front bytes (b ∷ text) rest first s begins e some t =
     let same : first ≡ b = cc (both) in
     as_punctuation b text (rw same at begins.no_letter) (rw same at begins.no_digit) ∙ t
 
--- more behind a front
+-- a prefix extended by bytes that follow it
 longer_front : (bytes text rest more after : List ℕ) → bytes ≡ text ++ rest → rest ≡ more ++ after → bytes ≡ (text ++ more) ++ after
 longer_front bytes text rest more after e h = e ∙ ap (λ x. text ++ x) h ∙ sym (append_assoc text more after)
 
--- more than nothing has a length
+-- a list that is not empty has a positive length
 some_more : (more : List ℕ) → more ≢ [] → 0 < length more
 some_more [] n = absurd (n refl)
 some_more (c ∷ more) n = omega arith
 
--- no row's symbol is a longer front than the longest
+-- no row's symbol is a longer prefix than that of the longest row
 not_longer : (rows : List OpRow) (bytes : List ℕ) (row other : OpRow) → IsLongestRow rows bytes row → Contains rows other → StartsWith (text_of other) bytes
     → length (text_of other) ≤ length (text_of row)
 not_longer rows bytes row other h among front =
     All-contains (λ other. StartsWith (text_of other) bytes → length (text_of other) ≤ length (text_of row)) rows other h.longest among front
 
--- no row's symbol is a front where none is
+-- if no row's symbol is a prefix, this row's is none
 no_front : (rows : List OpRow) (bytes : List ℕ) (row : OpRow) → HasNoSymbol rows bytes → Contains rows row → StartsWith (text_of row) bytes → ⊥
 no_front rows bytes row h among front = All-contains (λ other. StartsWith (text_of other) bytes → ⊥) rows row h among front
 
 -- ---- operators
 
--- the operator that is found has a text
+-- the text of an operator of the table is not empty
 operator_is_some : (row : OpRow) → Contains OPS.rows row → text_of row ≢ []
 operator_is_some row among e =
     let here : punctuation_symbol [] ≡ Some (symbols.Operator row.code) = rw e at (row_symbol row among) in let none : None ≡ Some (symbols.Operator row.code) = here in cc (none)
 
--- and no longer front is a symbol
+-- and no longer prefix is a symbol
 operator_is_longest : (bytes : List ℕ) (first code : ℕ) → BeginsPunctuation first bytes → (h : HasLongest OPS.rows bytes code) → IsLongest (text_of h.row) h.longest.front.0
 operator_is_longest bytes first code begins h = record { longest = no_longer }
   where
@@ -109,7 +109,7 @@ operator_is_longest bytes first code begins h = record { longest = no_longer }
               omega (arith, none, ap length sign.is, length-append (text_of h.row) more, some_more more some))
         ]
 
--- so it is the token at the front
+-- so the operator is the token with which the bytes begin
 pub operator_piece : (bytes : List ℕ) (first code : ℕ) → BeginsPunctuation first bytes → HasLongest OPS.rows bytes code
     → IsPiece bytes (pieces.Taken (kinds.Operator code) (operator_length code))
 operator_piece bytes first code begins h =
@@ -130,7 +130,7 @@ operator_piece bytes first code begins h =
 
 -- ---- signs
 
--- where no operator stands, each front that is a symbol is a sign
+-- if the bytes begin with no operator, each prefix that is a symbol is a sign
 only_sign : (bytes text rest : List ℕ) (first : ℕ) (s : Symbol) → BeginsPunctuation first bytes → HasNoSymbol OPS.rows bytes → bytes ≡ text ++ rest → symbol_of text ≡ Some s
     → (text ≡ first ∷ []) × (is_sign first ≡ true)
 only_sign bytes text rest first s begins none e t = elim (punctuation_is text s (front_is_punctuation bytes text rest first s begins e t)) [
@@ -141,7 +141,7 @@ only_sign bytes text rest first s begins none e t = elim (punctuation_is text s 
       (sign.is ∙ ap (λ (x : ℕ). x ∷ []) same, ap is_sign (sym same) ∙ sign.sign))
 ]
 
--- the one byte of a sign that is no operator
+-- then the first byte alone, if it is a sign, is a symbol
 sign_symbol : (bytes : List ℕ) (first : ℕ) → BeginsPunctuation first bytes → HasNoSymbol OPS.rows bytes → is_sign first ≡ true
     → symbol_of (first ∷ []) ≡ Some (symbols.Sign first)
 sign_symbol bytes first begins none sign =
@@ -151,7 +151,7 @@ sign_symbol bytes first begins none sign =
     by_place (Some k) h = absurd (let r = operator_row (first ∷ []) k h in no_front OPS.rows bytes r.row none r.among (begins.behind, rw r.same_text begins.parts))
     by_place None h = rw sign refl
 
--- a sign is the token at the front where no operator is
+-- a sign is the token with which the bytes begin if no operator is
 pub sign_piece : (bytes : List ℕ) (first : ℕ) → BeginsPunctuation first bytes → HasNoSymbol OPS.rows bytes → is_sign first ≡ true
     → IsPiece bytes (pieces.Taken (kinds.Sign first) 1)
 sign_piece bytes first begins none sign =
@@ -168,7 +168,7 @@ sign_piece bytes first begins none sign =
     } in
     AToken (symbols.Sign first) 1 (omega arith) (omega (arith, ap length begins.parts)) (rw (front, behind) token) tt
 
--- otherwise nothing stands there
+-- otherwise no token begins there
 pub nothing_stands : (bytes : List ℕ) (first : ℕ) → BeginsPunctuation first bytes → HasNoSymbol OPS.rows bytes → is_sign first ≡ false → IsFlaw bytes flaws.BadByte
 nothing_stands bytes first begins none sign = NothingStands (rw begins.parts (
   begins.no_blank,

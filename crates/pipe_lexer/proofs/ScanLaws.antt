@@ -1,4 +1,4 @@
--- Pieces taken off the front of a source, one after the other.
+-- Pieces taken from the beginning of a source, one after the other.
 use Rattle.std.proofs.Common.{◌≡◌, ◌∙◌, ap, sym, subst, ℕ, ◌+◌, ◌-◌, ◌<◌, ◌≤◌, List, [], ◌∷◌, ◌++◌, length, length-take-le, length-drop, take, drop, refl, arith, All, append-nil, append_assoc}
 use Rattle.std.proofs.lemmas.List.{drop-drop, take-append-drop}
 use Rattle.std.proofs.lemmas.List.Elements.{All-push}
@@ -9,13 +9,13 @@ use Rattle.pipe_lexer.specs.declared.piece.Piece.{Piece}
 use Rattle.pipe_lexer.specs.Faults.{fault_at, IsFaultOf}
 use Rattle.pipe_lexer.specs.Pieces.{length_of, tokens_of, IsFlaw, IsPiece, ABlank, AComment, AToken, NothingStands, NumberIsWide, NameIsLong}
 
--- a piece has a byte at least, and stands within its bytes
+-- a piece has at least one byte, and at most all bytes
 pub piece_within : {bytes : List ℕ} {piece : Piece} → IsPiece bytes piece → (0 < length_of piece) × (length_of piece ≤ length bytes)
 piece_within (ABlank b behind e g) = (omega arith, omega (arith, ap length e))
 piece_within (AComment n some within h) = (some, within)
 piece_within (AToken s n some within t w) = (some, within)
 
--- the tokens found so far are those up to the rest, which scans on as the source does
+-- `found` are the tokens before the rest, and a scan of the rest continues the scan of the source
 pub record Reaches (source : List ℕ) (found : List Token) (rest : List ℕ) : Type 0 where
   pub short : length source ≤ 1048576
   pub place : ℕ
@@ -24,12 +24,12 @@ pub record Reaches (source : List ℕ) (found : List Token) (rest : List ℕ) : 
   pub keeps : (others : List Token) (end : List ℕ) → Scans place rest others end → Scans 0 source (found ++ others) end
   pub bounded : All IsTokenWithinBounds found
 
--- nothing is found at the beginning
+-- at the beginning no token is found
 pub at_start : (source : List ℕ) → length source ≤ 1048576 → Reaches source [] source
 at_start source short =
     record { short = short; place = 0; within = omega arith; here = refl; keeps = λ others end d. d; bounded = λ k d h. absurd (omega arith) }
 
--- what a piece adds to a scan
+-- a scan goes on after a piece
 scans_past : {bytes : List ℕ} {piece : Piece} (place : ℕ) (others : List Token) (end : List ℕ) → IsPiece bytes piece
     → Scans (place + length_of piece) (drop (length_of piece) bytes) others end → Scans place bytes (tokens_of piece place ++ others) end
 scans_past {bytes} place others end (ABlank b behind e g) d =
@@ -51,7 +51,7 @@ piece_bounded place found (ABlank b behind e g) h = rw (append-nil found) h
 piece_bounded place found (AComment n some within c) h = rw (append-nil found) h
 piece_bounded place found (AToken s n some within t w) h = All-push IsTokenWithinBounds found (record { kind = kind_of s; place = place; length = n }) h w
 
--- past a piece
+-- `Reaches` holds after one more piece
 pub past_piece : (source : List ℕ) (found : List Token) (rest : List ℕ) (piece : Piece) (place : ℕ) → Reaches source found rest → IsPiece rest piece
     → place ≡ length source - length rest → Reaches source (found ++ tokens_of piece place) (drop (length_of piece) rest)
 past_piece source found rest piece place r p e =
@@ -66,7 +66,7 @@ past_piece source found rest piece place r p e =
       bounded = piece_bounded r.place found p r.bounded;
     })
 
--- at the end the tokens are found
+-- at the end all tokens are found
 pub at_end : (source : List ℕ) (found : List Token) → Reaches source found [] → IsLexed source found
 at_end source found r = record {
   short = r.short;
@@ -74,7 +74,7 @@ at_end source found r = record {
   bounded = r.bounded;
 }
 
--- the source is reached up to its rest
+-- a scan reaches the offset of the rest
 reached : (source : List ℕ) (found : List Token) (rest : List ℕ) → (r : Reaches source found rest) → IsReached source r.place
 reached source found rest r = record {
   short = r.short;
@@ -83,7 +83,7 @@ reached source found rest r = record {
   bounded = r.bounded;
 }
 
--- what is wrong at the front of the rest is the fault of the source
+-- what is wrong at the beginning of the rest is the fault of the source
 pub at_flaw : (source : List ℕ) (found : List Token) (rest : List ℕ) (flaw : Flaw) (place : ℕ) → Reaches source found rest → IsFlaw rest flaw
     → place ≡ length source - length rest → IsFaultOf source (fault_at flaw place)
 at_flaw source found rest flaw place r f e = let same : place ≡ r.place = omega (arith, e, r.within) in rw same (by_flaw f)

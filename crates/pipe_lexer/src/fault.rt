@@ -6,10 +6,11 @@ ghost use Rattle.pipe_lexer.specs.declared.fault.LexFault.TheVariants as faults;
 use std::alloc::AllocError;
 use thiserror::Error;
 
-/// What is wrong with a source. Where it stands in the text, its place in bytes from 0; the first counts.
+/// What is wrong with a source. A fault at a byte of the text has that byte's offset, from 0; the
+/// first such fault counts.
 #[derive(Clone, Copy, PartialEq, Eq, Debug, Error)]
 pub enum LexFault {
-    /// Here stands neither a blank nor a comment nor a token.
+    /// Neither a blank nor a comment nor a token begins here.
     #[error("no token begins at byte {0}")]
     BadByte(u32),
     /// The number that begins here is above 9223372036854775807.
@@ -21,8 +22,8 @@ pub enum LexFault {
     /// The name that begins here has more than 64 bytes.
     #[error("the name at byte {0} is too long")]
     NameTooLong(u32),
-    /// Memory was refused.
-    #[error("memory was refused")]
+    /// Out of memory.
+    #[error("out of memory")]
     NoMemory,
 }
 

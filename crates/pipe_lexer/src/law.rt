@@ -1,9 +1,10 @@
-//! The law of the lexer's answers. Its function has an empty body; its contract is the law.
+//! The law that each source has a result. Its function has an empty body; its contract is the law.
 
 ghost use Rattle.std.specs.Prelude.{ℕ, List};
 ghost use Rattle.pipe_lexer.specs.LexingLaw.{IsLexedOrHasFault};
 
-/// Each source has tokens within the bounds, or a fault. (Never both, and one of each at most: laws of the definitions.)
+/// Each source has tokens within the bounds, or a fault. (Laws of the definitions show that it
+/// never has both, and at most one of each.)
 pub fn each_source_has_tokens_or_a_fault()
     ensures { (source : List ℕ) → IsLexedOrHasFault source }
 {}

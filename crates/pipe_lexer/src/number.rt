@@ -3,7 +3,7 @@
 ghost use Rattle.std.specs.Prelude.{◌≡◌, ◌≤◌, ◌^◌, IfNone, IfSome, pos};
 ghost use Rattle.pipe_model.specs.Language.Lexis.{number_of};
 
-/// The number that digits write; `None` where it is above 9223372036854775807.
+/// Returns the number that the digits write; `None` if it is above 9223372036854775807.
 pub fn number_value(digits: &[u8]) -> Option<i64>
     ensures some { IfSome result (λ v. v ≡ pos (number_of digits.now)) }
     ensures none { IfNone result (2 ^ 63 ≤ number_of digits.now) }

@@ -1,4 +1,4 @@
-//! What stands at the front of bytes: a blank, a comment or a token.
+//! The blank, comment or token with which bytes begin.
 
 ghost use Rattle.std.specs.Prelude.{◌≡◌, ◌∷◌, ◌<◌, IfErr, IfOk, length, true, false};
 ghost use Rattle.pipe_model.specs.Language.Lexis.{is_digit, is_letter};
@@ -13,7 +13,7 @@ use op_table::operators::OPS;
 use pipe_model::bounds::LONGEST_NAME;
 use pipe_model::token::TokenKind;
 
-/// What stands at the front of bytes, and how many bytes it has.
+/// The blank, comment or token with which bytes begin, and its length in bytes.
 #[derive(Clone, Copy)]
 pub enum Piece {
     /// A blank or a comment.
@@ -23,7 +23,7 @@ pub enum Piece {
 }
 
 impl Piece {
-    /// How many bytes it has.
+    /// Returns its length in bytes.
     pub fn length(self) -> usize
         ensures { result ≡ length_of self }
     {
@@ -33,10 +33,10 @@ impl Piece {
     }
 }
 
-/// What is wrong at the front of bytes.
+/// What is wrong at the beginning of bytes.
 #[derive(Clone, Copy)]
 pub enum Flaw {
-    /// Nothing stands there that may.
+    /// Neither a blank nor a comment nor a token begins there.
     BadByte,
     /// A number above 9223372036854775807.
     TooWide,
@@ -44,7 +44,7 @@ pub enum Flaw {
     NameTooLong,
 }
 
-// The word or name at the front, which begins with a letter.
+// Reads the word or name with which the bytes begin; their first is a letter.
 fn word_or_name(bytes: &[u8], first: u8, behind: &[u8]) -> Result<Piece, Flaw>
     requires front { bytes.now ≡ first ∷ behind.now }
     requires letter { is_letter first ≡ true }
@@ -62,7 +62,7 @@ fn word_or_name(bytes: &[u8], first: u8, behind: &[u8]) -> Result<Piece, Flaw>
     Ok(Piece::Taken(TokenKind::Name, 1 + more))
 }
 
-// The number at the front, which begins with a digit.
+// Reads the number with which the bytes begin; their first is a digit.
 fn number(bytes: &[u8], first: u8, behind: &[u8]) -> Result<Piece, Flaw>
     requires front { bytes.now ≡ first ∷ behind.now }
     requires letter { is_letter first ≡ false }
@@ -86,14 +86,15 @@ macro_rules! length_by_code {
     };
 }
 
-// How many bytes the operator of a code has; 0 where none has the code.
+// The length in bytes of the operator with this code; 0 if no operator has the code.
 fn operator_length(code: u8) -> usize
     ensures { result ≡ operator_length code }
 {
     op_table::operators!(length_by_code, code)
 }
 
-// The operator or sign at the front, which begins with neither a letter nor a digit and is no comment.
+// Reads the operator or sign with which the bytes begin. They begin with no blank, comment, word,
+// name or number.
 fn punctuation(bytes: &[u8], first: u8) -> Result<Piece, Flaw>
     requires { BeginsPunctuation first bytes.now }
     ensures piece { IfOk result (λ piece. IsPiece bytes.now piece) }
@@ -108,7 +109,8 @@ fn punctuation(bytes: &[u8], first: u8) -> Result<Piece, Flaw>
     Ok(Piece::Taken(TokenKind::Sign(first), 1))
 }
 
-/// Returns the piece at the start of the bytes, of which there is at least one, or what is wrong there.
+/// Returns the blank, comment or token with which `bytes` begins; `bytes` is `first` followed by
+/// `behind`. Returns an error if nothing within the bounds begins there.
 pub fn piece_at(bytes: &[u8]) -> Result<Piece, Flaw>
     requires { 0 < length bytes.now }
     ensures piece { IfOk result (λ piece. IsPiece bytes.now piece) }

@@ -13,7 +13,7 @@ use pipe_model::token::{Token, Tokens};
 use std::alloc::{AllocError, Global};
 
 impl Flaw {
-    // The fault that is this flaw at a place.
+    // The fault of this flaw at an offset.
     fn at(self, place: u32) -> LexFault
         ensures { result ≡ fault_at self place }
     {
@@ -25,7 +25,7 @@ impl Flaw {
     }
 }
 
-// Puts a piece at a place behind the tokens that were found, if it is a token.
+// Appends the piece to the tokens found so far, if it is a token; `place` is its offset.
 fn keep(found: &mut Tokens, piece: Piece, place: u32) -> Result<(), AllocError>
     requires { length_of piece ≤ bounds.LONGEST_SOURCE }
     ensures kept { OnOk result (found.new ≡ found.old ++ tokens_of piece place) }
@@ -40,10 +40,11 @@ fn keep(found: &mut Tokens, piece: Piece, place: u32) -> Result<(), AllocError>
     Ok(())
 }
 
-/// The tokens of a source, each with its kind, place and length. `SourceTooLong` is answered exactly where the source has
-/// more than 1,048,576 bytes. Otherwise `BadByte`, `TooWide` and `NameTooLong` tell the first thing that is wrong in the
-/// text, with its place: a byte at which nothing stands that may, a number above 9223372036854775807, or a name of more
-/// than 64 bytes. `NoMemory` may come at any source.
+/// Returns the tokens of a source, each with its kind, offset and length. `SourceTooLong` is
+/// returned exactly when the source has more than 1,048,576 bytes. Otherwise `BadByte`, `TooWide`
+/// and `NameTooLong` report the first fault in the text, with its offset: a byte at which neither a
+/// blank nor a comment nor a token begins, a number above 9223372036854775807, or a name of more
+/// than 64 bytes. `NoMemory` is returned if memory runs out, whatever the source.
 pub fn tokens(alloc: Global, source: &[u8]) -> Result<Tokens, LexFault>
     ensures tokens { IfOk result (λ found. IsLexed source.now found) }
     ensures fault { IfErr result (λ fault. IsFaultOf source.now fault) }

@@ -29,7 +29,7 @@ const RESERVED_WORDS: [&[u8]; 22] = [
     b"output",
 ];
 
-// The reserved word at a place of their list.
+// The reserved word at an index of their list.
 fn word_at(place: usize) -> &'static [u8]
     requires { place < length reserved_words }
     ensures { result.now ≡ slice_index_or reserved_words place [] }
@@ -37,7 +37,8 @@ fn word_at(place: usize) -> &'static [u8]
     RESERVED_WORDS[place]
 }
 
-/// The place of a text in the list of reserved words, counted from 0; `None` where it is no reserved word.
+/// Returns the index of a text in the list of reserved words, from 0; `None` if it is no reserved
+/// word.
 pub fn reserved_place(text: &[u8]) -> Option<u8>
     ensures { result ≡ position (λ word. bytes_eq word text.now) reserved_words }
 {

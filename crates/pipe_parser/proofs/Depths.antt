@@ -7,7 +7,7 @@ use Rattle.pipe_model.specs.Language.Spelling.{is_opening_bracket, is_closing_br
 use Rattle.grammar_laws.proofs.OpenBrackets.{count_one_more, shallow_more, no_symbols_shallow}
 use Rattle.pipe_parser.specs.Depths.{OpensTooMany}
 
--- the symbols before the rest are shallow, and so many of them open and close
+-- the symbols before the rest are shallow, and this many of them open and close brackets
 pub record Counted (all rest : List Symbol) (opened closed : ℕ) : Type 0 where
   pub before : List Symbol
   pub split : all ≡ before ++ rest
@@ -15,16 +15,16 @@ pub record Counted (all rest : List Symbol) (opened closed : ℕ) : Type 0 where
   pub opens : opened ≡ count_by is_opening_bracket before
   pub closes : closed ≡ count_by is_closing_bracket before
 
--- before all symbols
+-- nothing is counted at the beginning
 pub counted_none : (all : List Symbol) → Counted all all 0 0
 counted_none all = record { before = []; split = refl; shallow = no_symbols_shallow; opens = refl; closes = refl }
 
--- how many of one symbol are counted
+-- the count of one kind after one more symbol
 pub opened_more : (p : Symbol → Bool) (before : List Symbol) (t : Symbol) (n m : ℕ) → n ≡ count_by p before → m ≡ n + cond (p t) 1 0
     → m ≡ count_by p (before ++ t ∷ [])
 opened_more p before t n m h i = i ∙ ap (λ x. x + cond (p t) 1 0) h ∙ sym (count_one_more p before t)
 
--- one symbol more
+-- the counts after one more symbol
 pub counted_more : (all rest behind : List Symbol) (t : Symbol) (opened closed o c : ℕ) → Counted all rest opened closed → rest ≡ t ∷ behind
     → o ≡ opened + cond (is_opening_bracket t) 1 0 → c ≡ closed + cond (is_closing_bracket t) 1 0 → o - c ≤ 64
     → Counted all behind o c
@@ -39,7 +39,7 @@ counted_more all rest behind t opened closed o c k h i j l =
       closes = closes;
     }
 
--- the symbol with which too many are open
+-- the symbol with which too many brackets are open
 pub counted_too_many : (all rest behind : List Symbol) (t : Symbol) (opened closed o c : ℕ) → Counted all rest opened closed → rest ≡ t ∷ behind
     → o ≡ opened + cond (is_opening_bracket t) 1 0 → c ≡ closed + cond (is_closing_bracket t) 1 0 → 64 < o - c
     → OpensTooMany all (length all - length behind)
@@ -57,7 +57,7 @@ counted_too_many all rest behind t opened closed o c k h i j l =
       deep = omega (arith, l, opens, closes);
     }
 
--- behind all symbols
+-- at the end all symbols are shallow
 pub counted_all : (all : List Symbol) (rest : List Symbol) (opened closed : ℕ) → Counted all rest opened closed → rest ≡ [] → IsShallow all
 counted_all all rest opened closed k h =
     subst IsShallow (sym (k.split ∙ ap (λ x. k.before ++ x) h ∙ append-nil k.before)) k.shallow
@@ -68,7 +68,7 @@ counted_within all rest opened closed k =
     let many : length all ≡ length k.before + length rest = ap length k.split ∙ length-append k.before rest in
     (omega (arith, many, k.opens, count_by-le-length is_opening_bracket k.before), omega (arith, many, k.closes, count_by-le-length is_closing_bracket k.before))
 
--- what is counted of one symbol is one at most
+-- one symbol adds at most 1
 pub one_at_most : (b : Bool) → cond b 1 0 ≤ 1
 one_at_most true = omega arith
 one_at_most false = omega arith

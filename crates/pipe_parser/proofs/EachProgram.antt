@@ -11,7 +11,7 @@ use Rattle.pipe_parser.specs.Depths.{OpensTooMany}
 use Rattle.pipe_parser.specs.ParsingLaw.{IsProgramOrFault}
 use Rattle.pipe_parser.proofs.Parses.{shallow_unexpected, shallow_too_long, cut_unexpected, cut_too_long, cut_too_deep}
 
--- no symbol opens too many brackets, or a first one does
+-- no symbol opens too many brackets, or there is a first that does
 shallow_or_deep : (before rest : List Symbol) → IsShallow before → IsShallow (before ++ rest) ⊎ ((k : ℕ) × OpensTooMany (before ++ rest) k)
 shallow_or_deep before [] h = inl (subst IsShallow (sym (append-nil before)) h)
 shallow_or_deep before (t ∷ rest) h =
@@ -22,13 +22,13 @@ shallow_or_deep before (t ∷ rest) h =
           subst (λ x. IsShallow x ⊎ ((k : ℕ) × OpensTooMany x k)) same (shallow_or_deep (before ++ t ∷ []) rest (shallow_more before t h l)))
     ]
 
--- symbols that never open too many, by the machine's verdict on all of them
+-- symbols that never open too many brackets, by the machine's verdict on all of them
 by_verdict : (ts : List Symbol) (v : Verdict) → judge 256 ts (Outside program) ≡ v → IsShallow ts → IsProgramOrFault ts
 by_verdict ts Accepted e h = inl (accepted_spelled ts e h)
 by_verdict ts (Unexpected n) e h = inr (spelling.Unexpected, length ts - n, shallow_unexpected ts n e h)
 by_verdict ts (TooLong n) e h = inr (spelling.TooLong, length ts - n, shallow_too_long ts n e h)
 
--- symbols that open too many, by the machine's verdict on those up to the bracket too many
+-- symbols that open too many, by the machine's verdict on those up to and including the first bracket too many
 by_cut : (ts : List Symbol) (k : ℕ) (v : Verdict) → OpensTooMany ts k → judge 256 (take k ts) (Outside program) ≡ v → IsProgramOrFault ts
 by_cut ts k Accepted o e = inr (spelling.TooDeep, k - 1, cut_too_deep ts k Accepted o e tt)
 by_cut ts k (Unexpected zero) o e = inr (spelling.TooDeep, k - 1, cut_too_deep ts k (Unexpected zero) o e refl)
@@ -39,7 +39,6 @@ by_cut ts k (TooLong n) o e = by_left (cases_eq n 1)
     by_left (inl one) = inr (spelling.TooDeep, k - 1, cut_too_deep ts k (TooLong n) o e one)
     by_left (inr other) = inr (spelling.TooLong, k - n, cut_too_long ts k n o e other)
 
--- so each list of symbols is one or the other
 pub program_or_fault : (ts : List Symbol) → IsProgramOrFault ts
 program_or_fault ts =
     elim (shallow_or_deep [] ts no_symbols_shallow) [

@@ -1,4 +1,4 @@
--- Readings of expressions and the faults of their readers, by what stands at the front.
+-- Readings of expressions and the faults of their readers, by the first symbols.
 use Rattle.std.proofs.Common.{◌≡◌, ℕ, ℤ, suc, List, [], ◌∷◌, ◌++◌, ap, ◌∙◌, ◌≤◌, arith}
 use Rattle.pipe_model.specs.declared.symbol.Symbol.{Symbol}
 use Rattle.pipe_model.specs.declared.symbol.Symbol.TheVariants as symbols
@@ -13,7 +13,7 @@ use Rattle.pipe_parser.specs.ExpressionFaults.{ExpressionStops, whole, closed, R
 
 -- ---- faults
 
--- a fault behind what was passed is the fault of the whole
+-- a fault after the symbols that were read is the fault of the whole
 pub fault_behind : (wants others : List Want) (ts us : List Symbol)
     → ((below : List Want) → ending ts (wants ++ below) ≡ ending us (others ++ below)) → (f : SyntaxFault) → ExpressionStops others us f
     → ExpressionStops wants ts f
@@ -22,7 +22,7 @@ fault_behind wants others ts us h (faults.TooDeep left) x = x
 fault_behind wants others ts us h (faults.TooLong left) x = x
 fault_behind wants others ts us h (faults.Unexpected left) x = record { stuck = λ below. h below ∙ x.stuck below }
 
--- a fault of what goes on behind an expression of a level
+-- a fault of what may follow an expression of a level
 pub fault_chained : (level : ℕ) (a : Expression) (ts mid : List Symbol) → 1 ≤ level → Reads level ts a mid → (f : SyntaxFault) → ExpressionStops (Tail ∷ []) mid f
     → ExpressionStops whole ts f
 fault_chained level a ts mid l r = fault_behind whole (Tail ∷ []) ts mid (λ below. passes level r l below)
@@ -32,15 +32,15 @@ pub fault_closed : (sign : ℕ) (e : Expression) (ts mid : List Symbol) → Read
     → ExpressionStops (closed sign) ts f
 fault_closed sign e ts mid r = fault_behind (closed sign) (Sign sign ∷ []) ts mid (λ below. passes_expression r (Sign sign ∷ below))
 
--- ---- operators that go on
+-- ---- operators that extend an expression
 
--- an operator and its operand extend an expression, as what is behind them does
+-- an operator and its operand extend an expression, and so does what follows them
 pub joins : (level code : ℕ) (a b e : Expression) (ts behind mid rest : List Symbol) → ts ≡ symbols.Operator code ∷ behind → level_of code ≡ level
     → Reads (suc level) behind b mid → Extends level (binary_expression code a b) mid e rest
     → Extends level a ts e rest
 joins level code a b e ts behind mid rest h i r g = rw h (Joins code i r g)
 
--- and are passed
+-- the machine passes them
 pub passes_join : (level code : ℕ) (b : Expression) (ts behind mid : List Symbol) → 1 ≤ level → ts ≡ symbols.Operator code ∷ behind → level_of code ≡ level
     → Reads (suc level) behind b mid → (below : List Want) → ending ts (Tail ∷ below) ≡ ending mid (Tail ∷ below)
 passes_join level code b ts behind mid l h i r below =

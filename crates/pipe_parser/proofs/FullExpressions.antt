@@ -20,11 +20,11 @@ use Rattle.pipe_parser.specs.declared.fault.SyntaxFault.{SyntaxFault}
 use Rattle.pipe_parser.specs.declared.fault.SyntaxFault.TheVariants as faults
 use Rattle.pipe_model.specs.Language.Grammar.{any_expression}
 
--- what is wanted where a full expression is
+-- what is wanted: a full expression
 abbrev full : List machine.Want
 full = machine.FullExpression ∷ []
 
--- the machine runs over the whole window, so its last symbol is too many
+-- if the machine runs over the whole window, the window's last symbol is one too many
 over : (ts : List Symbol) (left : List expression.Want) → 256 < length ts → expression.run (take 257 ts) whole ≡ Some left
     → IsRejected 256 full ts (machine.TooLong (length ts - 257 + 1))
 over ts left l r = record {
@@ -35,7 +35,7 @@ over ts left l r = record {
       ∙ ap machine.TooLong many;
 }
 
--- an expression that takes the whole window
+-- so it is if an expression takes the whole window
 pub window_read : (ts rest : List Symbol) (e : Expression) → 256 < length ts → Reads any_expression (take 257 ts) e rest → length rest ≡ 0
     → IsRejected 256 full ts (machine.TooLong (length ts - 257 + 1))
 window_read ts rest e l r h =
@@ -44,7 +44,7 @@ window_read ts rest e l r h =
     let d = derived_runs t.derived in
     over ts d.left l (ap (λ x. expression.run x whole) same ∙ d.ran)
 
--- a reader that is stuck behind the whole window
+-- or if a reader is stuck at the end of the window
 pub window_stuck : (ts : List Symbol) → 256 < length ts → expression.IsStuck whole (take 257 ts) 0
     → IsRejected 256 full ts (machine.TooLong (length ts - 257 + 1))
 window_stuck ts l s =
@@ -54,18 +54,18 @@ window_stuck ts l s =
     let same : w ≡ m.before = m.split ∙ ap (λ x. m.before ++ x) (nil_from_length m.rest ends.1) ∙ append-nil m.before in
     over ts m.left l (ap (λ x. expression.run x whole) same ∙ m.runs)
 
--- no reader is stuck with more symbols left than there are
+-- a stuck reader has no more symbols left than there are
 pub stuck_within : (ts : List Symbol) (left : ℕ) → expression.IsStuck whole ts left → left ≤ length ts
 stuck_within ts left s =
     let m = stopped ts whole in
     let ends = stuck_may_not_end (expression.may_end m.left) m.rest left (sym m.ends ∙ s.stuck []) in
     omega (arith, ends.1, ap length m.split, length-append m.before m.rest)
 
--- a reader that is stuck, within the bound
+-- a reader that is stuck, in at most 256 symbols
 pub stuck_short : (ts : List Symbol) (left : ℕ) → length ts ≤ 256 → expression.IsStuck whole ts left → IsRejected 256 full ts (machine.Unexpected left)
 stuck_short ts left l s = record { refused = λ below. stuck_full 256 ts left below s (omega (arith, l)) }
 
--- a reader that is stuck in the window
+-- a reader that is stuck before the end of the window
 pub stuck_in_window : (ts : List Symbol) (left : ℕ) → 256 < length ts → 0 < left → expression.IsStuck whole (take 257 ts) left
     → IsRejected 256 full ts (machine.Unexpected (left + (length ts - 257)))
 stuck_in_window ts left l p s =
@@ -75,7 +75,7 @@ stuck_in_window ts left l p s =
     (stuck_more whole (take 257 ts) (drop 257 ts) left p s) in
     record { refused = λ below. stuck_full 256 ts (left + length (drop 257 ts)) below all (omega (arith, length-drop 257 ts, l, p)) ∙ ap machine.Unexpected many }
 
--- an expression that ends in the window
+-- an expression that ends before the end of the window
 pub read_in_window : (ts rest : List Symbol) (e : Expression) → 256 < length ts → Reads any_expression (take 257 ts) e rest → 0 < length rest
     → ReadsFull 256 ts e (drop (257 - length rest) ts)
 read_in_window ts rest e l r p =
@@ -92,7 +92,7 @@ read_in_window ts rest e l r p =
       short = omega (arith, length-drop (257 - length rest) ts, p);
     }
 
--- what the reader of expressions reports of symbols that are short enough is the fault of reading a full expression
+-- in at most 256 symbols, a fault of the reader of expressions is the fault of reading a full expression
 pub stuck_fault : (ts : List Symbol) → length ts ≤ 256 → (f : SyntaxFault) → expression_faults.ExpressionStops whole ts f → SyntaxStops full ts f
 stuck_fault ts l (faults.Unexpected left) s = stuck_short ts left l s
 stuck_fault ts l (faults.TooDeep left) s = s

@@ -1,4 +1,4 @@
--- Readings of limits, cells and programs and the faults of their readers, by what stands at the front.
+-- Readings of limits, cells and programs and the faults of their readers, by the first symbols.
 use Rattle.std.proofs.Common.{◌≡◌, ap, sym, ◌∙◌, subst, ℕ, ℤ, pos, negsuc, List, [], ◌∷◌, ◌++◌, ◌<◌, length, append_assoc, append-nil, refl, arith, Option, Some, None, ◌==◌, false, int_lt}
 use Rattle.std.proofs.Math.IntN.{neg_ℤ, ◌-ℤ◌, +ℤ_idl}
 use Rattle.std.proofs.lemmas.List.{nil_from_length}
@@ -21,7 +21,7 @@ use Rattle.pipe_parser.specs.SymbolFronts.{NoOperator}
 use Rattle.pipe_parser.specs.SyntaxFaults.{SyntaxStops, Refuses}
 use Rattle.pipe_parser.proofs.StatementFronts.{fault_behind, fault_before, passes_test}
 
--- a fault of the first of what has to come behind what was passed
+-- a fault of the first wants after the symbols that were read
 fault_through : (wants others more : List Want) (ts us : List Symbol)
     → ((below : List Want) → judge 256 ts (Outside (wants ++ below)) ≡ judge 256 us (Outside ((others ++ more) ++ below))) → (f : SyntaxFault)
     → SyntaxStops others us f
@@ -29,7 +29,7 @@ fault_through : (wants others more : List Want) (ts us : List Symbol)
 fault_through wants others more ts us h f x = fault_behind wants (others ++ more) ts us h f (fault_before others more us f x)
 
 -- ---- limits
--- a limit, its word first, in front of others
+-- a limit, from its word on, before other symbols
 abbrev limit_before : ℕ → ℤ → ℕ → List Symbol → List Symbol
 limit_before word n sign ts = symbols.Word word ∷ symbols.Number n ∷ symbols.Sign sign ∷ ts
 
@@ -71,7 +71,7 @@ fault_value ts h = fault_behind (Value ∷ []) (AnyNumber ∷ []) ts ts (λ belo
 pub value_read : (n : ℤ) (ts rest : List Symbol) → ts ≡ symbols.Number n ∷ rest → ReadsValue ts n rest
 value_read n ts rest h = rw h (ReadsValueIs n rest)
 
--- a number behind a minus is read as its negative
+-- a number after a minus is read as its negative
 pub minus_read : (n : ℤ) (ts us rest : List Symbol) → ts ≡ symbols.Operator 10 ∷ us → us ≡ symbols.Number n ∷ rest → int_lt n (pos 0) ≡ false
     → ReadsValue ts (pos 0 -ℤ n) rest
 minus_read (pos size) ts us rest h i w =
@@ -86,7 +86,7 @@ pub cell_read : (name : List ℕ) (size : Option ℤ) (value : ℤ) (ts a b c d 
 cell_read name size value ts a b c d rest h s i v j =
     rw h (ReadsCellIs name (subst (λ x. ReadsSize a size x) i s) (subst (λ x. ReadsValue c value x) j v))
 
--- the name and the size of a cell are passed
+-- the machine passes the name and the size of a cell
 passes_name : (name : List ℕ) (size : Option ℤ) (ts a b : List Symbol) → ts ≡ symbols.Name name ∷ a → ReadsSize a size b → (below : List Want)
     → judge 256 ts (Outside (cell ++ below)) ≡ judge 256 b (Outside (Sign 61 ∷ Value ∷ Sign 59 ∷ below))
 passes_name name size ts a b h s below =
@@ -98,20 +98,20 @@ pub fault_equals : (name : List ℕ) (size : Option ℤ) (ts a b : List Symbol) 
     → SyntaxStops cell ts f
 fault_equals name size ts a b h s = fault_through cell (Sign 61 ∷ []) (Value ∷ Sign 59 ∷ []) ts b (λ below. passes_name name size ts a b h s below)
 
--- and so is that sign
+-- the machine passes that sign
 passes_equals : (name : List ℕ) (size : Option ℤ) (ts a b c : List Symbol) → ts ≡ symbols.Name name ∷ a → ReadsSize a size b → b ≡ symbols.Sign 61 ∷ c
     → (below : List Want) → judge 256 ts (Outside (cell ++ below)) ≡ judge 256 c (Outside (Value ∷ Sign 59 ∷ below))
 passes_equals name size ts a b c h s i below =
     passes_name name size ts a b h s below ∙ ap (λ x. judge 256 x (Outside (Sign 61 ∷ Value ∷ Sign 59 ∷ below))) i
 
--- a fault of the sign behind the value
+-- a fault of the sign after the value
 pub fault_cell_end : (name : List ℕ) (size : Option ℤ) (value : ℤ) (ts a b c d : List Symbol) → ts ≡ symbols.Name name ∷ a → ReadsSize a size b
     → b ≡ symbols.Sign 61 ∷ c → ReadsValue c value d → (f : SyntaxFault) → SyntaxStops (Sign 59 ∷ []) d f
     → SyntaxStops cell ts f
 fault_cell_end name size value ts a b c d h s i v =
     fault_behind cell (Sign 59 ∷ []) ts d (λ below. passes_equals name size ts a b c h s i below ∙ passes_value 256 v (Sign 59 ∷ below))
 
--- one more declaration stands behind those that were found
+-- one more declaration is appended to those found so far
 pub one_more_cell : (all rest declared behind : List Symbol) (found : List Declaration) (d : Declaration)
     → ((ds : List Declaration) (end : List Symbol) → ReadsCells rest ds end → ReadsCells all (found ++ ds) end) → rest ≡ symbols.Word 6 ∷ declared
     → ReadsCell declared d behind → (ds : List Declaration) (end : List Symbol) → ReadsCells behind ds end
@@ -120,18 +120,18 @@ one_more_cell all rest declared behind found d f h r ds end rs =
     let more : ReadsCells rest (d ∷ ds) end = rw h (ReadsCellThen r rs) in
     subst (λ x. ReadsCells all x end) (sym (append_assoc found (d ∷ []) ds)) (f (d ∷ ds) end more)
 
--- and is passed
+-- the machine passes it
 pub passes_one_cell : (rest declared behind : List Symbol) (d : Declaration) → rest ≡ symbols.Word 6 ∷ declared → ReadsCell declared d behind
     → (below : List Want) → judge 256 rest (Outside (Cells ∷ below)) ≡ judge 256 behind (Outside (Cells ∷ below))
 passes_one_cell rest declared behind d h r below = ap (λ x. judge 256 x (Outside (Cells ∷ below))) h ∙ passes_cell 256 r (Cells ∷ below)
 
--- where no word of a cell stands, those that were found are all
+-- if the word of a cell does not come, the declarations found so far are all
 pub cells_read : (all rest : List Symbol) (found : List Declaration)
     → ((ds : List Declaration) (end : List Symbol) → ReadsCells rest ds end → ReadsCells all (found ++ ds) end) → NoWord 6 rest
     → ReadsCells all found rest
 cells_read all rest found f h = subst (λ x. ReadsCells all x rest) (append-nil found) (f [] rest (ReadsNoCell rest h))
 
--- a fault of a declaration is one of the declarations
+-- a fault of one declaration is a fault of the declarations
 pub fault_cell : (all rest declared : List Symbol)
     → ((below : List Want) → judge 256 all (Outside (Cells ∷ below)) ≡ judge 256 rest (Outside (Cells ∷ below))) → rest ≡ symbols.Word 6 ∷ declared
     → (f : SyntaxFault) → SyntaxStops cell declared f
@@ -147,7 +147,7 @@ pub fault_loop_body : (e : Expression) (ts behind mid : List Symbol) → ts ≡ 
 fault_loop_body e ts behind mid h t =
     fault_behind loop block ts mid (λ below. ap (λ x. judge 256 x (Outside (loop ++ below))) h ∙ passes_test e behind mid t (block ++ below))
 
--- the loop is passed
+-- the machine passes the loop
 passes_loop : (e : Expression) (ss : Statements) (ts rest : List Symbol) → ReadsLoop ts e ss rest → (below : List Want)
     → judge 256 ts (Outside (loop ++ below)) ≡ judge 256 rest (Outside below)
 passes_loop e ss ts rest l below =
@@ -155,15 +155,15 @@ passes_loop e ss ts rest l below =
 
 -- ---- programs
 
--- what has to come from the loop on
+-- what is wanted from the loop on
 abbrev from_loop : List Want
 from_loop = loop ++ Part 11 ∷ []
 
--- and from the cells on
+-- what is wanted from the cells on
 abbrev from_cells : List Want
 from_cells = Cells ∷ Part 7 ∷ from_loop
 
--- a fault behind what was passed of a program
+-- a fault after the parts of a program that were read
 refuses_behind : (wants below : List Want) (ts us : List Symbol) → judge 256 ts (Outside program) ≡ judge 256 us (Outside (wants ++ below))
     → (f : SyntaxFault) → SyntaxStops wants us f
     → Refuses ts f
@@ -176,7 +176,7 @@ refuses_behind wants below ts us h (faults.TooDeep left) x = x
 pub refuses_limits : (ts : List Symbol) (f : SyntaxFault) → SyntaxStops limits ts f → Refuses ts f
 refuses_limits ts = refuses_behind limits from_cells ts ts refl
 
--- the limits are passed
+-- the machine passes the limits
 behind_limits : (l : Limits) (ts a : List Symbol) → HasLimits ts l a → judge 256 ts (Outside program) ≡ judge 256 a (Outside from_cells)
 behind_limits l ts a h = ap (λ x. judge 256 x (Outside program)) h
 
@@ -184,7 +184,7 @@ behind_limits l ts a h = ap (λ x. judge 256 x (Outside program)) h
 pub refuses_cells : (l : Limits) (ts a : List Symbol) → HasLimits ts l a → (f : SyntaxFault) → SyntaxStops (Cells ∷ []) a f → Refuses ts f
 refuses_cells l ts a h = refuses_behind (Cells ∷ []) (Part 7 ∷ from_loop) ts a (behind_limits l ts a h)
 
--- the declarations are passed
+-- the machine passes the declarations
 behind_cells : (l : Limits) (ds : List Declaration) (ts a b : List Symbol) → HasLimits ts l a → ReadsCells a ds b
     → judge 256 ts (Outside program) ≡ judge 256 b (Outside (Part 7 ∷ from_loop))
 behind_cells l ds ts a b h c = behind_limits l ts a h ∙ passes_cells 256 c (Part 7 ∷ from_loop)
@@ -195,7 +195,7 @@ pub refuses_init : (l : Limits) (ds : List Declaration) (ts a b : List Symbol) �
     → Refuses ts f
 refuses_init l ds ts a b h c = refuses_behind (Part 7 ∷ []) from_loop ts b (behind_cells l ds ts a b h c)
 
--- the first part is passed
+-- the machine passes the first part
 behind_init : (l : Limits) (ds : List Declaration) (init : Statements) (ts a b c : List Symbol) → HasLimits ts l a → ReadsCells a ds b
     → ReadsPart 256 7 b init c → judge 256 ts (Outside program) ≡ judge 256 c (Outside from_loop)
 behind_init l ds init ts a b c h r p = behind_cells l ds ts a b h r ∙ passes_part p from_loop
@@ -206,7 +206,7 @@ pub refuses_loop : (l : Limits) (ds : List Declaration) (init : Statements) (ts 
     → Refuses ts f
 refuses_loop l ds init ts a b c h r p = refuses_behind loop (Part 11 ∷ []) ts c (behind_init l ds init ts a b c h r p)
 
--- the loop of a program is passed
+-- the machine passes the loop of a program
 behind_loop : (l : Limits) (ds : List Declaration) (init body : Statements) (e : Expression) (ts a b c d : List Symbol) → HasLimits ts l a
     → ReadsCells a ds b → ReadsPart 256 7 b init c → ReadsLoop c e body d → judge 256 ts (Outside program) ≡ judge 256 d (Outside (Part 11 ∷ []))
 behind_loop l ds init body e ts a b c d h r p q = behind_init l ds init ts a b c h r p ∙ passes_loop e body c d q (Part 11 ∷ [])
@@ -217,12 +217,12 @@ pub refuses_last : (l : Limits) (ds : List Declaration) (init body : Statements)
     → Refuses ts f
 refuses_last l ds init body e ts a b c d h r p q = refuses_behind (Part 11 ∷ []) [] ts d (behind_loop l ds init body e ts a b c d h r p q)
 
--- where nothing more may come, the first symbol is unexpected
+-- if nothing more may come, the first symbol is unexpected
 left_over : (ts : List Symbol) → 0 < length ts → judge 256 ts (Outside []) ≡ machine.Unexpected (length ts)
 left_over [] h = absurd (omega (arith, h))
 left_over (t ∷ ts) h = refl
 
--- a fault of what stands behind the last part
+-- a fault of the symbols after the last part
 pub refuses_more : (l : Limits) (ds : List Declaration) (init body last : Statements) (e : Expression) (ts a b c d rest : List Symbol) → HasLimits ts l a
     → ReadsCells a ds b → ReadsPart 256 7 b init c → ReadsLoop c e body d → ReadsPart 256 11 d last rest → 0 < length rest
     → judge 256 ts (Outside program) ≡ machine.Unexpected (length rest)

@@ -1,4 +1,4 @@
--- Readings of statements and the faults of their readers, by what stands at the front.
+-- Readings of statements and the faults of their readers, by the first symbols.
 use Rattle.std.proofs.Common.{◌≡◌, ap, sym, ◌∙◌, subst, ℕ, List, [], ◌∷◌, ◌++◌, append_assoc, refl, Option, Some, None}
 use Rattle.pipe_model.specs.declared.tree.StageKind.TheVariants as kinds
 use Rattle.pipe_model.specs.declared.symbol.Symbol.{Symbol}
@@ -18,22 +18,22 @@ use Rattle.pipe_parser.specs.SyntaxFaults.{SyntaxStops}
 
 -- ---- statements one after the other, as the loop of a block reads them
 
--- statements in front of others
+-- these statements, followed by others
 abbrev pub before : List Stmt → Statements → Statements
 before [] ss = ss
 before (s ∷ found) ss = Then (statement_of s) (before found ss)
 
--- one more that was found stands behind the others
+-- one more statement is appended to those found so far
 pub before_one : (found : List Stmt) (s : Stmt) (ss : Statements) → before (found ++ s ∷ []) ss ≡ before found (Then (statement_of s) ss)
 before_one [] s ss = refl
 before_one (t ∷ found) s ss = ap (Then (statement_of t)) (before_one found s ss)
 
--- in front of none they are all
+-- followed by none, they are all
 before_none : (found : List Stmt) → before found Empty ≡ statements_of found
 before_none [] = refl
 before_none (s ∷ found) = ap (Then (statement_of s)) (before_none found)
 
--- at the closing brace the statements that were found are all
+-- at the closing brace the statements found so far are all
 pub block_read : (ts all rest behind : List Symbol) (found : List Stmt) → ts ≡ symbols.Sign 123 ∷ all
     → ((ss : Statements) (end : List Symbol) → ReadsStatements 256 rest ss end → ReadsStatements 256 all (before found ss) end)
     → rest ≡ symbols.Sign 125 ∷ behind
@@ -44,7 +44,7 @@ block_read ts all rest behind found h f e =
 
 -- ---- faults
 
--- a fault behind what was passed is the fault of the whole
+-- a fault after the symbols that were read is the fault of the whole
 pub fault_behind : (wants others : List Want) (ts us : List Symbol)
     → ((below : List Want) → judge 256 ts (Outside (wants ++ below)) ≡ judge 256 us (Outside (others ++ below))) → (f : SyntaxFault) → SyntaxStops others us f
     → SyntaxStops wants ts f
@@ -53,7 +53,7 @@ fault_behind wants others ts us h (faults.TooLong left) x = record { refused = �
 fault_behind wants others ts us h faults.NoMemory x = tt
 fault_behind wants others ts us h (faults.TooDeep left) x = x
 
--- what is refused in front is refused before more that has to come
+-- a fault of the first wants is a fault of those wants followed by more
 pub fault_before : (wants more : List Want) (ts : List Symbol) (f : SyntaxFault) → SyntaxStops wants ts f → SyntaxStops (wants ++ more) ts f
 fault_before wants more ts =
     let same = λ (below : List Want). ap (λ x. judge 256 ts (Outside x)) (append_assoc wants more below) in
@@ -66,12 +66,12 @@ fault_before wants more ts =
     by_cases same faults.NoMemory x = tt
     by_cases same (faults.TooDeep left) x = x
 
--- behind a full expression
+-- a fault after a full expression
 pub fault_full : (others : List Want) (e : Expression) (ts mid : List Symbol) → ReadsFull 256 ts e mid → (f : SyntaxFault) → SyntaxStops others mid f
     → SyntaxStops (FullExpression ∷ others) ts f
 fault_full others e ts mid r = fault_behind (FullExpression ∷ others) others ts mid (λ below. passes_full r (others ++ below))
 
--- a fault of the sign behind an index
+-- a fault of the sign after an index
 pub fault_index : (index : Expression) (ts mid : List Symbol) → ReadsFull 256 ts index (symbols.Sign 93 ∷ mid) → (f : SyntaxFault) → SyntaxStops (Sign 61 ∷ []) mid f
     → SyntaxStops element ts f
 fault_index index ts mid r f x =
@@ -96,7 +96,7 @@ fault_number ts inside h n f x =
     (λ below. ap (λ y. judge 256 y (Outside (stage ++ below))) h ∙ stage_number 256 inside (Sign 59 ∷ below) n) f
     (fault_before (FullExpression ∷ Sign 41 ∷ []) (Sign 59 ∷ []) inside f x)
 
--- a fault of what stands behind it
+-- a fault of the sign after a stage number
 pub fault_behind_number : (e : Expression) (ts inside mid : List Symbol) → ts ≡ symbols.Sign 40 ∷ inside → ReadsFull 256 inside e (symbols.Sign 41 ∷ mid)
     → (f : SyntaxFault) → SyntaxStops (Sign 59 ∷ []) mid f
     → SyntaxStops stage ts f
@@ -104,7 +104,7 @@ fault_behind_number e ts inside mid h r =
     fault_behind stage (Sign 59 ∷ []) ts mid
     (λ below. ap (λ y. judge 256 y (Outside (stage ++ below))) h ∙ passes_stage_number r (Sign 59 ∷ below))
 
--- a test is passed
+-- the machine passes a test
 pub passes_test : (e : Expression) (ts mid : List Symbol) → ReadsTest ts e mid → (below : List Want)
     → judge 256 ts (Outside (Sign 40 ∷ FullExpression ∷ Sign 41 ∷ below)) ≡ judge 256 mid (Outside below)
 passes_test e ts mid t below =
@@ -118,7 +118,7 @@ fault_body e ts mid t = fault_behind repetition block ts mid (λ below. passes_t
 pub fault_then : (e : Expression) (ts mid : List Symbol) → ReadsTest ts e mid → (f : SyntaxFault) → SyntaxStops block mid f → SyntaxStops choice ts f
 fault_then e ts mid t f x = fault_before repetition (Part 14 ∷ []) ts f (fault_body e ts mid t f x)
 
--- a fault of its `else`
+-- a fault of the `else` of an `if`
 pub fault_else : (e : Expression) (a : Statements) (ts mid behind : List Symbol) → ReadsTest ts e mid → ReadsBlock 256 mid a behind → (f : SyntaxFault)
     → SyntaxStops (Part 14 ∷ []) behind f
     → SyntaxStops choice ts f
@@ -151,13 +151,13 @@ pub emit_read : (e : Expression) (ts rest : List Symbol) → ReadsFull 256 ts e 
     → ReadsStatement 256 (symbols.Word 16 ∷ ts) (Emit e) rest
 emit_read e ts rest r = ReadsEmit r
 
--- a wait, with a stage number or without
+-- a wait, with or without a stage number
 pub wait_read : (number : Option Expr) (ts us rest : List Symbol) → us ≡ symbols.Word 9 ∷ ts → ReadsStage ts number rest
     → ReadsStatement 256 us (stage_statement kinds.Wait number) rest
 wait_read None ts us rest h s = rw (h, s) (ReadsWaitNext rest)
 wait_read (Some e) ts us rest h s = rw (h, s.opens) (ReadsWait s.reads)
 
--- a continue, with a stage number or without
+-- a continue, with or without a stage number
 pub continue_read : (number : Option Expr) (ts us rest : List Symbol) → us ≡ symbols.Word 10 ∷ ts → ReadsStage ts number rest
     → ReadsStatement 256 us (stage_statement kinds.Continue number) rest
 continue_read None ts us rest h s = rw (h, s) (ReadsContinueNext rest)
@@ -174,7 +174,7 @@ pub if_read : (e : Expression) (a b : Statements) (ts mid behind rest : List Sym
     → ReadsStatement 256 (symbols.Word 13 ∷ ts) (If e a b) rest
 if_read e a b ts mid behind rest t c p = rw t.opens (ReadsIf t.reads c p)
 
--- a part that is there
+-- a part that is present
 pub part_read : (word : ℕ) (ss : Statements) (ts behind rest : List Symbol) → ts ≡ symbols.Word word ∷ behind → ReadsBlock 256 behind ss rest
     → ReadsPart 256 word ts ss rest
 part_read word ss ts behind rest h b = rw h (ReadsPartIs b)

@@ -4,7 +4,7 @@ use Rattle.pipe_model.specs.declared.bounds.TheConstants.{MOST_OPEN_BRACKETS}
 use Rattle.pipe_model.specs.declared.symbol.Symbol.{Symbol}
 use Rattle.pipe_model.specs.Language.Spelling.{IsShallow, open_brackets}
 
--- the first symbol with which too many brackets are open is the last of so many
+-- symbol number k, from 1, is the first with which too many brackets are open
 pub record OpensTooMany (ts : List Symbol) (k : ℕ) : Type 0 where
   pub before : List Symbol
   pub t : Symbol

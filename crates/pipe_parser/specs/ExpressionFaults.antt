@@ -1,4 +1,4 @@
--- What the readers of expressions say of symbols.
+-- The faults of the readers of expressions.
 use Rattle.std.specs.Prelude.{◌≡◌, ℕ, List, [], ◌∷◌}
 use Rattle.pipe_model.specs.declared.symbol.Symbol.{Symbol}
 use Rattle.grammar_laws.specs.ExpressionMachine.{Want, Sign, Operand, Tail, IsStuck}
@@ -8,14 +8,14 @@ use Rattle.pipe_parser.specs.declared.fault.SyntaxFault.{SyntaxFault}
 use Rattle.pipe_parser.specs.declared.fault.SyntaxFault.TheVariants as faults
 use Rattle.pipe_model.specs.Language.Grammar.{operand_level}
 
--- the fault of reading what is wanted from the symbols; the bounds on brackets and full expressions are not this reader's
+-- the fault of reading what is wanted from the symbols; this reader does not bound open brackets or full expressions
 abbrev pub ExpressionStops : List Want → List Symbol → SyntaxFault → Type 0
 ExpressionStops wants ts (faults.Unexpected left) = IsStuck wants ts left
 ExpressionStops wants ts (faults.TooDeep left) = ⊥
 ExpressionStops wants ts (faults.TooLong left) = ⊥
 ExpressionStops wants ts faults.NoMemory = Unit {0}
 
--- what an expression is, and what may go on behind one
+-- an expression: an operand, and what may follow it
 abbrev pub whole : List Want
 whole = Operand ∷ Tail ∷ []
 
@@ -23,7 +23,7 @@ whole = Operand ∷ Tail ∷ []
 abbrev pub closed : ℕ → List Want
 closed sign = Operand ∷ Tail ∷ Sign sign ∷ []
 
--- an operand behind a one-place operator
+-- an operand after a one-place operator
 pub record ReadsUnary (code : ℕ) (ts : List Symbol) (e : Expression) (rest : List Symbol) : Type 0 where
   pub inner : Expression
   pub reads : Reads operand_level ts inner rest

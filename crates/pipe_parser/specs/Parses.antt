@@ -1,4 +1,4 @@
--- What the parser says of the tokens of a source.
+-- The faults that the parser returns for the tokens of a source.
 use Rattle.std.specs.Prelude.{◌≡◌, ◌-◌, ℕ, List, length}
 use Rattle.pipe_model.specs.declared.symbol.Symbol.{Symbol}
 use Rattle.pipe_model.specs.declared.token.Token.{Token}
@@ -9,7 +9,7 @@ use Rattle.pipe_parser.specs.declared.parse.ParseFault.TheVariants as faults
 use Rattle.pipe_parser.specs.declared.fault.SyntaxFault.{SyntaxFault}
 use Rattle.pipe_parser.specs.declared.fault.SyntaxFault.TheVariants as syntax
 
--- the first symbol that breaks a rule is the one that the fault counts from the end
+-- the first symbol that breaks a rule; the fault has the number of symbols from it to the end
 abbrev pub BreaksFirst : List Symbol → SyntaxFault → Type 0
 BreaksFirst ts (syntax.Unexpected left) = FirstFault ts Unexpected (length ts - left)
 BreaksFirst ts (syntax.TooDeep left) = FirstFault ts TooDeep (length ts - left)
@@ -23,7 +23,7 @@ IsPlaced source tokens all (syntax.TooDeep left) fault = fault ≡ faults.TooDee
 IsPlaced source tokens all (syntax.TooLong left) fault = fault ≡ faults.TooLong (fault_place source tokens (all - left))
 IsPlaced source tokens all syntax.NoMemory fault = fault ≡ faults.NoMemory
 
--- the fault of the tokens of a source; want of memory says nothing of them
+-- the fault of the tokens of a source; `NoMemory` says nothing about them
 abbrev pub IsFault : List ℕ → List Token → ParseFault → Type 0
 IsFault source tokens (faults.Unexpected place) = BreaksAt source tokens Unexpected place
 IsFault source tokens (faults.TooDeep place) = BreaksAt source tokens TooDeep place

@@ -1,4 +1,4 @@
--- What the readers of statements and programs say of symbols.
+-- The faults of the readers of statements and programs.
 use Rattle.std.specs.Prelude.{◌≡◌, List}
 use Rattle.pipe_model.specs.declared.bounds.TheConstants.{LONGEST_EXPRESSION}
 use Rattle.pipe_model.specs.declared.symbol.Symbol.{Symbol}

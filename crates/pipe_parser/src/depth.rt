@@ -1,4 +1,4 @@
-//! How many brackets are open.
+//! The number of open brackets.
 
 ghost use Rattle.std.specs.Prelude.{◌≡◌, IfNone, IfSome, List, cond, ℕ};
 ghost use Rattle.pipe_model.specs.Language.Tokens.{symbol_as};
@@ -9,7 +9,6 @@ use crate::symbols::Symbols;
 use pipe_model::bounds::MOST_OPEN_BRACKETS;
 use pipe_model::token::TokenKind;
 
-/// Whether this is `(`, `[` or `{`.
 fn is_opening_bracket(kind: TokenKind) -> bool
     ensures { (text : List ℕ) → result ≡ is_opening_bracket (symbol_as kind text) }
 {
@@ -19,7 +18,6 @@ fn is_opening_bracket(kind: TokenKind) -> bool
     }
 }
 
-/// Whether this is `)`, `]` or `}`.
 fn is_closing_bracket(kind: TokenKind) -> bool
     ensures { (text : List ℕ) → result ≡ is_closing_bracket (symbol_as kind text) }
 {
@@ -29,15 +27,14 @@ fn is_closing_bracket(kind: TokenKind) -> bool
     }
 }
 
-/// One where it is so, and else none.
 fn one_where(is_so: bool) -> usize
     ensures { result ≡ cond is_so 1 0 }
 {
     if is_so { 1 } else { 0 }
 }
 
-/// How many symbols there are up to the first with which too many brackets are open, this one counted in; `None` where
-/// there is none.
+/// Returns the number of symbols up to and including the first with which more than 64 brackets are
+/// open; `None` if there is none.
 pub fn first_too_deep(symbols: &Symbols) -> Option<usize>
     ensures some { IfSome result (λ k. OpensTooMany symbols.now k) }
     ensures none { IfNone result (IsShallow symbols.now) }

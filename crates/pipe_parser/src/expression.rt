@@ -21,7 +21,7 @@ use pipe_model::tree::Expr;
 use pipe_model::word_codes::{ITER, MORE, TAKE};
 use std::alloc::{AllocError, Global};
 
-/// What a reader takes from the front of symbols, and what it leaves.
+/// The result of a reader: what it read, and the symbols after it.
 pub type Read<'a, T> = Result<(T, Symbols<'a>), SyntaxFault>;
 
 macro_rules! level_by_code {
@@ -33,14 +33,14 @@ macro_rules! level_by_code {
     };
 }
 
-/// The level of the two-place operator of a code, from 1 to 6; 0 where no operator has the code.
+// The level of the two-place operator with this code, from 1 to 6; 0 if no operator has the code.
 fn level_of(code: u8) -> u8
     ensures { result ≡ level_of code }
 {
     op_table::operators!(level_by_code, code)
 }
 
-/// An operator of the level at the front, and the symbols after it.
+// The first symbol, if it is an operator of the level, and the symbols after it.
 fn operator_of_level<'a>(symbols: &Symbols<'a>, level: u8) -> Option<(u8, Symbols<'a>)>
     requires { 0 < level }
     ensures some { IfSome result (λ r. (symbols.now ≡ terminals.Operator r.0 ∷ r.1) × (level_of r.0 ≡ level)) }
@@ -59,14 +59,13 @@ fn operator_of_level<'a>(symbols: &Symbols<'a>, level: u8) -> Option<(u8, Symbol
     }
 }
 
-/// An expression in a box.
 fn boxed(alloc: Global, e: Expr) -> Result<Box<Expr>, AllocError>
     ensures { IfOk result (λ inner. inner.value ≡ e) }
 {
     Ok(Box::new(alloc, e)?)
 }
 
-/// Returns the symbols after a sign that has to come.
+/// Returns the symbols after `sign`. Returns an error if `sign` does not come first.
 pub fn expect_sign<'a>(symbols: &Symbols<'a>, sign: u8) -> Result<Symbols<'a>, SyntaxFault>
     ensures ok { IfOk result (λ behind. symbols.now ≡ terminals.Sign sign ∷ behind) }
     ensures stuck { IfErr result (λ fault. ExpressionStops (Sign sign ∷ []) symbols.now fault) }
@@ -78,7 +77,7 @@ pub fn expect_sign<'a>(symbols: &Symbols<'a>, sign: u8) -> Result<Symbols<'a>, S
     }
 }
 
-/// Reads the brackets of a call behind its word.
+// Reads the brackets of a call, after its word.
 fn read_call<'a>(e: Expr, symbols: &Symbols<'a>) -> Read<'a, Expr>
     ensures ok { IfOk result (λ r. (symbols.now ≡ terminals.Sign signs.OPEN_ROUND ∷ terminals.Sign signs.CLOSE_ROUND ∷ r.1) × (r.0 ≡ e)) }
     ensures err { IfErr result (λ fault. ExpressionStops (Sign signs.OPEN_ROUND ∷ Sign signs.CLOSE_ROUND ∷ []) symbols.now fault) }
@@ -88,7 +87,6 @@ fn read_call<'a>(e: Expr, symbols: &Symbols<'a>) -> Read<'a, Expr>
     Ok((e, rest))
 }
 
-/// Reads an operand.
 #[cycle(expression)]
 fn read_operand<'a>(alloc: Global, symbols: &Symbols<'a>) -> Read<'a, Expr>
     ensures ok { IfOk result (λ r. Reads operand_level symbols.now (expression_of r.0) r.1) }
@@ -111,7 +109,7 @@ fn read_operand<'a>(alloc: Global, symbols: &Symbols<'a>) -> Read<'a, Expr>
     }
 }
 
-/// Reads an expression and the sign that closes it.
+// Reads an expression and the sign that closes it.
 #[cycle(expression)]
 fn read_closed<'a>(alloc: Global, sign: u8, symbols: &Symbols<'a>) -> Read<'a, Expr>
     ensures ok { IfOk result (λ r. Reads any_expression symbols.now (expression_of r.0) (terminals.Sign sign ∷ r.1)) }
@@ -123,7 +121,7 @@ fn read_closed<'a>(alloc: Global, sign: u8, symbols: &Symbols<'a>) -> Read<'a, E
     Ok((e, rest))
 }
 
-/// Goes on behind a name: an index may follow.
+// Reads what follows a name: an index or nothing.
 #[cycle(expression)]
 fn read_named<'a>(alloc: Global, name: &[u8], symbols: Symbols<'a>) -> Read<'a, Expr>
     ensures ok { IfOk result (λ r. Reads operand_level (terminals.Name name.now ∷ symbols.entry) (expression_of r.0) r.1) }
@@ -140,7 +138,7 @@ fn read_named<'a>(alloc: Global, name: &[u8], symbols: Symbols<'a>) -> Read<'a, 
     }
 }
 
-/// Reads an operand behind a one-place operator.
+// Reads the operand of a one-place operator, after the operator.
 #[cycle(expression)]
 fn read_unary<'a>(alloc: Global, code: u8, symbols: &Symbols<'a>) -> Read<'a, Expr>
     ensures ok { IfOk result (λ r. ReadsUnary code symbols.now (expression_of r.0) r.1) }
@@ -151,7 +149,8 @@ fn read_unary<'a>(alloc: Global, code: u8, symbols: &Symbols<'a>) -> Read<'a, Ex
     Ok((Expr::Unary(code, boxed(alloc, e)?), rest))
 }
 
-/// Reads an expression of the level.
+/// Reads an expression of the level. Returns an error if a symbol may not come there, if the
+/// symbols end too early, or if memory runs out.
 #[cycle(expression)]
 pub fn read_expression<'a>(alloc: Global, level: u8, symbols: &Symbols<'a>) -> Read<'a, Expr>
     requires from { any_expression ≤ level }
@@ -167,7 +166,7 @@ pub fn read_expression<'a>(alloc: Global, level: u8, symbols: &Symbols<'a>) -> R
     extend(alloc, level, first, rest)
 }
 
-/// Reads the first operand of an expression.
+// Reads the first operand of an expression; its fault is a fault of the expression.
 #[cycle(expression)]
 fn first_operand<'a>(alloc: Global, symbols: &Symbols<'a>) -> Read<'a, Expr>
     ensures ok { IfOk result (λ r. Reads operand_level symbols.now (expression_of r.0) r.1) }
@@ -178,7 +177,7 @@ fn first_operand<'a>(alloc: Global, symbols: &Symbols<'a>) -> Read<'a, Expr>
     Ok((e, rest))
 }
 
-/// Extends an expression by the operators of the level that follow, each with its right side.
+// Extends an expression by the operators of the level that follow, each with its right side.
 #[cycle(expression)]
 fn extend<'a>(alloc: Global, level: u8, first: Expr, symbols: Symbols<'a>) -> Read<'a, Expr>
     requires from { any_expression ≤ level }

@@ -5,14 +5,15 @@ ghost use Rattle.pipe_parser.specs.declared.fault.SyntaxFault.TheVariants as fau
 
 use std::alloc::AllocError;
 
-/// Why symbols are no program, with the number of symbols that are left from the first that breaks a rule on.
+/// Why symbols are no program, with the number of symbols from the first that breaks a rule to the
+/// end.
 #[derive(Clone, Copy, PartialEq, Eq, Debug)]
 pub enum SyntaxFault {
-    /// The symbol may not come there; with 0 left the symbols end too early.
+    /// The symbol may not come there; 0 means that the symbols end too early.
     Unexpected(usize),
-    /// With the symbol too many brackets are open.
+    /// With the symbol more than 64 brackets are open.
     TooDeep(usize),
-    /// The symbol is the first that a full expression has too many.
+    /// The symbol is number 257 of a full expression.
     TooLong(usize),
     /// Out of memory. Any reader that allocates may return it.
     NoMemory,

@@ -7,7 +7,7 @@ ghost use Rattle.grammar_laws.specs.Reading.{ReadsFull};
 ghost use Rattle.pipe_model.specs.declared.bounds.TheConstants as bounds;
 ghost use Rattle.pipe_parser.specs.SyntaxFaults.{SyntaxStops};
 
-use crate::expression::read_expression;
+use crate::expression::{Read, read_expression};
 use crate::fault::SyntaxFault;
 use crate::symbols::Symbols;
 use pipe_model::bounds::LONGEST_EXPRESSION;
@@ -15,12 +15,10 @@ use pipe_model::levels::ANY_EXPRESSION;
 use pipe_model::tree::Expr;
 use std::alloc::Global;
 
-/// What a reader takes from the front of symbols, and what it leaves.
-pub type Parsed<'a, T> = Result<(T, Symbols<'a>), SyntaxFault>;
-
-/// Reads a full expression. It looks at one symbol more than such an expression may have, so it goes no deeper than
-/// that, however long the source is.
-pub fn read_full<'a>(alloc: Global, symbols: &Symbols<'a>) -> Parsed<'a, Expr>
+/// Reads a full expression. It looks at no more than 257 symbols, one more than such an expression
+/// may have, so its recursion goes no deeper than that, however long the source is. Returns an
+/// error if a symbol breaks a rule, if the symbols end too early, or if memory runs out.
+pub fn read_full<'a>(alloc: Global, symbols: &Symbols<'a>) -> Read<'a, Expr>
     ensures ok { IfOk result (λ r. ReadsFull bounds.LONGEST_EXPRESSION symbols.now (expression_of r.0) r.1) }
     ensures err { IfErr result (λ fault. SyntaxStops (machine.FullExpression ∷ []) symbols.now fault) }
     ensures shorter { IfOk result (λ r. length r.1 < length symbols.now) }
@@ -32,8 +30,8 @@ pub fn read_full<'a>(alloc: Global, symbols: &Symbols<'a>) -> Parsed<'a, Expr>
     Ok((e, rest))
 }
 
-/// Reads a full expression from symbols that are more than it may have.
-fn read_in_window<'a>(alloc: Global, symbols: &Symbols<'a>) -> Parsed<'a, Expr>
+// Reads a full expression from more symbols than it may have.
+fn read_in_window<'a>(alloc: Global, symbols: &Symbols<'a>) -> Read<'a, Expr>
     requires { bounds.LONGEST_EXPRESSION < length symbols.now }
     ensures ok { IfOk result (λ r. ReadsFull bounds.LONGEST_EXPRESSION symbols.now (expression_of r.0) r.1) }
     ensures err { IfErr result (λ fault. SyntaxStops (machine.FullExpression ∷ []) symbols.now fault) }

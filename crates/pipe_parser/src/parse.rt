@@ -21,28 +21,30 @@ use pipe_model::word_codes::{ITER, PIPE_CONTINUE, PIPE_WAIT};
 use std::alloc::{AllocError, Global};
 use thiserror::Error;
 
-/// A program and the places of its marks, in bytes from 0, in the order of the text. A mark is a token that is a name
-/// or one of the words `iter`, `pipe_wait` and `pipe_continue`.
+/// A program and the offsets of its marks, in bytes from 0, in the order of the text. A mark is a
+/// token that is a name or one of the words `iter`, `pipe_wait` and `pipe_continue`.
 #[derive(Drop)]
 pub struct Parsed {
     pub program: Program,
     pub places: Numbers,
 }
 
-/// Why tokens are no program. The first token that breaks a rule counts; at one token the rules count in this order.
+/// Why tokens are no program. The first token that breaks a rule counts; if it breaks several, the
+/// first of them in this order counts.
 #[derive(Clone, Copy, PartialEq, Eq, Debug, Error)]
 pub enum ParseFault {
-    /// The token at this place may not come there; or the source, which has so many bytes, ends too early.
-    #[error("what stands at byte {0} is unexpected")]
+    /// The token at this offset may not come there; or the source, which has this length, ends too
+    /// early.
+    #[error("unexpected symbol at byte {0}")]
     Unexpected(u32),
-    /// With the token at this place more than 64 brackets are open.
+    /// With the token at this offset more than 64 brackets are open.
     #[error("the bracket at byte {0} is too deep")]
     TooDeep(u32),
-    /// The token at this place is number 257 of an expression that is no part of another.
+    /// The token at this offset is number 257 of an expression that is no part of another.
     #[error("the expression is too long at byte {0}")]
     TooLong(u32),
-    /// Memory was refused.
-    #[error("memory was refused")]
+    /// Out of memory.
+    #[error("out of memory")]
     NoMemory,
 }
 
@@ -54,7 +56,7 @@ impl From<AllocError> for ParseFault {
     }
 }
 
-/// Reads the program of symbols that never open too many brackets.
+// Reads the program of symbols that never open too many brackets.
 fn read_shallow(alloc: Global, symbols: &Symbols) -> Result<Program, SyntaxFault>
     requires { IsShallow symbols.now }
     ensures ok { IfOk result (λ program. Spells symbols.now (tree_of program)) }
@@ -63,7 +65,8 @@ fn read_shallow(alloc: Global, symbols: &Symbols) -> Result<Program, SyntaxFault
     read_program(alloc, symbols)
 }
 
-/// Returns the first fault of symbols of which number `count` opens a bracket too many. No later symbol is read.
+// Returns the first fault of symbols of which number `count` opens a bracket too many. Reads no
+// later symbol.
 fn fault_up_to(alloc: Global, symbols: &Symbols, count: usize) -> SyntaxFault
     requires { OpensTooMany symbols.now count }
     ensures { BreaksFirst symbols.now result }
@@ -82,7 +85,7 @@ fn fault_up_to(alloc: Global, symbols: &Symbols, count: usize) -> SyntaxFault
     }
 }
 
-/// Reads the program of symbols.
+// Reads the program of the symbols, with the bound on open brackets.
 fn read_bounded(alloc: Global, symbols: &Symbols) -> Result<Program, SyntaxFault>
     ensures ok { IfOk result (λ program. Spells symbols.now (tree_of program)) }
     ensures err { IfErr result (λ fault. BreaksFirst symbols.now fault) }
@@ -93,7 +96,8 @@ fn read_bounded(alloc: Global, symbols: &Symbols) -> Result<Program, SyntaxFault
     }
 }
 
-/// The place of a token, in bytes; behind the last token the length of the source.
+// The offset of the token at index `before`, in bytes; after the last token, the length of the
+// source.
 fn place_at(source: &[u8], tokens: &[Token], before: usize) -> u32
     requires { length source.now < 4294967296 }
     ensures { result ≡ fault_place source.now tokens.now before }
@@ -104,7 +108,7 @@ fn place_at(source: &[u8], tokens: &[Token], before: usize) -> u32
     }
 }
 
-/// Places a fault of the symbols, of which there are `all`, in the source.
+// The fault with its offset in the source; `all` is the number of symbols.
 fn placed(source: &[u8], tokens: &[Token], all: usize, fault: SyntaxFault) -> ParseFault
     requires { length source.now < 4294967296 }
     ensures { IsPlaced source.now tokens.now all fault result }
@@ -123,7 +127,6 @@ fn placed(source: &[u8], tokens: &[Token], all: usize, fault: SyntaxFault) -> Pa
     }
 }
 
-/// Whether a token of this kind is a mark.
 fn is_mark(kind: TokenKind) -> bool
     ensures { result ≡ is_mark kind }
 {
@@ -133,7 +136,6 @@ fn is_mark(kind: TokenKind) -> bool
     )
 }
 
-/// The places of the marks.
 fn places_of_marks(alloc: Global, tokens: &[Token]) -> Result<Numbers, ParseFault>
     ensures ok { IfOk result (λ places. places ≡ mark_places tokens.now) }
     ensures err { IfErr result (λ fault. fault ≡ faults.NoMemory) }
@@ -149,9 +151,10 @@ fn places_of_marks(alloc: Global, tokens: &[Token]) -> Result<Numbers, ParseFaul
     Ok(places)
 }
 
-/// Parses the tokens of a source. The program is the one that they spell; otherwise the fault is that of the first token
-/// that breaks a rule, with its place in bytes, or with the source's length where the source ends too early.
-/// `NoMemory` is the answer where memory was refused, whatever the tokens.
+/// Parses the tokens of a source. On `Ok`, the program is the one that they spell. Otherwise the
+/// fault is that of the first token that breaks a rule, with its offset in bytes, or with the
+/// source's length if the source ends too early. `NoMemory` is returned if memory runs out,
+/// whatever the tokens.
 pub fn parse(alloc: Global, source: &[u8], tokens: &Tokens) -> Result<Parsed, ParseFault>
     requires lexed { IsLexed source.now tokens.now }
     ensures program { IfOk result (λ parsed. Spells (symbols_in source.now tokens.now) (tree_of parsed.program)) }

@@ -9,9 +9,8 @@ ghost use Rattle.pipe_model.specs.declared.bounds.TheConstants as bounds;
 ghost use Rattle.pipe_parser.specs.ProgramReadings.{limit, limits, cell, loop, HasLimits, ReadsLoop};
 ghost use Rattle.pipe_parser.specs.SyntaxFaults.{SyntaxStops, Refuses};
 
-use crate::expression::expect_sign;
+use crate::expression::{Read, expect_sign};
 use crate::fault::SyntaxFault;
-use crate::full_expression::Parsed;
 use crate::statement::{read_block, read_part, read_test};
 use crate::symbols::Symbols;
 use pipe_model::name::Name;
@@ -22,7 +21,7 @@ use pipe_model::word_codes::{
 };
 use std::alloc::{AllocError, Global};
 
-/// What stands behind a word that has to come.
+// Returns the symbols after a word that has to come first.
 fn expect_word<'a>(symbols: &Symbols<'a>, word: u8) -> Result<Symbols<'a>, SyntaxFault>
     ensures ok { IfOk result (λ behind. symbols.now ≡ terminals.Word word ∷ behind) }
     ensures err { IfErr result (λ fault. SyntaxStops (Word word ∷ []) symbols.now fault) }
@@ -33,8 +32,8 @@ fn expect_word<'a>(symbols: &Symbols<'a>, word: u8) -> Result<Symbols<'a>, Synta
     }
 }
 
-/// A number that has to come, and what stands behind it.
-fn expect_number<'a>(symbols: &Symbols<'a>) -> Parsed<'a, i64>
+// Returns the number that has to come first, and the symbols after it.
+fn expect_number<'a>(symbols: &Symbols<'a>) -> Read<'a, i64>
     ensures ok { IfOk result (λ r. symbols.now ≡ terminals.Number r.0 ∷ r.1) }
     ensures err { IfErr result (λ fault. SyntaxStops (AnyNumber ∷ []) symbols.now fault) }
 {
@@ -44,8 +43,8 @@ fn expect_number<'a>(symbols: &Symbols<'a>) -> Parsed<'a, i64>
     }
 }
 
-/// Reads a limit: its word, a number, and the sign behind it.
-fn read_limit<'a>(symbols: &Symbols<'a>, word: u8, sign: u8) -> Parsed<'a, i64>
+// Reads a limit: its word, a number, and the sign after it.
+fn read_limit<'a>(symbols: &Symbols<'a>, word: u8, sign: u8) -> Read<'a, i64>
     ensures ok { IfOk result (λ r. symbols.now ≡ terminals.Word word ∷ terminals.Number r.0 ∷ terminals.Sign sign ∷ r.1) }
     ensures err { IfErr result (λ fault. SyntaxStops (limit word sign) symbols.now fault) }
 {
@@ -55,8 +54,8 @@ fn read_limit<'a>(symbols: &Symbols<'a>, word: u8, sign: u8) -> Parsed<'a, i64>
     Ok((number, rest))
 }
 
-/// Reads the line of limits.
-fn read_limits<'a>(symbols: &Symbols<'a>) -> Parsed<'a, Limits>
+// Reads the line of limits.
+fn read_limits<'a>(symbols: &Symbols<'a>) -> Read<'a, Limits>
     ensures ok { IfOk result (λ r. HasLimits symbols.now r.0 r.1) }
     ensures err { IfErr result (λ fault. SyntaxStops limits symbols.now fault) }
 {
@@ -76,8 +75,8 @@ fn read_limits<'a>(symbols: &Symbols<'a>) -> Parsed<'a, Limits>
     ))
 }
 
-/// Reads the size of an array, which may be missing.
-fn read_size<'a>(symbols: Symbols<'a>) -> Parsed<'a, Option<i64>>
+// Reads the size of an array, which may be missing.
+fn read_size<'a>(symbols: Symbols<'a>) -> Read<'a, Option<i64>>
     ensures ok { IfOk result (λ r. ReadsSize symbols.entry r.0 r.1) }
     ensures err { IfErr result (λ fault. SyntaxStops (Size ∷ []) symbols.entry fault) }
 {
@@ -89,8 +88,8 @@ fn read_size<'a>(symbols: Symbols<'a>) -> Parsed<'a, Option<i64>>
     Ok((Some(size), rest))
 }
 
-/// Reads a declared value: a number, which may have a `-` before it.
-fn read_value<'a>(symbols: &Symbols<'a>) -> Parsed<'a, i64>
+// Reads a declared value: a number, which may have a `-` before it.
+fn read_value<'a>(symbols: &Symbols<'a>) -> Read<'a, i64>
     ensures ok { IfOk result (λ r. ReadsValue symbols.now r.0 r.1) }
     ensures err { IfErr result (λ fault. SyntaxStops (Value ∷ []) symbols.now fault) }
 {
@@ -106,8 +105,8 @@ fn read_value<'a>(symbols: &Symbols<'a>) -> Parsed<'a, i64>
     Ok((-size, rest))
 }
 
-/// Reads the declaration of a cell, behind its word.
-fn read_cell<'a>(alloc: Global, symbols: &Symbols<'a>) -> Parsed<'a, Declaration>
+// Reads the declaration of a cell, after its word.
+fn read_cell<'a>(alloc: Global, symbols: &Symbols<'a>) -> Read<'a, Declaration>
     ensures ok { IfOk result (λ r. ReadsCell symbols.now r.0 r.1) }
     ensures err { IfErr result (λ fault. SyntaxStops cell symbols.now fault) }
     ensures shorter { IfOk result (λ r. length r.1 < length symbols.now) }
@@ -123,8 +122,8 @@ fn read_cell<'a>(alloc: Global, symbols: &Symbols<'a>) -> Parsed<'a, Declaration
     Ok((Declaration { name, size, value }, rest))
 }
 
-/// Reads declarations, as long as their word stands at the front.
-fn read_cells<'a>(alloc: Global, symbols: Symbols<'a>) -> Parsed<'a, Declarations>
+// Reads declarations, as long as their word comes first.
+fn read_cells<'a>(alloc: Global, symbols: Symbols<'a>) -> Read<'a, Declarations>
     ensures ok { IfOk result (λ r. ReadsCells symbols.entry r.0 r.1) }
     ensures err { IfErr result (λ fault. SyntaxStops (Cells ∷ []) symbols.entry fault) }
 {
@@ -138,7 +137,7 @@ fn read_cells<'a>(alloc: Global, symbols: Symbols<'a>) -> Parsed<'a, Declaration
     Ok((cells, rest))
 }
 
-/// Reads the loop: its word, its test and its body.
+// Reads the loop: its word, its test and its body.
 fn read_loop<'a>(
     alloc: Global,
     symbols: &Symbols<'a>,
@@ -152,7 +151,8 @@ fn read_loop<'a>(
     Ok((test, body, rest))
 }
 
-/// Reads the program that all of the symbols derive.
+/// Reads a program from all of the symbols, without a bound on open brackets. Returns an error if
+/// a symbol breaks a rule, if the symbols end too early, or if memory runs out.
 pub fn read_program(alloc: Global, symbols: &Symbols) -> Result<Program, SyntaxFault>
     ensures ok { IfOk result (λ program. ReadsProgram bounds.LONGEST_EXPRESSION symbols.now (tree_of program)) }
     ensures err { IfErr result (λ fault. Refuses symbols.now fault) }

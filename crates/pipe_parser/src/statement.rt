@@ -12,9 +12,9 @@ ghost use Rattle.pipe_model.specs.declared.bounds.TheConstants as bounds;
 ghost use Rattle.pipe_parser.specs.StatementReadings.{test, binding, element, stage, block, repetition, choice, ReadsTest, ReadsStage};
 ghost use Rattle.pipe_parser.specs.SyntaxFaults.{SyntaxStops};
 
-use crate::expression::expect_sign;
+use crate::expression::{Read, expect_sign};
 use crate::fault::SyntaxFault;
-use crate::full_expression::{Parsed, read_full};
+use crate::full_expression::read_full;
 use crate::symbols::Symbols;
 use pipe_model::name::Name;
 use pipe_model::token::TokenKind;
@@ -22,8 +22,8 @@ use pipe_model::tree::{Block, Expr, Stmt};
 use pipe_model::word_codes::{ELSE, EMIT, IF, LET, PIPE_CONTINUE, PIPE_WAIT, WHILE};
 use std::alloc::{AllocError, Global};
 
-/// Reads a full expression and the sign that closes it.
-fn read_until<'a>(alloc: Global, sign: u8, symbols: &Symbols<'a>) -> Parsed<'a, Expr>
+// Reads a full expression and the sign that closes it.
+fn read_until<'a>(alloc: Global, sign: u8, symbols: &Symbols<'a>) -> Read<'a, Expr>
     ensures ok { IfOk result (λ r. ReadsFull bounds.LONGEST_EXPRESSION symbols.now (expression_of r.0) (terminals.Sign sign ∷ r.1)) }
     ensures err { IfErr result (λ fault. SyntaxStops (FullExpression ∷ Sign sign ∷ []) symbols.now fault) }
     ensures shorter { IfOk result (λ r. length r.1 < length symbols.now) }
@@ -33,8 +33,8 @@ fn read_until<'a>(alloc: Global, sign: u8, symbols: &Symbols<'a>) -> Parsed<'a, 
     Ok((e, rest))
 }
 
-/// Reads a test in brackets.
-pub fn read_test<'a>(alloc: Global, symbols: &Symbols<'a>) -> Parsed<'a, Expr>
+/// Reads a test in round brackets.
+pub fn read_test<'a>(alloc: Global, symbols: &Symbols<'a>) -> Read<'a, Expr>
     ensures ok { IfOk result (λ r. ReadsTest symbols.now (expression_of r.0) r.1) }
     ensures err { IfErr result (λ fault. SyntaxStops test symbols.now fault) }
     ensures shorter { IfOk result (λ r. length r.1 < length symbols.now) }
@@ -44,8 +44,8 @@ pub fn read_test<'a>(alloc: Global, symbols: &Symbols<'a>) -> Parsed<'a, Expr>
     Ok((e, rest))
 }
 
-/// Reads a `let`, behind its word.
-fn read_let<'a>(alloc: Global, symbols: &Symbols<'a>) -> Parsed<'a, Stmt>
+// Reads a `let`, after its word.
+fn read_let<'a>(alloc: Global, symbols: &Symbols<'a>) -> Read<'a, Stmt>
     ensures ok { IfOk result (λ r. ReadsStatement bounds.LONGEST_EXPRESSION (word_let ∷ symbols.now) (statement_of r.0) r.1) }
     ensures err { IfErr result (λ fault. SyntaxStops binding symbols.now fault) }
     ensures shorter { IfOk result (λ r. length r.1 < length symbols.now) }
@@ -59,8 +59,8 @@ fn read_let<'a>(alloc: Global, symbols: &Symbols<'a>) -> Parsed<'a, Stmt>
     Ok((Stmt::Let(name, e), rest))
 }
 
-/// Reads an assignment to an element, behind its opening bracket.
-fn read_element<'a>(alloc: Global, name: &[u8], symbols: &Symbols<'a>) -> Parsed<'a, Stmt>
+// Reads an assignment to an element, after its opening bracket.
+fn read_element<'a>(alloc: Global, name: &[u8], symbols: &Symbols<'a>) -> Read<'a, Stmt>
     ensures ok { IfOk result (λ r. ReadsStatement bounds.LONGEST_EXPRESSION (terminals.Name name.now ∷ terminals.Sign signs.OPEN_SQUARE ∷ symbols.now) (statement_of r.0) r.1) }
     ensures err { IfErr result (λ fault. SyntaxStops element symbols.now fault) }
     ensures shorter { IfOk result (λ r. length r.1 < length symbols.now) }
@@ -72,8 +72,8 @@ fn read_element<'a>(alloc: Global, name: &[u8], symbols: &Symbols<'a>) -> Parsed
     Ok((Stmt::AssignElement(name, index, e), rest))
 }
 
-/// Reads an assignment, behind its name.
-fn read_assignment<'a>(alloc: Global, name: &[u8], symbols: &Symbols<'a>) -> Parsed<'a, Stmt>
+// Reads an assignment, after its name.
+fn read_assignment<'a>(alloc: Global, name: &[u8], symbols: &Symbols<'a>) -> Read<'a, Stmt>
     ensures ok { IfOk result (λ r. ReadsStatement bounds.LONGEST_EXPRESSION (terminals.Name name.now ∷ symbols.now) (statement_of r.0) r.1) }
     ensures err { IfErr result (λ fault. SyntaxStops (Target ∷ []) symbols.now fault) }
     ensures shorter { IfOk result (λ r. length r.1 < length symbols.now) }
@@ -89,8 +89,8 @@ fn read_assignment<'a>(alloc: Global, name: &[u8], symbols: &Symbols<'a>) -> Par
     Ok((Stmt::Assign(name, e), rest))
 }
 
-/// Reads an `emit`, behind its word.
-fn read_emit<'a>(alloc: Global, symbols: &Symbols<'a>) -> Parsed<'a, Stmt>
+// Reads an `emit`, after its word.
+fn read_emit<'a>(alloc: Global, symbols: &Symbols<'a>) -> Read<'a, Stmt>
     ensures ok { IfOk result (λ r. ReadsStatement bounds.LONGEST_EXPRESSION (word_emit ∷ symbols.now) (statement_of r.0) r.1) }
     ensures err { IfErr result (λ fault. SyntaxStops (FullExpression ∷ Sign signs.SEMICOLON ∷ []) symbols.now fault) }
     ensures shorter { IfOk result (λ r. length r.1 < length symbols.now) }
@@ -99,8 +99,9 @@ fn read_emit<'a>(alloc: Global, symbols: &Symbols<'a>) -> Parsed<'a, Stmt>
     Ok((Stmt::Emit(e), rest))
 }
 
-/// Reads the brackets of a stage statement, with a stage number or without, and the semicolon behind them.
-fn read_stage<'a>(alloc: Global, symbols: &Symbols<'a>) -> Parsed<'a, Option<Expr>>
+// Reads the brackets of a stage statement, with or without a stage number, and the semicolon after
+// them.
+fn read_stage<'a>(alloc: Global, symbols: &Symbols<'a>) -> Read<'a, Option<Expr>>
     ensures ok { IfOk result (λ r. ReadsStage symbols.now r.0 r.1) }
     ensures err { IfErr result (λ fault. SyntaxStops stage symbols.now fault) }
     ensures shorter { IfOk result (λ r. length r.1 < length symbols.now) }
@@ -115,9 +116,9 @@ fn read_stage<'a>(alloc: Global, symbols: &Symbols<'a>) -> Parsed<'a, Option<Exp
     Ok((Some(e), rest))
 }
 
-/// Reads a statement, where no block ends.
+// Reads a statement; the block does not end here.
 #[cycle(block)]
-fn read_statement<'a>(alloc: Global, symbols: &Symbols<'a>) -> Parsed<'a, Stmt>
+fn read_statement<'a>(alloc: Global, symbols: &Symbols<'a>) -> Read<'a, Stmt>
     requires { NoSign signs.CLOSE_BRACE symbols.now }
     ensures ok { IfOk result (λ r. ReadsStatement bounds.LONGEST_EXPRESSION symbols.now (statement_of r.0) r.1) }
     ensures err { IfErr result (λ fault. SyntaxStops (machine.Statements ∷ Sign signs.CLOSE_BRACE ∷ []) symbols.now fault) }
@@ -144,9 +145,9 @@ fn read_statement<'a>(alloc: Global, symbols: &Symbols<'a>) -> Parsed<'a, Stmt>
     }
 }
 
-/// Reads an `if`, behind its word.
+// Reads an `if`, after its word.
 #[cycle(block)]
-fn read_if<'a>(alloc: Global, symbols: &Symbols<'a>) -> Parsed<'a, Stmt>
+fn read_if<'a>(alloc: Global, symbols: &Symbols<'a>) -> Read<'a, Stmt>
     ensures ok { IfOk result (λ r. ReadsStatement bounds.LONGEST_EXPRESSION (word_if ∷ symbols.now) (statement_of r.0) r.1) }
     ensures err { IfErr result (λ fault. SyntaxStops choice symbols.now fault) }
     ensures shorter { IfOk result (λ r. length r.1 < length symbols.now) }
@@ -157,9 +158,9 @@ fn read_if<'a>(alloc: Global, symbols: &Symbols<'a>) -> Parsed<'a, Stmt>
     Ok((Stmt::If(e, then, other), rest))
 }
 
-/// Reads a `while`, behind its word.
+// Reads a `while`, after its word.
 #[cycle(block)]
-fn read_while<'a>(alloc: Global, symbols: &Symbols<'a>) -> Parsed<'a, Stmt>
+fn read_while<'a>(alloc: Global, symbols: &Symbols<'a>) -> Read<'a, Stmt>
     ensures ok { IfOk result (λ r. ReadsStatement bounds.LONGEST_EXPRESSION (word_while ∷ symbols.now) (statement_of r.0) r.1) }
     ensures err { IfErr result (λ fault. SyntaxStops repetition symbols.now fault) }
     ensures shorter { IfOk result (λ r. length r.1 < length symbols.now) }
@@ -169,9 +170,10 @@ fn read_while<'a>(alloc: Global, symbols: &Symbols<'a>) -> Parsed<'a, Stmt>
     Ok((Stmt::While(e, body), rest))
 }
 
-/// Reads a part that may be missing: a word and a block. Without them it is the empty block.
+/// Reads a part that may be missing: a word and a block. If it is missing, the result is the empty
+/// block.
 #[cycle(block)]
-pub fn read_part<'a>(alloc: Global, word: u8, symbols: Symbols<'a>) -> Parsed<'a, Block>
+pub fn read_part<'a>(alloc: Global, word: u8, symbols: Symbols<'a>) -> Read<'a, Block>
     ensures ok { IfOk result (λ r. ReadsPart bounds.LONGEST_EXPRESSION word symbols.entry (statements_of r.0.statements.items) r.1) }
     ensures err { IfErr result (λ fault. SyntaxStops (Part word ∷ []) symbols.entry fault) }
     ensures shorter { IfOk result (λ r. length r.1 ≤ length symbols.entry) }
@@ -187,9 +189,9 @@ pub fn read_part<'a>(alloc: Global, word: u8, symbols: Symbols<'a>) -> Parsed<'a
     }
 }
 
-/// Reads a block.
+/// Reads a block, from its opening to its closing brace.
 #[cycle(block)]
-pub fn read_block<'a>(alloc: Global, symbols: &Symbols<'a>) -> Parsed<'a, Block>
+pub fn read_block<'a>(alloc: Global, symbols: &Symbols<'a>) -> Read<'a, Block>
     ensures ok { IfOk result (λ r. ReadsBlock bounds.LONGEST_EXPRESSION symbols.now (statements_of r.0.statements.items) r.1) }
     ensures err { IfErr result (λ fault. SyntaxStops block symbols.now fault) }
     ensures shorter { IfOk result (λ r. length r.1 < length symbols.now) }

@@ -1,4 +1,4 @@
-//! Symbols of a source: its tokens, as the grammar speaks of them.
+//! The symbols of a source: its tokens, as the grammar names them.
 
 ghost use Rattle.std.specs.Prelude.{◌≡◌, ◌∷◌, [], IfSome, IfNone, drop, length, take};
 ghost use Rattle.pipe_model.specs.Language.Tokens.{symbol_as, symbols_in, text_in};
@@ -9,7 +9,7 @@ ghost use Rattle.pipe_parser.specs.SymbolFronts.{NoName, NoNumber, NoOperator};
 use pipe_model::token::{Token, TokenKind};
 use std::marker::Model;
 
-/// The symbols that tokens are in their source, seen in contracts as their list.
+/// The symbols of tokens in their source. Contracts see them as a list.
 #[derive(Drop)]
 pub struct Symbols<'a> {
     source: &'a [u8],
@@ -26,7 +26,7 @@ impl<'a> Model for Symbols<'a> {
     ghost view = { λ s. symbols_in s.source.now s.tokens.now };
 }
 
-/// The first of some symbols: its kind and text, and the symbols behind it.
+/// The first of some symbols: its kind and text, and the symbols after it.
 #[derive(Drop)]
 pub struct First<'a> {
     pub kind: TokenKind,
@@ -42,14 +42,14 @@ fn text_of<'a>(source: &'a [u8], token: Token) -> &'a [u8]
     behind.get(..token.length as usize).unwrap_or(behind)
 }
 
-// The first tokens, so many of them where there are as many.
+// The first `count` tokens, or all if there are fewer.
 fn front_of(tokens: &[Token], count: usize) -> &[Token]
     ensures { result.now ≡ take count tokens.now }
 {
     tokens.get(..count).unwrap_or(tokens)
 }
 
-// The tokens behind so many.
+// The tokens after the first `count`.
 fn behind(tokens: &[Token], count: usize) -> &[Token]
     ensures { result.now ≡ drop count tokens.now }
 {
@@ -57,21 +57,21 @@ fn behind(tokens: &[Token], count: usize) -> &[Token]
 }
 
 impl<'a> Symbols<'a> {
-    /// The symbols of the tokens of a source.
+    /// Returns the symbols of the tokens of a source.
     pub fn new(source: &'a [u8], tokens: &'a [Token]) -> Symbols<'a>
         ensures { result ≡ symbols_in source.now tokens.now }
     {
         Symbols { source, tokens }
     }
 
-    /// How many symbols there are.
+    /// Returns the number of symbols.
     pub fn len(&self) -> usize
         ensures { result ≡ length self.now }
     {
         self.tokens.len()
     }
 
-    /// The first symbols, so many of them where there are as many.
+    /// Returns the first `count` symbols, or all if there are fewer.
     pub fn front(&self, count: usize) -> Symbols<'a>
         ensures { result ≡ take count self.now }
     {
@@ -81,7 +81,7 @@ impl<'a> Symbols<'a> {
         }
     }
 
-    /// The symbols behind so many.
+    /// Returns the symbols after the first `count`.
     pub fn behind(&self, count: usize) -> Symbols<'a>
         ensures { result ≡ drop count self.now }
     {
@@ -91,7 +91,7 @@ impl<'a> Symbols<'a> {
         }
     }
 
-    /// The first of the symbols; `None` where there is none.
+    /// Returns the first symbol; `None` if there is none.
     pub fn first(&self) -> Option<First<'a>>
         ensures some { IfSome result (λ first. self.now ≡ symbol_as first.kind first.text.now ∷ first.behind) }
         ensures none { IfNone result (self.now ≡ []) }
@@ -107,7 +107,7 @@ impl<'a> Symbols<'a> {
         })
     }
 
-    /// What stands behind the sign, where it stands first.
+    /// Returns the symbols after the sign, if it comes first.
     pub fn after_sign(&self, sign: u8) -> Option<Symbols<'a>>
         ensures some { IfSome result (λ behind. self.now ≡ Sign sign ∷ behind) }
         ensures none { IfNone result (NoSign sign self.now) }
@@ -124,7 +124,7 @@ impl<'a> Symbols<'a> {
         }
     }
 
-    /// What stands behind the reserved word, where it stands first.
+    /// Returns the symbols after the reserved word, if it comes first.
     pub fn after_word(&self, word: u8) -> Option<Symbols<'a>>
         ensures some { IfSome result (λ behind. self.now ≡ Word word ∷ behind) }
         ensures none { IfNone result (NoWord word self.now) }
@@ -141,7 +141,7 @@ impl<'a> Symbols<'a> {
         }
     }
 
-    /// The text of the name that stands first, and what stands behind it; `None` where no name stands first.
+    /// Returns the text of the first symbol and the symbols after it, if the first is a name.
     pub fn after_name(&self) -> Option<(&'a [u8], Symbols<'a>)>
         ensures some { IfSome result (λ r. self.now ≡ Name r.0.now ∷ r.1) }
         ensures none { IfNone result (NoName self.now) }
@@ -158,7 +158,7 @@ impl<'a> Symbols<'a> {
         }
     }
 
-    /// The number that stands first, and what stands behind it; `None` where no number stands first.
+    /// Returns the value of the first symbol and the symbols after it, if the first is a number.
     pub fn after_number(&self) -> Option<(i64, Symbols<'a>)>
         ensures some { IfSome result (λ r. self.now ≡ Number r.0 ∷ r.1) }
         ensures none { IfNone result (NoNumber self.now) }
@@ -175,7 +175,7 @@ impl<'a> Symbols<'a> {
         }
     }
 
-    /// What stands behind the operator, where it stands first.
+    /// Returns the symbols after the operator, if it comes first.
     pub fn after_operator(&self, code: u8) -> Option<Symbols<'a>>
         ensures some { IfSome result (λ behind. self.now ≡ Operator code ∷ behind) }
         ensures none { IfNone result (NoOperator code self.now) }

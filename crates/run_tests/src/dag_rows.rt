@@ -1,5 +1,5 @@
-//! A dag of three columns, drawn by hand, and the races of accesses of two columns. The columns are built here, since
-//! a program that can run today has the same kinds of stages in each iteration.
+//! A dag of three columns, drawn by hand, and the races of accesses of two columns. The columns are
+//! built here, since a program that can run today has the same kinds of stages in each iteration.
 
 ghost use Rattle.std.specs.Prelude.{◌≡◌, ◌<◌, ◌<ℤ◌, ℕ, All, length};
 ghost use Rattle.std.specs.Bool.{OnTrue};
@@ -96,8 +96,8 @@ fn columns(rt: &HostRuntime, lists: &[&[Node]]) -> Result<ListOf<Column>, Fail> 
     Ok(columns)
 }
 
-// Stages 3 and 4 of the second column both wait for stage 2 of the first, so the edge to stage 4 is redundant; stage 6 of
-// the third column waits for stage 4 of the second.
+// Stages 3 and 4 of the second column both wait for stage 2 of the first, so the edge to stage 4 is
+// redundant; stage 6 of the third column waits for stage 4 of the second.
 fn drawn(rt: &HostRuntime) -> Result<ListOf<Column>, Fail> {
     let (zero, wait, skip) = (Kind::Zero, Kind::Wait, Kind::Continue);
     columns(
@@ -124,7 +124,7 @@ const INSTANCES: [(u32, u32); 10] = [
     (2, 2),
 ];
 
-// Which instances each of them precedes.
+// For each instance, whether it precedes each of the instances.
 const PRECEDES: [&[u8; 10]; 10] = [
     b"0111111111",
     b"0010111001",
@@ -192,7 +192,8 @@ fn accesses(alloc: Global) -> Result<ListOf<NodeAccess>, Fail> {
     Ok(accesses)
 }
 
-// A race between the last instances of the two columns, each given by iteration, stage number and kind.
+// A race between the last instances of the two columns, each given by iteration, stage number and
+// kind.
 fn report(cell: u32, earlier: (u32, i64, AccessKind), later: (u32, i64, AccessKind)) -> Report {
     Report {
         cell: CellId(cell),

@@ -11,7 +11,7 @@ decreases-check_block l = 4 * statement_counts (statements_of l.block.now.statem
 abbrev pub decreases-check_statement : goal.decreases-check_statement
 decreases-check_statement l = 4 * statement_count (statement_of l.s.now)
 
--- the rest has the faults, the numbers and the end of the whole
+-- the rest has the faults, the last number and the final scope of the whole
 abbrev pub invariant-check_block-loop-s : goal.invariant-check_block-loop-s
 invariant-check_block-loop-s l = record {
   faults : first_fault l.next (marks_of_statements l.scope (statements_of (drop l.s-index l.s-items)))

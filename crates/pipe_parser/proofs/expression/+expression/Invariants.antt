@@ -26,7 +26,7 @@ decreases-read_named l = 32 * length l.symbols + 1
 abbrev pub decreases-read_unary : goal.decreases-read_unary
 decreases-read_unary l = 32 * length l.symbols.now + 1
 
--- whatever extends what was joined extends the first
+-- whatever extends the operands joined so far extends the first
 abbrev pub invariant-extend-loop-code : goal.invariant-extend-loop-code
 invariant-extend-loop-code l = record {
   extends : (e : Expression) (end : List Symbol) → Extends l.fn.level (expression_of l.joined) l.rest e end

@@ -5,7 +5,7 @@ use Rattle.grammar_laws.specs.ProgramMachine.{Want, Cells, Outside, judge}
 use Rattle.grammar_laws.specs.Reading.{ReadsCells}
 use Rattle.pipe_parser.proofs.program.read_cells.Given as goal
 
--- whatever is read from the rest comes behind what was found
+-- whatever is read from the rest comes after the declarations found so far
 abbrev pub invariant-loop-declared : goal.invariant-loop-declared
 invariant-loop-declared l = record {
   reads : (ds : List Declaration) (end : List Symbol) → ReadsCells l.rest ds end → ReadsCells l.initial.rest (l.cells ++ ds) end;

@@ -22,7 +22,7 @@ decreases-read_part l = 8 * length l.symbols + 2
 abbrev pub decreases-read_block : goal.decreases-read_block
 decreases-read_block l = 8 * length l.symbols.now + 1
 
--- whatever is read from the rest comes behind what was found
+-- whatever is read from the rest comes after the statements found so far
 abbrev pub invariant-read_block-loop-behind : goal.invariant-read_block-loop-behind
 invariant-read_block-loop-behind l = record {
   reads : (ss : Statements) (end : List Symbol) → ReadsStatements 256 l.rest ss end → ReadsStatements 256 l.initial.rest (before l.statements.items ss) end;

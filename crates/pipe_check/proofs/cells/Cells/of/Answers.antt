@@ -8,7 +8,7 @@ use Rattle.pipe_model.specs.Language.Programs.{declared_size}
 use Rattle.pipe_check.proofs.CellTables.{table_more, take_next, cell_passed}
 use Rattle.pipe_check.proofs.cells.Cells.of.Goals as goal
 
--- what holds where the result is `Ok` holds, since it is
+-- what holds if the result is `Ok` holds, since it is `Ok`
 since_ok : {A E : Type 0} (P : Type 0) (r : Result A E) → true ≡ is_ok r → OnOk r P → P
 since_ok P (Ok x) is h = h
 since_ok P (Err e) is h = cc (is)
