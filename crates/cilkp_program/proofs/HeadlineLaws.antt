@@ -1,5 +1,5 @@
 -- A row that runs a program meets the headline.
-use Rattle.std.proofs.Common.{◌≡◌, ◌≢◌, ◌≤◌, ◌∙◌, ◌++◌, ℕ, List, [], Option, Some, None, IfSome, map, refl, ap, sym, subst, arith, append-nil, ◌∷◌}
+use Rattle.std.proofs.Common.{◌≡◌, ◌≢◌, ◌≤◌, ◌∙◌, ◌++◌, ℕ, List, [], Option, Some, None, IfSome, map, refl, ap, sym, arith, append-nil, ◌∷◌}
 use Rattle.pipe_model.specs.declared.event.RunLog.{RunLog}
 use Rattle.pipe_model.specs.declared.report.Report.{Report}
 use Rattle.pipe_model.specs.declared.trap.TrapAt.{TrapAt}

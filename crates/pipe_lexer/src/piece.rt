@@ -109,8 +109,8 @@ fn punctuation(bytes: &[u8], first: u8) -> Result<Piece, Flaw>
     Ok(Piece::Taken(TokenKind::Sign(first), 1))
 }
 
-/// Returns the blank, comment or token with which `bytes` begins; `bytes` is `first` followed by
-/// `behind`. Returns an error if nothing within the bounds begins there.
+/// Returns the blank, comment or token with which `bytes` begins; there is at least one byte.
+/// Returns an error if nothing within the bounds begins there.
 pub fn piece_at(bytes: &[u8]) -> Result<Piece, Flaw>
     requires { 0 < length bytes.now }
     ensures piece { IfOk result (λ piece. IsPiece bytes.now piece) }
