@@ -1,0 +1,3 @@
+pub mod DeclaredCells
+pub mod WrittenCells
+pub mod FreshShards

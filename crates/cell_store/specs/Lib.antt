@@ -1,0 +1,3 @@
+pub mod ShardState
+pub mod ShardLaws
+pub mod Reserves

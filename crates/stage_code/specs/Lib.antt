@@ -1,0 +1,11 @@
+pub mod Instructions
+pub mod Following
+pub mod Jumps
+pub mod LimitRanges
+pub mod FlatCode
+pub mod Slots
+pub mod Heights
+pub mod CodeOfTrees
+pub mod Fitting
+pub mod CellRanges
+pub mod Meaning
