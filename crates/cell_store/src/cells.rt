@@ -110,7 +110,7 @@ impl Cells {
         requires own { IsOfShard self.now.shard cell.0 }
         ensures value { (store : InitialStore) (before : List Accessed) → IsStateAfter store before self.now → result ≡ value_after store before cell.0 }
         ensures state { (store : InitialStore) (before : List Accessed) → IsStateAfter store before self.now
-          → IsStateAfter store (before ++ read_access cell.0 result ∷ []) self.now }
+            → IsStateAfter store (before ++ read_access cell.0 result ∷ []) self.now }
     {
         self.values[slot_of(cell, self.shards)]
     }
@@ -121,7 +121,7 @@ impl Cells {
         requires there { cell.0 < self.old.shard.cells }
         requires own { IsOfShard self.old.shard cell.0 }
         ensures state { (store : InitialStore) (before : List Accessed) → IsStateAfter store before self.old
-          → IsStateAfter store (before ++ write_access cell.0 value ∷ []) self.new }
+            → IsStateAfter store (before ++ write_access cell.0 value ∷ []) self.new }
         ensures shard { self.new.shard ≡ self.old.shard }
     {
         let slot = slot_of(cell, self.shards);
@@ -136,7 +136,7 @@ impl Cells {
     /// Returns the emitted numbers, up to the limit. A shard without the output has none.
     pub fn output(&self) -> &[i64]
         ensures output { (store : InitialStore) (before : List Accessed) → IsStateAfter store before self.now → HasOutput self.now.shard
-          → result.now ≡ output_of store before }
+            → result.now ≡ output_of store before }
         ensures elsewhere { 1 % self.now.shard.shards ≢ self.now.shard.number → result.now ≡ [] }
     {
         self.output.as_slice()
@@ -145,7 +145,7 @@ impl Cells {
     /// Returns the emitted numbers as a list, without a copy. A shard without the output has none.
     pub fn into_output(self) -> Numbers
         ensures output { (store : InitialStore) (before : List Accessed) → IsStateAfter store before self → HasOutput self.shard
-          → result ≡ output_of store before }
+            → result ≡ output_of store before }
         ensures elsewhere { 1 % self.shard.shards ≢ self.shard.number → result ≡ [] }
     {
         ListOf::from_vec(self.output)

@@ -47,7 +47,7 @@ pub(crate) fn values_of_shard(
     requires there { shard < shards }
     ensures complete { IfOk result (λ values. length all.now ≤ shard + shards * length values.items) }
     ensures values { IfOk result (λ values. (slot : ℕ) → slot < length values.items
-      → slice_index_or values.items slot (pos 0) ≡ slice_index_or all.now (shard + shards * slot) (pos 0)) }
+        → slice_index_or values.items slot (pos 0) ≡ slice_index_or all.now (shard + shards * slot) (pos 0)) }
 {
     let mut values = Vec::with_capacity(alloc, all.len() / shards as usize + 1)?;
     let mut cell = shard as usize;
