@@ -1,5 +1,5 @@
 -- The state of a shard before the first access.
-use Rattle.std.proofs.Common.{◌≡◌, ◌∙◌, ap, sym, refl, ℕ, ℤ, pos, ◌<◌, ◌≤◌, ◌==◌, ◌+◌, ◌*◌, ◌/◌, List, [], length, get_or, arith, true, false, Bool}
+use Rattle.std.proofs.Common.{◌≡◌, ◌∙◌, ap, sym, refl, ℕ, pos, ◌<◌, ◌≤◌, ◌==◌, ◌+◌, ◌*◌, ◌/◌, [], length, get_or, arith, true, false, Bool}
 use Rattle.std.proofs.Math.Seq.{take-nil}
 use Rattle.std.proofs.lemmas.Bool.Decides.{nat_tests}
 use Rattle.pipe_model.specs.Pipelines.Store.{InitialStore, value_from}

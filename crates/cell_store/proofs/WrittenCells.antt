@@ -1,15 +1,15 @@
 -- How an access changes the state of a shard.
-use Rattle.std.proofs.Common.{◌≡◌, ◌≢◌, ◌∙◌, ap, sym, refl, subst, ℕ, ℤ, pos, zero, suc, min, ◌<◌, ◌≤◌, ◌==◌, ◌+◌, ◌*◌, ◌/◌, ◌%◌, List, [], ◌∷◌, ◌++◌, length, get_or, set, append-nil, append_assoc, length-append, arith, take, true, false, Bool, eqb, not}
+use Rattle.std.proofs.Common.{◌≡◌, ◌≢◌, ◌∙◌, ap, sym, refl, subst, ℕ, ℤ, pos, zero, suc, min, ◌<◌, ◌≤◌, ◌==◌, ◌+◌, ◌*◌, ◌/◌, ◌%◌, List, [], ◌∷◌, ◌++◌, length, get_or, set, append-nil, append_assoc, arith, take, true, false, Bool, eqb, not}
 use Rattle.std.proofs.Math.Nat.{div-add-mod}
 use Rattle.std.proofs.lemmas.Bool.Decides.{nat_tests}
 use Rattle.std.proofs.lemmas.List.{get_or_default, get_or-set_same, get_or-set_other, length-take}
 use Rattle.pipe_model.specs.declared.access.Access.{Access}
 use Rattle.pipe_model.specs.declared.access.AccessKind.{AccessKind}
 use Rattle.pipe_model.specs.declared.access.AccessKind.TheVariants.{Read, Write}
-use Rattle.pipe_model.specs.Pipelines.Behaviour.{read_access, write_access}
+use Rattle.pipe_model.specs.Pipelines.Behaviour.{write_access}
 use Rattle.pipe_model.specs.Pipelines.Store.{InitialStore, last_or, output_of, value_after, value_from, written, wrote, wrote_as}
 use Rattle.cell_store.proofs.DeclaredCells.{slot_within}
-use Rattle.cell_store.specs.ShardState.{HasOutput, IsOfShard, IsStateAfter, Shard, ShardState, value_in}
+use Rattle.cell_store.specs.ShardState.{HasOutput, IsOfShard, IsStateAfter, ShardState}
 
 -- what is written to cell c with one access more
 written_then : (c : ℕ) (before : List Access) (a : Access) → written c (before ++ a ∷ []) ≡ written c before ++ wrote c a

@@ -1,9 +1,9 @@
 -- The part of a store that one of several shards keeps: cell c is in the shard of number c % shards.
-use Rattle.std.specs.Prelude.{◌≡◌, ◌<◌, ◌%◌, ◌/◌, ℕ, ℤ, pos, List, length, slice_index_or}
+use Rattle.std.specs.Prelude.{◌≡◌, ◌≢◌, ◌<◌, ◌%◌, ◌/◌, ℕ, ℤ, pos, List, length, slice_index_or}
 use Rattle.pipe_model.specs.declared.access.Access.{Access}
 use Rattle.pipe_model.specs.Pipelines.Store.{InitialStore, output_of, value_after}
 
--- one of `shards` shards of a program with this number of cells, the cells of all shards counted
+-- a shard of a program: its number, the number of shards, the number of cells in all shards, and how many numbers the program may emit
 pub record Shard : Type 0 where
   pub number : ℕ
   pub shards : ℕ
@@ -14,9 +14,13 @@ pub record Shard : Type 0 where
 abbrev pub IsOfShard : Shard → ℕ → Type 0
 IsOfShard shard c = c % shard.shards ≡ shard.number
 
--- the shard keeps the output
+-- the shard keeps the output, which is cell 1
 abbrev pub HasOutput : Shard → Type 0
 HasOutput shard = IsOfShard shard 1
+
+-- another shard keeps the output
+abbrev pub HasNoOutput : Shard → Type 0
+HasNoOutput shard = 1 % shard.shards ≢ shard.number
 
 -- the values of the shard's cells, in rising order of the cells, and the emitted numbers that it keeps
 pub record ShardState : Type 0 where

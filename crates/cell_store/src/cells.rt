@@ -1,7 +1,7 @@
 //! The cells of a shard.
 
-ghost use Rattle.std.specs.Prelude.{◌≡◌, ◌≢◌, ◌<◌, ◌≤◌, ◌%◌, ◌+◌, ◌++◌, ◌∷◌, [], IfOk, List, length, take, vec_capacity};
-ghost use Rattle.cell_store.specs.ShardState.{HasOutput, IsOfShard, IsStateAfter};
+ghost use Rattle.std.specs.Prelude.{◌≡◌, ◌<◌, ◌≤◌, ◌+◌, ◌++◌, ◌∷◌, [], IfOk, List, length, take, vec_capacity};
+ghost use Rattle.cell_store.specs.ShardState.{HasNoOutput, HasOutput, IsOfShard, IsStateAfter};
 ghost use Rattle.pipe_model.specs.Language.CheckingRules.{cell_total, fault_of};
 ghost use Rattle.pipe_model.specs.Language.Programs.{natural, store_of};
 ghost use Rattle.pipe_model.specs.Language.SpellablePrograms.{IsSpellable};
@@ -137,7 +137,7 @@ impl Cells {
     pub fn output(&self) -> &[i64]
         ensures output { (store : InitialStore) (before : List Accessed) → IsStateAfter store before self.now → HasOutput self.now.shard
             → result.now ≡ output_of store before }
-        ensures elsewhere { 1 % self.now.shard.shards ≢ self.now.shard.number → result.now ≡ [] }
+        ensures elsewhere { HasNoOutput self.now.shard → result.now ≡ [] }
     {
         self.output.as_slice()
     }
@@ -146,7 +146,7 @@ impl Cells {
     pub fn into_output(self) -> Numbers
         ensures output { (store : InitialStore) (before : List Accessed) → IsStateAfter store before self → HasOutput self.shard
             → result ≡ output_of store before }
-        ensures elsewhere { 1 % self.shard.shards ≢ self.shard.number → result ≡ [] }
+        ensures elsewhere { HasNoOutput self.shard → result ≡ [] }
     {
         ListOf::from_vec(self.output)
     }

@@ -1,4 +1,4 @@
-use Rattle.std.proofs.Common.{◌≡◌, ◌<◌, ◌≤◌, ◌+◌, ◌-◌, ◌∙◌, ◌++◌, ◌∷◌, ap, arith, length, pos, rules, sym, w64, List, ℤ, replicate, take}
+use Rattle.std.proofs.Common.{◌≡◌, ◌<◌, ◌∙◌, ◌++◌, ◌∷◌, ap, arith, length, pos, rules, sym, w64, List, ℤ, replicate, take}
 use Rattle.std.proofs.lemmas.List.{take_all}
 use mir.Val.{SFits}
 use Rattle.std.proofs.lemmas.Int.{to_z-of_z}

@@ -1,4 +1,4 @@
-use Rattle.std.proofs.Common.{◌≡◌, ◌<◌, ◌+◌, ◌*◌, ◌∙◌, arith, rules, w64, get_or, pos}
+use Rattle.std.proofs.Common.{rules, w64, get_or, pos}
 use Rattle.std.proofs.lemmas.Int.{to_z-of_z}
 use mir.Val.{SFits}
 use Rattle.cell_store.proofs.DeclaredCells.{strides_more, taken_more}
