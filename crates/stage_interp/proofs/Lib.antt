@@ -1,0 +1,4 @@
+pub mod Accesses
+pub mod PureEffects
+pub mod Running
+pub mod Starts

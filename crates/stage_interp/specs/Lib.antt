@@ -1,0 +1,6 @@
+pub mod StackState
+pub mod Results
+pub mod MachineState
+pub mod Standing
+pub mod Executions
+pub mod Running
