@@ -5,7 +5,7 @@ ghost use Rattle.pipe_model.specs.Language.CheckingRules.{cell_total};
 ghost use Rattle.pipe_model.specs.Language.SyntaxTree.{SyntaxTree};
 ghost use Rattle.pipe_model.specs.Pipelines.Behaviour.{Behaviour};
 ghost use Rattle.stage_code.specs.FlatCode.{FlatCode};
-ghost use Rattle.stage_interp.specs.Executions.{CountsRefusal, StopsOnly};
+ghost use Rattle.stage_interp.specs.Executions.{StopsOnly};
 ghost use Rattle.stage_interp.specs.MachineState.{IsMadeFor, iteration_in, start_in};
 ghost use Rattle.stage_interp.specs.Standing.{IsCodeOf, IsStopped, RanInstance, StandsFor, behaviour_in};
 
@@ -100,8 +100,8 @@ impl Machine {
     /// Runs one stage instance from its beginning, with this code, input and memory. It appends to
     /// the memory's accesses those of the instance, for the replies that the memory gave, up to the
     /// instance's end, which it returns; after `Wait` or `Continue` the machine is at the beginning
-    /// of the next instance. It returns `Stopped` exactly if the memory has refused an access; the
-    /// accesses are then those before it. It does not allocate.
+    /// of the next instance. It returns `Stopped` only if the memory has stopped and the next action
+    /// of the instance is an access; the accesses are then those before it. It does not allocate.
     #[inline(never)]
     pub fn run_stage<M: Memory>(&mut self, code: &Code, input: &Numbers, memory: &mut M) -> StageEnd
         requires before { (t : Behaviour) × StandsFor code.now (M.served memory.old) input.now self.old.run t }
@@ -110,7 +110,6 @@ impl Machine {
             → RanInstance code.now (M.served memory.old) input.now t (M.made memory.old) (M.made memory.new) self.new.run result }
         ensures made { (c : FlatCode) → IsMadeFor c self.old → IsMadeFor c self.new }
         ensures stops { StopsOnly (Some result) (M.stopped memory.new) }
-        ensures refused { CountsRefusal (Some result) (M.refusals memory.old) (M.refusals memory.new) }
         ensures serves { M.served memory.new ≡ M.served memory.old }
     {
         match self.execution.take() {
@@ -135,7 +134,6 @@ impl Machine {
             → RanInstance code.now (M.served memory.old) input.now t (M.made memory.old) (M.made memory.new) self.new.run result }
         ensures made { (c : FlatCode) → IsMadeFor c self.old → IsMadeFor c self.new }
         ensures stops { StopsOnly (Some result) (M.stopped memory.new) }
-        ensures refused { CountsRefusal (Some result) (M.refusals memory.old) (M.refusals memory.new) }
         ensures serves { M.served memory.new ≡ M.served memory.old }
     {
         match self.execution.take() {

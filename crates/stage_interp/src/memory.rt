@@ -2,9 +2,9 @@
 
 use pipe_model::access::CellId;
 
-/// A memory of cells, which may stop. From then on it refuses all accesses.
+/// A memory of cells, which may stop, and then refuses accesses.
 pub trait Memory {
-    ghost use Rattle.std.specs.Prelude.{◌≡◌, ◌++◌, ◌∷◌, ◌<◌, ◌+◌, [], IfSome, IfNone, List, ℕ, Bool, not, is_none};
+    ghost use Rattle.std.specs.Prelude.{◌≡◌, ◌++◌, ◌∷◌, ◌<◌, [], IfSome, IfNone, List, ℕ, Bool, not, is_none};
     ghost use Rattle.std.specs.Bool.{OnTrue, OnFalse};
     ghost use Rattle.pipe_model.specs.declared.access.Access.{Access};
     ghost use Rattle.pipe_model.specs.Pipelines.Behaviour.{read_access, write_access};
@@ -15,9 +15,6 @@ pub trait Memory {
     /// Whether it has stopped.
     ghost stopped: { Self → Bool };
 
-    /// How many accesses it has refused.
-    ghost refusals: { Self → ℕ };
-
     /// How many cells it serves: those with a number below this.
     ghost served: { Self → ℕ };
 
@@ -27,8 +24,6 @@ pub trait Memory {
         ensures some { IfSome result (λ v. made self.new ≡ made self.old ++ read_access cell.0 v ∷ []) }
         ensures none { IfNone result (made self.new ≡ made self.old) }
         ensures stops { stopped self.new ≡ is_none result }
-        ensures allows { IfSome result (λ v. refusals self.new ≡ refusals self.old) }
-        ensures refuses { IfNone result (refusals self.new ≡ refusals self.old + 1) }
         ensures serves { served self.new ≡ served self.old };
 
     /// Gives the cell a value. Returns `false`, and leaves the cell as it is, exactly if the memory
@@ -38,7 +33,5 @@ pub trait Memory {
         ensures yes { OnTrue result (made self.new ≡ made self.old ++ write_access cell.0 value ∷ []) }
         ensures no { OnFalse result (made self.new ≡ made self.old) }
         ensures stops { stopped self.new ≡ not result }
-        ensures allows { OnTrue result (refusals self.new ≡ refusals self.old) }
-        ensures refuses { OnFalse result (refusals self.new ≡ refusals self.old + 1) }
         ensures serves { served self.new ≡ served self.old };
 }
