@@ -6,7 +6,7 @@ use Rattle.std.proofs.lemmas.List.Recursion.{is_count_by}
 use Rattle.std.proofs.lemmas.List.Sums.{sum_by-cons}
 use Rattle.pipe_model.specs.declared.token.Token.{Token}
 use Rattle.pipe_model.specs.declared.tree.Stmt.{Stmt}
-use Rattle.pipe_model.specs.Language.FirstForm.{are_plain_statements, begins_part, is_plain_statement, stages_in, stages_of}
+use Rattle.serial_elision.specs.FirstForm.{are_plain_statements, begins_part, is_plain_statement, stages_in, stages_of}
 use Rattle.pipe_model.specs.Language.Tokens.{symbol_in, symbols_in}
 use Rattle.pipe_model.specs.Language.SyntaxTree.{Empty, Statement, Let, Assign, AssignElement, Emit, If, While, Stage, NextStage, statement_of, statements_of, Then}
 
@@ -32,9 +32,9 @@ stages_counted = is_count_by (λ ss. stages_in (statements_of ss)) (λ s. stages
     (λ s ss. one_more (statement_of s) (stages_in (statements_of ss)))
 
 -- the count is 0 exactly if the first is not counted and none after it is
-none_counted : (first behind : Bool) (n : ℕ) → (behind ≡ false) ↔ (n ≡ 0) → ((first || behind) ≡ false) ↔ (cond first 1 0 + n ≡ 0)
-none_counted true behind n h = ((λ e. cc e), (λ e. absurd (omega (arith, e))))
-none_counted false behind n h = ((λ e. omega (arith, h.0 e)), (λ e. h.1 (omega (arith, e))))
+none_counted : (first following : Bool) (n : ℕ) → (following ≡ false) ↔ (n ≡ 0) → ((first || following) ≡ false) ↔ (cond first 1 0 + n ≡ 0)
+none_counted true following n h = ((λ e. cc e), (λ e. absurd (omega (arith, e))))
+none_counted false following n h = ((λ e. omega (arith, h.0 e)), (λ e. h.1 (omega (arith, e))))
 
 -- no token begins a part exactly if the count of symbols that do is 0
 pub no_part_counted : (source : List ℕ) (ts : List Token)

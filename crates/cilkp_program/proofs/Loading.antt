@@ -6,7 +6,8 @@ use Rattle.pipe_model.specs.declared.bounds.TheConstants.{LONGEST_SOURCE}
 use Rattle.pipe_model.specs.declared.memory.NoMemory.{NoMemory}
 use Rattle.pipe_model.specs.Language.SourceRefusals.{ForItsText, Lexical}
 use Rattle.pipe_model.specs.Language.Tokens.{IsTooLong, SourceTooLong}
-use Rattle.pipe_model.specs.Texts.{refused_missing, refused_input}
+use Rattle.pipe_model.specs.Texts.{refused_missing}
+use Rattle.cilkp_program.specs.NotYetBuilt.{refused_input}
 use Rattle.cilkp_program.specs.declared.whole.Whole.{Whole}
 use Rattle.cilkp_program.specs.declared.whole.Whole.TheVariants as whole
 use Rattle.cilkp_program.specs.Reads.{Content}

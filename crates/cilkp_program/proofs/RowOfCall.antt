@@ -6,7 +6,8 @@ use Rattle.pipe_model.specs.declared.memory.NoMemory.{NoMemory}
 use Rattle.pipe_model.specs.declared.report.Report.{Report}
 use Rattle.pipe_model.specs.Language.CanonicalText.{program_text}
 use Rattle.pipe_model.specs.Language.SyntaxTree.{tree_of}
-use Rattle.pipe_model.specs.Texts.{fault_read, refused_program, refused_usage}
+use Rattle.pipe_model.specs.Texts.{fault_read, refused_usage}
+use Rattle.cilkp_program.specs.NotYetBuilt.{refused_program}
 use Rattle.cilkp_program.specs.declared.call.Answer.{Answer}
 use Rattle.cilkp_program.specs.declared.load.Loaded.{Loaded}
 use Rattle.cilkp_program.specs.declared.load.Source.TheVariants as sources

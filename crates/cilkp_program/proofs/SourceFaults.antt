@@ -9,7 +9,7 @@ use Rattle.pipe_lexer.specs.Faults.{IsFaultOf}
 use Rattle.pipe_model.specs.declared.token.Token.{Token}
 use Rattle.pipe_model.specs.Language.CheckingRules as checking
 use Rattle.pipe_model.specs.Language.CheckingRules.{Broken, fault_of}
-use Rattle.pipe_model.specs.Language.FirstForm.{IsPlain}
+use Rattle.serial_elision.specs.FirstForm.{IsPlain}
 use Rattle.pipe_model.specs.Language.MarkPlaces.{mark_places}
 use Rattle.pipe_model.specs.Language.SourceRefusals.{Lexical, Syntactic, LimitOut, RuleBroken, ForItsText, ForAToken, ForALimit, ForARule}
 use Rattle.pipe_model.specs.Language.SourceSpelling.{SourceSpells}

@@ -2,6 +2,7 @@ pub mod Faults
 pub mod FaultPlan
 pub mod Reads
 pub mod Writes
+pub mod NotYetBuilt
 pub mod Rows
 pub mod CellNames
 pub mod RowLaws

@@ -1,6 +1,6 @@
 -- The results of loading a source and an input.
 use Rattle.std.specs.Prelude.{◌≡◌, ℕ, List, [], Option, Some, IfSome, IsTrue, IsFalse, Bool, true, false}
-use Rattle.pipe_model.specs.Language.FirstForm.{IsFirstForm}
+use Rattle.serial_elision.specs.FirstForm.{IsFirstForm}
 use Rattle.pipe_model.specs.Language.SourceRefusals.{IsAccepted, IsRefused, Refusal}
 use Rattle.pipe_model.specs.Language.SyntaxTree.{SyntaxTree, tree_of}
 use Rattle.pipe_model.specs.Texts.{refusal_line}

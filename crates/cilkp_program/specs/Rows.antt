@@ -7,7 +7,7 @@ use Rattle.pipe_model.specs.declared.node.Node.{Node}
 use Rattle.pipe_model.specs.declared.report.Report.{Report}
 use Rattle.pipe_model.specs.declared.trap.TrapAt.{TrapAt}
 use Rattle.pipe_model.specs.Language.CanonicalText.{program_text}
-use Rattle.pipe_model.specs.Language.FirstForm.{IsFirstForm}
+use Rattle.serial_elision.specs.FirstForm.{IsFirstForm}
 use Rattle.pipe_model.specs.Races.FirstRaces.{AreFirstRaces}
 use Rattle.pipe_model.specs.Pipelines.Behaviour.{column_of}
 use Rattle.pipe_model.specs.Pipelines.WholePrograms.{loop_accesses, loop_traces, program_log, program_output, program_trap}
@@ -15,8 +15,9 @@ use Rattle.pipe_model.specs.Language.ProgramsOfTrees.{whole_of}
 use Rattle.pipe_model.specs.Races.DeterminacyRaces.{IsRaceFree}
 use Rattle.pipe_model.specs.Language.SourceRefusals.{IsAccepted, IsRefused, Refusal}
 use Rattle.pipe_model.specs.Language.SyntaxTree.{SyntaxTree}
-use Rattle.pipe_model.specs.Texts.{output_lines, trap_line, refusal_line, refused_usage, refused_missing, refused_program, refused_input}
+use Rattle.pipe_model.specs.Texts.{output_lines, trap_line, refusal_line, refused_usage, refused_missing}
 use Rattle.cilkp_program.specs.CellNames.{race_lines}
+use Rattle.cilkp_program.specs.NotYetBuilt.{refused_program, refused_input}
 use Rattle.cilkp_program.specs.Reads.{Content}
 
 -- the words of a call, as bytes

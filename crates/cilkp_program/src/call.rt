@@ -2,7 +2,7 @@
 
 ghost use Rattle.std.specs.Prelude.{◌≡◌, ◌≢◌, ℕ, ◌≤◌, ◌⊎◌, ◌↔◌, List, [], IfOk, IfSome, IfNone, OnErr};
 ghost use Rattle.pipe_model.specs.Language.CanonicalText.{program_text};
-ghost use Rattle.pipe_model.specs.Language.FirstForm.{IsFirstForm};
+ghost use Rattle.serial_elision.specs.FirstForm.{IsFirstForm};
 ghost use Rattle.pipe_model.specs.Language.SyntaxTree.{SyntaxTree, tree_of};
 ghost use Rattle.pipe_model.specs.Texts.{fault_read};
 ghost use Rattle.cilkp_program.specs.CallResults.{IsCallResult, IsPrinted, IsCutShort, IsGivenUp};

@@ -3,7 +3,7 @@
 
 ghost use Rattle.std.specs.Prelude.{◌≡◌, ◌==◌, ◌↔◌, ℕ, List, IsFalse, IsTrue};
 ghost use Rattle.std.specs.List.{count_by, list_all};
-ghost use Rattle.pipe_model.specs.Language.FirstForm as first_form;
+ghost use Rattle.serial_elision.specs.FirstForm as first_form;
 ghost use Rattle.pipe_model.specs.Language.SyntaxTree.{Empty, expression_of, statement_of, statements_of, tree_of};
 ghost use Rattle.pipe_model.specs.Language.Tokens.{symbol_as, symbols_in};
 

@@ -160,16 +160,16 @@ split_at_group xs c m = ap (accesses_to c) (sym (take-append-drop m xs)) ∙ acc
 of_group : (columns : List (List Node)) (xs rest : List NodeAccess) (reports : List Report) (c m : ℕ)
     → IsProgress columns xs rest reports → IsGroup rest c m → accesses_to c xs ≡ noted_all (take m rest)
 of_group columns xs rest reports c m h g =
-    let behind : accesses_to c (drop m rest) ≡ [] =
+    let following : accesses_to c (drop m rest) ≡ [] =
     accesses_to-others c (drop m rest) (λ k d w e. let l = g.above k d w in omega (arith, l, e)) in
     h.left c (λ below. let l = below 0 g.first g.filled in let e = g.head g.first in omega (arith, l, e))
-    ∙ (split_at_group rest c m ∙ (ap (λ l. accesses_to c (take m rest) ++ l) behind
+    ∙ (split_at_group rest c m ∙ (ap (λ l. accesses_to c (take m rest) ++ l) following
     ∙ (append-nil (accesses_to c (take m rest)) ∙ accesses_to-own c (take m rest) g.own)))
 
 -- the accesses to a cell above that of the group come after the group
-behind_group : (rest : List NodeAccess) (c m cell : ℕ) → IsGroup rest c m → c < cell
+after_group : (rest : List NodeAccess) (c m cell : ℕ) → IsGroup rest c m → c < cell
     → accesses_to cell rest ≡ accesses_to cell (drop m rest)
-behind_group rest c m cell g l =
+after_group rest c m cell g l =
     split_at_group rest cell m
     ∙ ap (λ l. l ++ accesses_to cell (drop m rest))
     (accesses_to-others cell (take m rest) (λ k d w e. let h = g.own k d w in omega (arith, h, e, l)))
@@ -189,11 +189,11 @@ not_below_rest rest c m cell g l below =
     omega (arith, h, b, l)
 
 -- what `left` says of a cell that is not below all accesses after the group
-left_behind : (columns : List (List Node)) (xs rest : List NodeAccess) (reports : List Report) (c m : ℕ)
+left_after : (columns : List (List Node)) (xs rest : List NodeAccess) (reports : List Report) (c m : ℕ)
     → IsProgress columns xs rest reports → IsGroup rest c m
     → (cell : ℕ) → (IsBelowAll cell (drop m rest) → ⊥) → accesses_to cell xs ≡ accesses_to cell (drop m rest)
-left_behind columns xs rest reports c m h g cell not = elim (cases_lt c cell) [
-  | inl less ↦ h.left cell (not_below_rest rest c m cell g (omega (arith, less))) ∙ behind_group rest c m cell g less
+left_after columns xs rest reports c m h g cell not = elim (cases_lt c cell) [
+  | inl less ↦ h.left cell (not_below_rest rest c m cell g (omega (arith, less))) ∙ after_group rest c m cell g less
   | inr le ↦ absurd (not (λ k d w. let a = g.above k d w in omega (arith, a, le)))
 ]
 
@@ -204,7 +204,7 @@ race_in_front : (columns : List (List Node)) (xs rest : List NodeAccess) (report
     → c < cell → ⊥
 race_in_front columns xs rest reports c m h g cell later earlier below r l =
     none_in_none columns (accesses_to cell xs)
-    (h.left cell (not_below_rest rest c m cell g (omega (arith, l))) ∙ (behind_group rest c m cell g l
+    (h.left cell (not_below_rest rest c m cell g (omega (arith, l))) ∙ (after_group rest c m cell g l
     ∙ accesses_to-others cell (drop m rest) (λ k d w e. let b = below k d w in omega (arith, b, e)))) later earlier r
 
 -- a group without a race
@@ -212,7 +212,7 @@ pub progress_without : (columns : List (List Node)) (xs rest : List NodeAccess) 
     → IsProgress columns xs rest reports → IsGroup rest c m → CellHasNoRace columns (noted_all (take m rest))
     → IsProgress columns xs (drop m rest) reports
 progress_without columns xs rest reports c m h g none = record {
-  left = left_behind columns xs rest reports c m h g;
+  left = left_after columns xs rest reports c m h g;
   sorted = IsNonDecreasingBy-drop cell_of m rest h.sorted;
   each = h.each;
   below = λ r among. All-drop (λ a. r.cell.0 < cell_of a) m rest (h.below r among);
@@ -236,7 +236,7 @@ pub progress_with : (columns : List (List Node)) (xs rest : List NodeAccess) (re
     → IsProgress columns xs rest reports → IsGroup rest c m → ReportsFirstRace columns (noted_all (take m rest)) r
     → r.cell.0 ≡ c → IsProgress columns xs (drop m rest) (reports ++ r ∷ [])
 progress_with columns xs rest reports c m r h g told e = record {
-  left = left_behind columns xs rest reports c m h g;
+  left = left_after columns xs rest reports c m h g;
   sorted = IsNonDecreasingBy-drop cell_of m rest h.sorted;
   each = λ x among. elim (among_either x reports (r ∷ []) among) [
     | inl old ↦ h.each x old

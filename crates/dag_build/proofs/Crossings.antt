@@ -11,7 +11,7 @@ use Rattle.dag_build.specs.Landings.{CrossesFrom, NoneCross}
 -- the last instance whose number is at most s, at index `from` or later
 record HasLast (left : List Node) (s : ℤ) (from : ℕ) : Type 0 where
   place : ℕ
-  behind : from ≤ place
+  following : from ≤ place
   last : IsLastUpTo left place s
 
 -- it exists if the number at `from` is at most s: by induction on the number d of later instances
@@ -19,13 +19,13 @@ last_up_to : (left : List Node) (s : ℤ) → IsRising left → (d from : ℕ) �
     → (node_at left from).number ≤ℤ s → HasLast left s from
 last_up_to left s rising zero from e h = record {
   place = from;
-  behind = omega arith;
+  following = omega arith;
   last = record { within = omega arith; up_to = h; last = λ k l w. absurd (omega arith) };
 }
 last_up_to left s rising (suc d) from e h = by_lt_z s (node_at left (from + 1)).number
     (λ above. record {
       place = from;
-      behind = omega arith;
+      following = omega arith;
       last = record {
         within = omega arith;
         up_to = h;
@@ -40,8 +40,8 @@ last_up_to left s rising (suc d) from e h = by_lt_z s (node_at left (from + 1)).
     })
     (λ below.
     let r = last_up_to left s rising d (from + 1) (omega (arith, e)) below in
-    let behind = r.behind in
-    record { place = r.place; behind = omega (arith, behind); last = r.last })
+    let following = r.following in
+    record { place = r.place; following = omega (arith, following); last = r.last })
 
 -- an instance that waits has an edge from the last instance whose number is at most its own
 pub crossed_by_wait : (left right : List Node) (from k : ℕ) → IsRising left → from < length left → k < length right
@@ -49,7 +49,7 @@ pub crossed_by_wait : (left right : List Node) (from k : ℕ) → IsRising left 
     → CrossesFrom left right from k
 crossed_by_wait left right from k rising w v kind h =
     let r = last_up_to left (node_at right k).number rising (length left - from - 1) from (omega arith) h in
-    (r.place, r.behind, WaitCross r.place k v kind r.last)
+    (r.place, r.following, WaitCross r.place k v kind r.last)
 
 -- there is an edge from head to head
 pub crossed_by_head : (left right : List Node) (from k : ℕ) → from < length left → k < length right → k ≡ 0 → from ≡ 0

@@ -87,7 +87,7 @@ impl Dag {
     }
 
     // The same, given the fronts of the accesses before `later`, in its column or a later one.
-    fn race_behind(&self, fronts: Fronts, accesses: &[NodeAccess], later: usize) -> Option<usize>
+    fn racing_before(&self, fronts: Fronts, accesses: &[NodeAccess], later: usize) -> Option<usize>
         requires inside { All (IsAccessOf self.now) accesses.now }
         requires within { later < length accesses.now }
         requires fronts { AreFronts self.now (noted_all accesses.now) later fronts }
@@ -121,7 +121,7 @@ impl Dag {
             let access = accesses[later];
             let column = access.node.iteration as usize;
             fronts = fronts.moved(self, fronts.column.max(column));
-            if let Some(earlier) = self.race_behind(fronts, accesses, later) {
+            if let Some(earlier) = self.racing_before(fronts, accesses, later) {
                 return Some((earlier, later));
             }
             let here = self.moved(column, access.node.index as usize, fronts.column);

@@ -163,10 +163,10 @@ nested_lifts {us} a b p l = record { lift = inside }
   where
     inside : (n : ℕ) (rest other : List Symbol) → peak n rest ≤ peak (suc n) other → peak n ((a ∷ (us ++ b ∷ [])) ++ rest) ≤ peak (suc n) ((a ∷ (us ++ b ∷ [])) ++ other)
     inside n rest other h =
-        let behind : peak (suc n) (b ∷ rest) ≤ peak (suc (suc n)) (b ∷ other) =
+        let following : peak (suc n) (b ∷ rest) ≤ peak (suc (suc n)) (b ∷ other) =
         rw (peak_close n a b rest p, peak_close (suc n) a b other p) (greater_both (suc n) (peak n rest) (suc (suc n)) (peak (suc n) other) (omega arith) h) in
         rw (append_assoc us (b ∷ []) rest, append_assoc us (b ∷ []) other, peak_open n a b (us ++ b ∷ rest) p, peak_open (suc n) a b (us ++ b ∷ other) p)
-        (greater_both n (peak (suc n) (us ++ b ∷ rest)) (suc n) (peak (suc (suc n)) (us ++ b ∷ other)) (omega arith) (l.lift (suc n) (b ∷ rest) (b ∷ other) behind))
+        (greater_both n (peak (suc n) (us ++ b ∷ rest)) (suc n) (peak (suc (suc n)) (us ++ b ∷ other)) (omega arith) (l.lift (suc n) (b ∷ rest) (b ∷ other) following))
 
 -- without the outer brackets
 pub fewer_deep : {us ts : List Symbol} (a b : Symbol) → IsPair a b → Lifts us → NoDeeper us ts → NoDeeper us (a ∷ (ts ++ b ∷ []))
@@ -384,12 +384,12 @@ most_within bound o c [] h = (let x = h [] [] refl in omega (arith, x))
 most_within bound o c (t ∷ ts) h =
     let here = h [] (t ∷ ts) refl in
     greater_least (o - c) (most_open (o + ones (is_opening_bracket t)) (c + ones (is_closing_bracket t)) ts) bound (omega (arith, here))
-    (most_within bound (o + ones (is_opening_bracket t)) (c + ones (is_closing_bracket t)) ts (λ before after e. behind before after e (h (t ∷ before) after (ap (λ x. t ∷ x) e))))
+    (most_within bound (o + ones (is_opening_bracket t)) (c + ones (is_closing_bracket t)) ts (λ before after e. following before after e (h (t ∷ before) after (ap (λ x. t ∷ x) e))))
   where
-    behind : (before after : List Symbol) → ts ≡ before ++ after
+    following : (before after : List Symbol) → ts ≡ before ++ after
         → (o + count_by is_opening_bracket (t ∷ before)) - (c + count_by is_closing_bracket (t ∷ before)) ≤ bound
         → ((o + ones (is_opening_bracket t)) + count_by is_opening_bracket before) - ((c + ones (is_closing_bracket t)) + count_by is_closing_bracket before) ≤ bound
-    behind before after e g = let x = counted is_opening_bracket t before in let y = counted is_closing_bracket t before in omega (arith, g, x, y)
+    following before after e g = let x = counted is_opening_bracket t before in let y = counted is_closing_bracket t before in omega (arith, g, x, y)
 
 -- the count after each prefix is at most the peak
 within_peak : (n : ℕ) (before after : List Symbol) → (n + count_by is_opening_bracket before) - count_by is_closing_bracket before ≤ peak n (before ++ after)

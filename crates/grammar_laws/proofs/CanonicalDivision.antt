@@ -156,8 +156,8 @@ levelled_opens needed own text rest o = by_test (nat_le needed own)
 
 sides_open : (code la lb : ℕ) (a b rest : List ℕ) → ((more : List ℕ) → Opens (a ++ more)) → Opens (two_place code la lb a b ++ rest)
 sides_open code la lb a b rest o =
-    let behind = codes " " ++ (operator_text code ++ (codes " " ++ at_level (level_of code + 1) lb b)) in
-    subst Opens (sym (append_assoc (at_level (level_of code) la a) behind rest)) (levelled_opens (level_of code) la a (behind ++ rest) o)
+    let following = codes " " ++ (operator_text code ++ (codes " " ++ at_level (level_of code + 1) lb b)) in
+    subst Opens (sym (append_assoc (at_level (level_of code) la a) following rest)) (levelled_opens (level_of code) la a (following ++ rest) o)
 
 -- an expression does not begin with an equals sign
 expression_opens : (e : Expression) → IsWritable e → (rest : List ℕ) → Opens (expression_text e ++ rest)
@@ -339,11 +339,11 @@ cell_writing : (d : Declaration) → IsName d.name → IsWritableSize d.size →
 cell_writing d n s v =
     line_writing 0 (any_edge (word_then (codes "cell") 6 refl refl
     (both (name d.name n) (size_writing d.size s (next is (value_writing d.value v end (λ rest. refl))))
-    (λ rest g. edge_behind d.size rest))))
+    (λ rest g. edge_after d.size rest))))
   where
-    edge_behind : (size : Option ℤ) (rest : List ℕ) → SymbolEdge ((size_text size ++ (codes " = " ++ (signed_decimal d.value ++ codes ";"))) ++ rest)
-    edge_behind None rest = refl
-    edge_behind (Some z) rest = refl
+    edge_after : (size : Option ℤ) (rest : List ℕ) → SymbolEdge ((size_text size ++ (codes " = " ++ (signed_decimal d.value ++ codes ";"))) ++ rest)
+    edge_after None rest = refl
+    edge_after (Some z) rest = refl
 
 -- the pieces of a declaration before those of others
 cell_symbols : (d : Declaration) (more : List Piece)

@@ -54,8 +54,8 @@ front_shallow ts before t after h s = record {
     not_empty (x ∷ a) = some_left x (a ++ t ∷ after)
 
 -- the same symbols followed by more
-put_behind : (ts before : List Symbol) (t : Symbol) (after more : List Symbol) → ts ≡ before ++ t ∷ after → ts ++ more ≡ before ++ t ∷ (after ++ more)
-put_behind ts before t after more h = ap (λ x. x ++ more) h ∙ append_assoc before (t ∷ after) more
+put_after : (ts before : List Symbol) (t : Symbol) (after more : List Symbol) → ts ≡ before ++ t ∷ after → ts ++ more ≡ before ++ t ∷ (after ++ more)
+put_after ts before t after more h = ap (λ x. x ++ more) h ∙ append_assoc before (t ∷ after) more
 
 fault_moved : {ts us : List Symbol} {rule : GrammarRule} {k m : ℕ} → ts ≡ us → k ≡ m → FirstFault us rule m → FirstFault ts rule k
 fault_moved {ts} {us} {rule} {k} {m} h i f = subst (λ x. FirstFault x rule k) (sym h) (subst (λ x. FirstFault us rule x) (sym i) f)
@@ -70,7 +70,7 @@ unexpected_at cut more n k u (t ∷ after) e l m h =
     let split : cut ≡ u.before ++ t ∷ after = u.split ∙ ap (λ x. u.before ++ x) e in
     let many : length cut ≡ length u.before + length (t ∷ after) = ap length split ∙ length-append u.before (t ∷ after) in
     let place : k ≡ length u.before = omega (arith, many, m, u.many, ap length e) in
-    fault_moved (put_behind cut u.before t after more split) place
+    fault_moved (put_after cut u.before t after more split) place
     (UnexpectedSymbol u.before t (after ++ more)
     (record { front = u.front; shallow = front_shallow cut u.before t after h split; short = u.short }) (u.only t after e))
 
@@ -105,7 +105,7 @@ first_too_long cut more n k v c m h =
     let many : length cut ≡ length x.before + length (x.t ∷ x.after) = ap length x.split ∙ length-append x.before (x.t ∷ x.after) in
     let here : cut ≡ (x.before ++ x.t ∷ []) ++ x.after = x.split ∙ sym (append_assoc x.before (x.t ∷ []) x.after) in
     let place : k ≡ length x.before = omega (arith, many, m, x.many) in
-    fault_moved (put_behind cut x.before x.t x.after more x.split) place
+    fault_moved (put_after cut x.before x.t x.after more x.split) place
     (FirstTooLong x.before x.t (x.after ++ more)
     (record { front = x.front; shallow = front_shallow cut x.before x.t x.after h x.split; short = x.short })
     (shallow_here cut n c (x.before ++ x.t ∷ []) x.after x.many here h) x.ends)

@@ -74,13 +74,13 @@ stage_then longest ts wants h f = record { left = f.left; verdict = stage_number
 some_inside : (inside : List Symbol) (n : ℕ) → length inside ≡ suc n → inside ≢ []
 some_inside inside n h = λ e. absurd (omega (arith, h, ap length e))
 
-behind_more : (before : List Piece) (inside rest : List Symbol) → length rest ≤ length (flat before ++ (inside ++ rest))
-behind_more before inside rest = omega (arith, length-append (flat before) (inside ++ rest), length-append inside rest)
+after_more : (before : List Piece) (inside rest : List Symbol) → length rest ≤ length (flat before ++ (inside ++ rest))
+after_more before inside rest = omega (arith, length-append (flat before) (inside ++ rest), length-append inside rest)
 
 -- the symbols of a full expression that is passed, and the sign after it
-passed_split : (ts : List Symbol) (sign : ℕ) (before : List Piece) (behind : List Symbol)
-    → flat (FullExpression ts ∷ Single (symbols.Sign sign) ∷ before) ++ behind ≡ ts ++ symbols.Sign sign ∷ (flat before ++ behind)
-passed_split ts sign before behind = append_assoc ts (symbols.Sign sign ∷ flat before) behind
+passed_split : (ts : List Symbol) (sign : ℕ) (before : List Piece) (following : List Symbol)
+    → flat (FullExpression ts ∷ Single (symbols.Sign sign) ∷ before) ++ following ≡ ts ++ symbols.Sign sign ∷ (flat before ++ following)
+passed_split ts sign before following = append_assoc ts (symbols.Sign sign ∷ flat before) following
 
 no_piece : (after : List Piece) (x : Piece) (before : List Piece) → [] ≡ before ++ x ∷ after → ⊥
 no_piece after x [] h = cc (h)
@@ -111,7 +111,7 @@ finds_too_long longest inside more after rest h (OverFull {wants = wants} {ts = 
     let tail : ps ≡ before ++ FullExpression (inside ++ more) ∷ after = cc (s) in
     rw (first, second) (finds_moved (passed_split ts sign before (inside ++ rest))
     (over_or_past longest ts sign (flat before ++ (inside ++ rest)) rest wants d n (swapped (cases_lt longest (length ts)))
-    (behind_more before inside rest) (finds_too_long longest inside more after rest h w before tail)))
+    (after_more before inside rest) (finds_too_long longest inside more after rest h w before tail)))
 finds_too_long longest inside more after rest h (OverStage {wants = wants} {ts = ts} {e = e} d w) [] s =
     let same : ts ≡ inside ++ more = cc (s) in
     let d = subst (λ x. Derives any_expression x e) same d in
@@ -127,7 +127,7 @@ finds_too_long longest inside more after rest h (OverStage {wants = wants} {ts =
     (stage_then longest (ts ++ symbols.Sign 41 ∷ (flat before ++ (inside ++ rest))) wants
     (derived_begins d (symbols.Sign 41 ∷ (flat before ++ (inside ++ rest))))
     (over_or_past longest ts 41 (flat before ++ (inside ++ rest)) rest wants d (λ x. absurd (omega (arith, x))) (swapped (cases_lt longest (length ts)))
-    (behind_more before inside rest) (finds_too_long longest inside more after rest h w before tail))))
+    (after_more before inside rest) (finds_too_long longest inside more after rest h w before tail))))
 
 -- the machine rejects a prefix that ends too long there or earlier, whatever follows
 pub too_long_found : (ts rest : List Symbol) → EndsTooLong ts → FindsTooLong 256 (ts ++ rest) program rest

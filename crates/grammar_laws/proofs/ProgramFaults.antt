@@ -49,11 +49,11 @@ reached_outside ps wants t (Inside n i left) f g =
     Within ps (t ∷ []) n i left (sym g.0) (ap (λ o. expression.and_run o (expression.run [])) g.1) (λ ts e qs d c. f (FullExpression ts ∷ qs) (g.2 ts e qs d c))
 
 -- a symbol after a full expression that ends
-reached_behind : (ps : List Piece) (inside : List Symbol) (wants : List Want) (t : Symbol) (s : MachineState)
+reached_after : (ps : List Piece) (inside : List Symbol) (wants : List Want) (t : Symbol) (s : MachineState)
     → ((ts : List Symbol) (e : Expression) (qs : List Piece) → Derives any_expression ts e → Completes wants qs → Completes program (ps ++ FullExpression ts ∷ qs))
     → inner.IsExpression inside → step wants t ≡ Some s
     → Reached ((flat ps ++ inside) ++ t ∷ []) s
-reached_behind ps inside wants t s f x h =
+reached_after ps inside wants t s f x h =
     let same : flat (ps ++ FullExpression inside ∷ []) ++ t ∷ [] ≡ (flat ps ++ inside) ++ t ∷ [] =
     ap (λ us. us ++ t ∷ []) (flat_append ps (FullExpression inside ∷ []) ∙ ap (λ us. flat ps ++ us) (append-nil inside)) in
     reached_moved same (reached_outside (ps ++ FullExpression inside ∷ []) wants t s
@@ -70,7 +70,7 @@ reached_inside ps inside n i wants t s (Some mid) b e m l r f h =
     let ran = runs.run_then inside (t ∷ []) whole i r ∙ ap (λ o. expression.and_run o (expression.run [])) e in
     subst (Reached ((flat ps ++ inside) ++ t ∷ [])) same
     (reached_moved (sym (append_assoc (flat ps) inside (t ∷ []))) (Within ps (inside ++ t ∷ []) (suc n) mid wants many ran f))
-reached_inside ps inside n i wants t s None true e m l r f h = reached_behind ps inside wants t s f (inner.run_ended inside i r m) h
+reached_inside ps inside n i wants t s None true e m l r f h = reached_after ps inside wants t s f (inner.run_ended inside i r m) h
 reached_inside ps inside n i wants t s None false e m l r f h = absurd (cc (h))
 
 reached_next : {ts : List Symbol} {s : MachineState} → Reached ts s → (t : Symbol) (s' : MachineState) → next s t ≡ Some s' → Reached (ts ++ t ∷ []) s'
@@ -241,25 +241,25 @@ too_long_here longest inside more rest wants d h =
     record { left = suc (length rest); verdict = over_full longest inside rest r.left wants r.ran h; more = omega arith }
 
 -- the machine passes a full expression on the way, or finds that it is too long
-pub over_or_past : {e : Expression} (longest : ℕ) (ts : List Symbol) (sign : ℕ) (behind rest : List Symbol) (wants : List Want) → Derives any_expression ts e → sign ≢ 91
-    → (length ts ≤ longest) ⊎ (longest < length ts) → length rest ≤ length behind
-    → FindsTooLong longest behind wants rest
-    → FindsTooLong longest (ts ++ symbols.Sign sign ∷ behind) (machine.FullExpression ∷ Sign sign ∷ wants) rest
-over_or_past longest ts sign behind rest wants d n (inl c) m f =
+pub over_or_past : {e : Expression} (longest : ℕ) (ts : List Symbol) (sign : ℕ) (following rest : List Symbol) (wants : List Want) → Derives any_expression ts e → sign ≢ 91
+    → (length ts ≤ longest) ⊎ (longest < length ts) → length rest ≤ length following
+    → FindsTooLong longest following wants rest
+    → FindsTooLong longest (ts ++ symbols.Sign sign ∷ following) (machine.FullExpression ∷ Sign sign ∷ wants) rest
+over_or_past longest ts sign following rest wants d n (inl c) m f =
     let same : (sign == sign) ≡ true = grind arith in
-    let step : judge longest (symbols.Sign sign ∷ behind) (Outside (Sign sign ∷ wants)) ≡ judge longest behind (Outside wants) = rw same refl in
-    record { left = f.left; verdict = passes_full (found_full sign behind n d c) (Sign sign ∷ wants) ∙ step ∙ f.verdict; more = f.more }
-over_or_past {e} longest ts sign behind rest wants d n (inr c) m f =
+    let step : judge longest (symbols.Sign sign ∷ following) (Outside (Sign sign ∷ wants)) ≡ judge longest following (Outside wants) = rw same refl in
+    record { left = f.left; verdict = passes_full (found_full sign following n d c) (Sign sign ∷ wants) ∙ step ∙ f.verdict; more = f.more }
+over_or_past {e} longest ts sign following rest wants d n (inr c) m f =
     let front = take (suc longest) ts in
     let back = drop (suc longest) ts in
     let whole_of : front ++ back ≡ ts = take-append-drop (suc longest) ts in
     let many : length front ≡ suc longest = omega (arith, length-take (suc longest) ts, c) in
-    let t = too_long_here longest front back (back ++ symbols.Sign sign ∷ behind) (Sign sign ∷ wants)
+    let t = too_long_here longest front back (back ++ symbols.Sign sign ∷ following) (Sign sign ∷ wants)
     (subst (λ x. Derives any_expression x e) (sym whole_of) d) many in
-    let same : ts ++ symbols.Sign sign ∷ behind ≡ front ++ (back ++ symbols.Sign sign ∷ behind) =
-    ap (λ x. x ++ symbols.Sign sign ∷ behind) (sym whole_of) ∙ append_assoc front back (symbols.Sign sign ∷ behind) in
+    let same : ts ++ symbols.Sign sign ∷ following ≡ front ++ (back ++ symbols.Sign sign ∷ following) =
+    ap (λ x. x ++ symbols.Sign sign ∷ following) (sym whole_of) ∙ append_assoc front back (symbols.Sign sign ∷ following) in
     record {
       left = t.left;
       verdict = ap (λ x. judge longest x (Outside (machine.FullExpression ∷ Sign sign ∷ wants))) same ∙ t.verdict;
-      more = omega (arith, t.more, m, length-append back (symbols.Sign sign ∷ behind));
+      more = omega (arith, t.more, m, length-append back (symbols.Sign sign ∷ following));
     }

@@ -59,8 +59,8 @@ sound_cells longest (ReadsNoCell ts h) = record { taken = []; split = refl; deri
 sound_cells longest (ReadsCellThen r rs) = took_cell r (sound_cells longest rs)
 
 -- the pieces of a program after its limits
-abbrev behind_limits : (cs is : List Piece) (ts : List Symbol) (bs ls : List Piece) → List Piece
-behind_limits cs is ts bs ls = cs ++ (is ++ Single word_pipe_while ∷ Single open_round ∷ FullExpression ts ∷ Single close_round ∷ (bs ++ ls))
+abbrev after_limits : (cs is : List Piece) (ts : List Symbol) (bs ls : List Piece) → List Piece
+after_limits cs is ts bs ls = cs ++ (is ++ Single word_pipe_while ∷ Single open_round ∷ FullExpression ts ∷ Single close_round ∷ (bs ++ ls))
 
 loop_split : (ts us vs taken : List Symbol) (bs ls : List Piece) → ts ≡ taken ++ close_round ∷ us → us ≡ flat bs ++ vs → vs ≡ flat ls ++ []
     → ts ≡ taken ++ close_round ∷ flat (bs ++ ls)
@@ -69,7 +69,7 @@ loop_split ts us vs taken bs ls h i j =
 
 program_split : (cs is bs ls : List Piece) (xs ys ts us vs taken : List Symbol) → xs ≡ flat cs ++ ys
     → ys ≡ flat is ++ word_pipe_while ∷ open_round ∷ ts → ts ≡ taken ++ close_round ∷ us → us ≡ flat bs ++ vs → vs ≡ flat ls ++ []
-    → xs ≡ flat (behind_limits cs is taken bs ls)
+    → xs ≡ flat (after_limits cs is taken bs ls)
 program_split cs is bs ls xs ys ts us vs taken h i j k l =
     h ∙ ap (λ x. flat cs ++ x) (i ∙ ap (λ x. flat is ++ word_pipe_while ∷ open_round ∷ x) (loop_split ts us vs taken bs ls j k l)
     ∙ sym (flat_append is (Single word_pipe_while ∷ Single open_round ∷ FullExpression taken ∷ Single close_round ∷ (bs ++ ls))))
@@ -91,7 +91,7 @@ sound_program {longest} (ReadsAll {cs = xs} {is = ys} {ts = ts} {us = us} {vs = 
     let b = sound_block b in
     let l = sound_part l in
     record {
-      taken = limits_before iterations stages steps emits (behind_limits c.taken i.taken e.taken b.taken l.taken);
+      taken = limits_before iterations stages steps emits (after_limits c.taken i.taken e.taken b.taken l.taken);
       split =
           ap (λ x. flat (limits_before iterations stages steps emits []) ++ x)
           (program_split c.taken i.taken b.taken l.taken xs ys ts us vs e.taken c.split i.split e.split b.split l.split);
@@ -148,9 +148,9 @@ moved_program {longest} {p = p} h r = subst (λ x. ReadsProgram longest x p) (sy
 part_at_end : {longest word : ℕ} {ss : Statements} (ps : List Piece) → ReadsPart longest word (flat ps ++ []) ss [] → ReadsPart longest word (flat ps) ss []
 part_at_end {longest} {word} {ss} ps r = subst (λ x. ReadsPart longest word x ss []) (append-nil (flat ps)) r
 
-behind_limits_flat : (cs is : List Piece) (ts : List Symbol) (bs ls : List Piece)
-    → flat (behind_limits cs is ts bs ls) ≡ flat cs ++ (flat is ++ word_pipe_while ∷ open_round ∷ loop_symbols ts bs ls)
-behind_limits_flat cs is ts bs ls =
+after_limits_flat : (cs is : List Piece) (ts : List Symbol) (bs ls : List Piece)
+    → flat (after_limits cs is ts bs ls) ≡ flat cs ++ (flat is ++ word_pipe_while ∷ open_round ∷ loop_symbols ts bs ls)
+after_limits_flat cs is ts bs ls =
     flat_append cs (is ++ Single word_pipe_while ∷ Single open_round ∷ FullExpression ts ∷ Single close_round ∷ (bs ++ ls))
     ∙ ap (λ x. flat cs ++ x) (flat_append is (Single word_pipe_while ∷ Single open_round ∷ FullExpression ts ∷ Single close_round ∷ (bs ++ ls)))
     ∙ ap (λ x. flat cs ++ (flat is ++ word_pipe_while ∷ open_round ∷ (ts ++ close_round ∷ x))) (flat_append bs ls)
@@ -159,15 +159,15 @@ behind_limits_flat cs is ts bs ls =
 pub found_program : {longest : ℕ} {ps : List Piece} {p : SyntaxTree} → DerivesProgram ps p → AreShort longest ps → ReadsProgram longest (flat ps) p
 found_program {longest} (ProgramIs {cs} {is} {bs} {ls} {ts} iterations stages steps emits c i e b l) a =
     let loop = Single word_pipe_while ∷ Single open_round ∷ FullExpression ts ∷ Single close_round ∷ (bs ++ ls) in
-    let behind = short_back longest is loop (short_back longest cs (is ++ loop) a) in
-    moved_program (ap (λ x. flat (limits_before iterations stages steps emits []) ++ x) (behind_limits_flat cs is ts bs ls))
+    let following = short_back longest is loop (short_back longest cs (is ++ loop) a) in
+    moved_program (ap (λ x. flat (limits_before iterations stages steps emits []) ++ x) (after_limits_flat cs is ts bs ls))
     (ReadsAll iterations stages steps emits
     (found_cells c (flat is ++ word_pipe_while ∷ open_round ∷ loop_symbols ts bs ls) (begins_no_cell i (open_round ∷ loop_symbols ts bs ls)))
     (found_part i (short_front longest is loop (short_back longest cs (is ++ loop) a)) (word_pipe_while ∷ open_round ∷ loop_symbols ts bs ls)
     (λ x. absurd (omega (arith, x))))
-    (found_full 41 (flat bs ++ flat ls) (λ x. absurd (omega (arith, x))) e behind.0)
-    (found_block b (short_front longest bs ls behind.1) (flat ls))
-    (part_at_end ls (found_part l (short_back longest bs ls behind.1) [] tt)))
+    (found_full 41 (flat bs ++ flat ls) (λ x. absurd (omega (arith, x))) e following.0)
+    (found_block b (short_front longest bs ls following.1) (flat ls))
+    (part_at_end ls (found_part l (short_back longest bs ls following.1) [] tt)))
 
 -- ---- two readings of the same symbols are one
 
@@ -181,16 +181,16 @@ one_value : {ts rest rest' : List Symbol} {v v' : ℤ} → ReadsValue ts v rest 
 one_value (ReadsValueIs n rest) (ReadsValueIs n' rest') = record { tree = refl; left = refl }
 one_value (ReadsNegativeValue n rest) (ReadsNegativeValue n' rest') = record { tree = refl; left = refl }
 
-same_behind : {ts us : List Symbol} (t : Symbol) → t ∷ ts ≡ t ∷ us → ts ≡ us
-same_behind t h = cc (h)
+same_after : {ts us : List Symbol} (t : Symbol) → t ∷ ts ≡ t ∷ us → ts ≡ us
+same_after t h = cc (h)
 
 one_cell : {ts rest rest' : List Symbol} {d d' : Declaration} → ReadsCell ts d rest → ReadsCell ts d' rest' → SameReading Declaration d d' rest rest'
 one_cell (ReadsCellIs name s v) (ReadsCellIs name' s' v') =
     let p = one_size s s' in
-    let q = one_value v (moved_value (same_behind equals p.left) v') in
+    let q = one_value v (moved_value (same_after equals p.left) v') in
     let i = p.tree in
     let j = q.tree in
-    record { tree = cc (i, j); left = same_behind semicolon q.left }
+    record { tree = cc (i, j); left = same_after semicolon q.left }
 
 -- declarations are read in one way
 pub one_cells : {ts rest rest' : List Symbol} {ds ds' : List Declaration} → ReadsCells ts ds rest → ReadsCells ts ds' rest'
@@ -216,7 +216,7 @@ one_read_program {longest} (ReadsAll {is = is} {ts = ts} {us = us} {vs = vs} ite
     let o = one_cells c c' in
     let p = one_part i (moved_part o.left i') refl in
     let q = one_full e (subst (λ x. ReadsFull longest x test' (close_round ∷ us')) (sym (same_test p.left)) e') in
-    let r = one_block b (moved_block (same_behind close_round q.left) b') in
+    let r = one_block b (moved_block (same_after close_round q.left) b') in
     let s = one_part l (moved_part r.left l') refl in
     let m = o.tree in
     let n = p.tree in

@@ -98,9 +98,9 @@ same_comment x y u v h i r = by_more r.more refl
     by_more : (m : List ℕ) → r.more ≡ m → (x ≡ y) × (u ≡ v)
     by_more [] e = (sym (r.front ∙ ap (λ m. x ++ m) e ∙ append-nil x), r.rest ∙ ap (λ m. m ++ v) e)
     by_more (c ∷ m) e =
-        let behind : u ≡ c ∷ (m ++ v) = r.rest ∙ ap (λ m. m ++ v) e in
+        let following : u ≡ c ∷ (m ++ v) = r.rest ∙ ap (λ m. m ++ v) e in
         let whole : y ≡ x ++ c ∷ m = r.front ∙ ap (λ m. x ++ m) e in
-        absurd (no_feed_inside x m c (rw behind at h.ends) (rw whole at i.inside))
+        absurd (no_feed_inside x m c (rw following at h.ends) (rw whole at i.inside))
 
 -- bytes begin with at most one comment
 one_comment : (x y u v : List ℕ) → IsComment x u → IsComment y v → x ++ u ≡ y ++ v → (x ≡ y) × (u ≡ v)
@@ -148,13 +148,13 @@ taken place text (Some s) = token_at place text s ∷ []
 -- a scan goes past the blank, comment or token with which the bytes begin
 record IsPast (place : ℕ) (bytes : List ℕ) (tokens : List Token) (rest : List ℕ) : Type 0 where
   pub text : List ℕ
-  pub behind : List ℕ
+  pub following : List ℕ
   pub symbol : Option Symbol
   pub others : List Token
-  pub stands : Stands text behind symbol
-  pub parts : bytes ≡ text ++ behind
+  pub stands : Stands text following symbol
+  pub parts : bytes ≡ text ++ following
   pub first : tokens ≡ taken place text symbol ++ others
-  pub scan : Scans (place + length text) behind others rest
+  pub scan : Scans (place + length text) following others rest
 
 -- a scan stops at once or goes past something
 past_or_not : {place : ℕ} {bytes rest : List ℕ} {tokens : List Token} → Scans place bytes tokens rest
@@ -162,11 +162,11 @@ past_or_not : {place : ℕ} {bytes rest : List ℕ} {tokens : List Token} → Sc
 unfolding taken
 past_or_not (Stops place rest) = inl (refl, refl)
 past_or_not (Blank {bytes} {tokens} b g d) =
-    inr (record { text = b ∷ []; behind = bytes; symbol = None; others = tokens; stands = ABlank b bytes g; parts = refl; first = refl; scan = d })
+    inr (record { text = b ∷ []; following = bytes; symbol = None; others = tokens; stands = ABlank b bytes g; parts = refl; first = refl; scan = d })
 past_or_not (Comment {bytes} {tokens} text h d) =
-    inr (record { text = text; behind = bytes; symbol = None; others = tokens; stands = AComment text bytes h; parts = refl; first = refl; scan = d })
+    inr (record { text = text; following = bytes; symbol = None; others = tokens; stands = AComment text bytes h; parts = refl; first = refl; scan = d })
 past_or_not (Taken {bytes} {tokens} text s t d) =
-    inr (record { text = text; behind = bytes; symbol = Some s; others = tokens; stands = AToken text bytes s t; parts = refl; first = refl; scan = d })
+    inr (record { text = text; following = bytes; symbol = Some s; others = tokens; stands = AToken text bytes s t; parts = refl; first = refl; scan = d })
 
 -- of two scans of the same bytes, the second continues where the first stops
 pub record GoesFurther (tokens further : List Token) (rest end : List ℕ) : Type 0 where
@@ -186,11 +186,11 @@ with_front xs tokens others rest end (inr f) =
     inr (record { more = f.more; place = f.place; parts = ap (λ y. xs ++ y) f.parts ∙ sym (append_assoc xs others f.more); scan = f.scan })
 
 -- two scans that go past the same text meet if they meet after it
-past_same : (place : ℕ) (text behind bytes rest end : List ℕ) (o : Option Symbol) (tokens others : List Token)
-    → Stands text behind o → ((us : List Token) → Scans (place + length text) behind us end → Meet tokens us rest end)
-    → Scans place (text ++ behind) (taken place text o ++ tokens) rest
-    → Scans place bytes others end → text ++ behind ≡ bytes → Meet (taken place text o ++ tokens) others rest end
-past_same place text behind bytes rest end o tokens others stands meets whole d e = elim (past_or_not d) [
+past_same : (place : ℕ) (text following bytes rest end : List ℕ) (o : Option Symbol) (tokens others : List Token)
+    → Stands text following o → ((us : List Token) → Scans (place + length text) following us end → Meet tokens us rest end)
+    → Scans place (text ++ following) (taken place text o ++ tokens) rest
+    → Scans place bytes others end → text ++ following ≡ bytes → Meet (taken place text o ++ tokens) others rest end
+past_same place text following bytes rest end o tokens others stands meets whole d e = elim (past_or_not d) [
   | inl p ↦ inr (record {
     more = taken place text o ++ tokens;
     place = place;
@@ -200,7 +200,7 @@ past_same place text behind bytes rest end o tokens others stands meets whole d 
   | inr p ↦ (
       let same = one_stands stands p.stands (e ∙ p.parts) in
       let first : others ≡ taken place text o ++ p.others = p.first ∙ ap (λ x. taken place x p.symbol ++ p.others) (sym same.text) ∙ ap (λ x. taken place text x ++ p.others) (sym same.symbol) in
-      let scan : Scans (place + length text) behind p.others end = subst (λ x. Scans (place + length x) behind p.others end) (sym same.text) (subst (λ x. Scans (place + length p.text) x p.others end) (sym same.rest) p.scan) in
+      let scan : Scans (place + length text) following p.others end = subst (λ x. Scans (place + length x) following p.others end) (sym same.text) (subst (λ x. Scans (place + length p.text) x p.others end) (sym same.rest) p.scan) in
       rw first (with_front (taken place text o) tokens p.others rest end (meets p.others scan)))
 ]
 
@@ -311,14 +311,14 @@ record StopsAt (source : List ℕ) (place : ℕ) (o : Option Symbol) : Type 0 wh
   pub stop : IsStop (drop place source) o
 
 -- tokens after a prefix are bounded if all are
-bounded_behind : (front more whole : List Token) → whole ≡ front ++ more → All IsTokenWithinBounds whole → All IsTokenWithinBounds more
-bounded_behind front more whole e w = rw (← drop-append_seam front more) (All-drop IsTokenWithinBounds (length front) (front ++ more) (rw e at w))
+bounded_after : (front more whole : List Token) → whole ≡ front ++ more → All IsTokenWithinBounds whole → All IsTokenWithinBounds more
+bounded_after front more whole e w = rw (← drop-append_seam front more) (All-drop IsTokenWithinBounds (length front) (front ++ more) (rw e at w))
 
 -- of two stops in one source, neither comes after the other
 same_bytes : (source : List ℕ) (p q : ℕ) (o o' : Option Symbol) → StopsAt source p o → StopsAt source q o' → drop p source ≡ drop q source
 same_bytes source p q o o' s t = elim (scans_meet s.reached.scanned t.reached.scanned refl) [
-  | inl f ↦ stays s.stop f.scan (bounded_behind s.reached.before f.more t.reached.before f.parts t.reached.bounded)
-  | inr f ↦ sym (stays t.stop f.scan (bounded_behind t.reached.before f.more s.reached.before f.parts s.reached.bounded))
+  | inl f ↦ stays s.stop f.scan (bounded_after s.reached.before f.more t.reached.before f.parts t.reached.bounded)
+  | inr f ↦ sym (stays t.stop f.scan (bounded_after t.reached.before f.more s.reached.before f.parts s.reached.bounded))
 ]
 
 -- equal rests of a source that are not empty are at the same offset
@@ -389,7 +389,7 @@ no_fault source tokens f l h = by_fault (by_length_or_stop h)
     by_fault : ((f ≡ SourceTooLong) × (1048576 < length source)) ⊎ IsOfStop source f → ⊥
     by_fault (inl p) = omega (arith, p.1, l.short)
     by_fault (inr p) = elim (scans_meet p.stops.reached.scanned l.scanned refl) [
-      | inl m ↦ stop_is_some p.stops.stop (stays p.stops.stop m.scan (bounded_behind p.stops.reached.before m.more tokens m.parts l.bounded))
+      | inl m ↦ stop_is_some p.stops.stop (stays p.stops.stop m.scan (bounded_after p.stops.reached.before m.more tokens m.parts l.bounded))
       | inr m ↦ stop_is_some p.stops.stop (from_end m.scan).0
     ]
 
@@ -411,17 +411,17 @@ stands_in source (b ∷ text) rest place s e h = record {
 }
 
 -- the bytes after a prefix
-pub behind_front : (source text rest : List ℕ) (place : ℕ) → drop place source ≡ text ++ rest → drop (place + length text) source ≡ rest
-behind_front source text rest place e = sym (drop-drop (length text) place source) ∙ ap (λ x. drop (length text) x) e ∙ drop-append_seam text rest
+pub after_front : (source text rest : List ℕ) (place : ℕ) → drop place source ≡ text ++ rest → drop (place + length text) source ≡ rest
+after_front source text rest place e = sym (drop-drop (length text) place source) ∙ ap (λ x. drop (length text) x) e ∙ drop-append_seam text rest
 
 -- each token of a scan is in the source
 all_stand_in : {place : ℕ} {bytes rest : List ℕ} {tokens : List Token} (source : List ℕ) → Scans place bytes tokens rest → drop place source ≡ bytes
     → All (StandsIn source) tokens
 all_stand_in source (Stops place rest) e = All-nil (StandsIn source)
-all_stand_in source (Blank {place} {bytes} b g d) e = all_stand_in source d (behind_front source (b ∷ []) bytes place e)
-all_stand_in source (Comment {place} {bytes} text h d) e = all_stand_in source d (behind_front source text bytes place e)
+all_stand_in source (Blank {place} {bytes} b g d) e = all_stand_in source d (after_front source (b ∷ []) bytes place e)
+all_stand_in source (Comment {place} {bytes} text h d) e = all_stand_in source d (after_front source text bytes place e)
 all_stand_in source (Taken {place} {bytes} {tokens} text s t d) e =
-    All-cons (StandsIn source) (token_at place text s) tokens (stands_in source text bytes place s e t.symbol) (all_stand_in source d (behind_front source text bytes place e))
+    All-cons (StandsIn source) (token_at place text s) tokens (stands_in source text bytes place s e t.symbol) (all_stand_in source d (after_front source text bytes place e))
 
 -- each token of a source is in it, and its text there is that of its symbol
 pub tokens_stand : (source : List ℕ) (tokens : List Token) → HasTokens source tokens → All (StandsIn source) tokens

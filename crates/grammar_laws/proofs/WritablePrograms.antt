@@ -17,7 +17,7 @@ use Rattle.pipe_model.specs.Language.Tokens.{Scans, Stops, Blank, Comment, Taken
 use Rattle.pipe_model.specs.Language.Grammar as grammar
 use Rattle.pipe_model.specs.Language.Grammar.{any_expression, level_of, Derives, Piece, Single, FullExpression, flat, DerivesStatement, DerivesStatements, DerivesBlock, DerivesPart, DerivesSize, DerivesValue, DerivesCells, DerivesProgram}
 use Rattle.grammar_laws.proofs.Pieces.{flat_append}
-use Rattle.grammar_laws.proofs.TokenLaws.{IsWithinBounds, behind_front, bounded_symbol, name_is_text}
+use Rattle.grammar_laws.proofs.TokenLaws.{IsWithinBounds, after_front, bounded_symbol, name_is_text}
 use Rattle.grammar_laws.proofs.Writings.{IsWritingOf, token_is_symbol}
 
 -- ---- symbols
@@ -95,12 +95,12 @@ good_symbol text (symbols.Sign b) e w = tt
 good_scan : {place : ℕ} {bytes rest : List ℕ} {tokens : List Token} (source : List ℕ) → Scans place bytes tokens rest → drop place source ≡ bytes
     → All IsTokenWithinBounds tokens → AreGood (symbols_in source tokens)
 good_scan source (Stops place rest) e w = None'
-good_scan source (Blank {place} {bytes} b g d) e w = good_scan source d (behind_front source (b ∷ []) bytes place e) w
-good_scan source (Comment {place} {bytes} text h d) e w = good_scan source d (behind_front source text bytes place e) w
+good_scan source (Blank {place} {bytes} b g d) e w = good_scan source d (after_front source (b ∷ []) bytes place e) w
+good_scan source (Comment {place} {bytes} text h d) e w = good_scan source d (after_front source text bytes place e) w
 good_scan source (Taken {place} {bytes} {rest} {tokens} text s t d) e w =
     let here = bounded_symbol place text s t.symbol (All-head IsTokenWithinBounds (token_at place text s) tokens w) in
     OneMore' (subst IsGood (sym (token_is_symbol source text bytes place s e t.symbol)) (good_symbol text s t.symbol here))
-    (good_scan source d (behind_front source text bytes place e) (All-tail IsTokenWithinBounds (token_at place text s) tokens w))
+    (good_scan source d (after_front source text bytes place e) (All-tail IsTokenWithinBounds (token_at place text s) tokens w))
 
 good_source : (source : List ℕ) (found : List Symbol) → IsWritingOf source found → AreGood found
 good_source source found s = subst AreGood s.same (good_scan source s.lexed.scanned refl s.lexed.bounded)
@@ -168,8 +168,8 @@ mutual
       (first g, full i (front us _ (others (others g))), full d (front ts _ (others (others (back us _ (others (others g)))))))
   writable_statement (grammar.EmitIs {ts} d) g = full d (front ts _ (others g))
   writable_statement (grammar.IfIs {ts} {ps} {qs} d a b) g =
-      let behind = others (back ts _ (others (others g))) in
-      (full d (front ts _ (others (others g))), writable_block a (pieces_front ps qs behind), writable_part b (pieces_back ps qs behind))
+      let following = others (back ts _ (others (others g))) in
+      (full d (front ts _ (others (others g))), writable_block a (pieces_front ps qs following), writable_part b (pieces_back ps qs following))
   writable_statement (grammar.WhileIs {ts} {ps} d a) g =
       (full d (front ts _ (others (others g))), writable_block a (others (back ts _ (others (others g)))))
   writable_statement (grammar.WaitIs {ts} d) g = full d (front ts _ (others (others g)))

@@ -7,7 +7,7 @@ use Rattle.pipe_model.specs.declared.symbol.Symbol.TheVariants as symbols
 use Rattle.pipe_model.specs.declared.token.Token.{Token}
 use Rattle.pipe_model.specs.Language.Lexis.{is_blank, symbol_of}
 use Rattle.pipe_model.specs.Language.Tokens.{Scans, Stops, Blank, Taken, IsToken, IsTokenWithinBounds, IsLexed, token_at, kind_of, symbol_as, symbol_in, symbols_in}
-use Rattle.grammar_laws.proofs.TokenLaws.{IsWithinBounds, behind_front, name_is_text, symbol_of_kind}
+use Rattle.grammar_laws.proofs.TokenLaws.{IsWithinBounds, after_front, name_is_text, symbol_of_kind}
 
 -- the tokens of the source are these symbols
 pub record IsWritingOf (source : List ℕ) (found : List Symbol) : Type 0 where
@@ -47,10 +47,10 @@ pub written_tokens : {bytes : List ℕ} {found : List Symbol} (source : List ℕ
     → WrittenTokens source place bytes found
 written_tokens source place e Done = record { tokens = []; scanned = Stops place []; bounded = All-nil IsTokenWithinBounds; same = refl }
 written_tokens source place e (Space {bytes} b h w) =
-    let t = written_tokens source (place + 1) (behind_front source (b ∷ []) bytes place e) w in
+    let t = written_tokens source (place + 1) (after_front source (b ∷ []) bytes place e) w in
     record { tokens = t.tokens; scanned = Blank b h t.scanned; bounded = t.bounded; same = t.same }
 written_tokens source place e (Puts {rest} {found} text s k bound w) =
-    let t = written_tokens source (place + length text) (behind_front source text rest place e) w in
+    let t = written_tokens source (place + length text) (after_front source text rest place e) w in
     record {
       tokens = token_at place text s ∷ t.tokens;
       scanned = Taken text s k t.scanned;

@@ -13,8 +13,8 @@ use Rattle.language_laws.proofs.MarkedTokens.{marks_have_places}
 -- a rule that is broken at the first mark or at a later one is broken at one of all marks
 broken_here : (o : Option CheckingRule) (rest : Option Fault) (n many mark : ℕ) (rule : CheckingRule) → (rest ≡ Some (Broken rule mark) → mark < n + 1 + many)
     → fault_or o n rest ≡ Some (Broken rule mark) → mark < n + (1 + many)
-broken_here (Some r) rest n many mark rule behind h = let same : n ≡ mark = cc (h) in omega (arith, same)
-broken_here None rest n many mark rule behind h = let within = behind h in omega (arith, within)
+broken_here (Some r) rest n many mark rule following h = let same : n ≡ mark = cc (h) in omega (arith, same)
+broken_here None rest n many mark rule following h = let within = following h in omega (arith, within)
 
 -- if the first fault of the marks is a broken rule, its mark is one of them
 broken_among : (n mark : ℕ) (marks : List Mark) (rule : CheckingRule) → first_fault n marks ≡ Some (Broken rule mark) → mark < n + length marks
@@ -23,14 +23,14 @@ broken_among n mark (m ∷ marks) rule h =
     let within = broken_here (broken_at m) (first_fault (n + 1) marks) n (length marks) mark rule (broken_among (n + 1) mark marks rule) h in omega (arith, within)
 
 -- if a rule is broken, no limit is out of its range
-behind_limits : (o : Option ℕ) (rest : Option Fault) (rule : CheckingRule) (mark : ℕ) → limit_fault_or o rest ≡ Some (Broken rule mark) → rest ≡ Some (Broken rule mark)
-behind_limits None rest rule mark h = h
-behind_limits (Some which) rest rule mark h = cc (h)
+after_limits : (o : Option ℕ) (rest : Option Fault) (rule : CheckingRule) (mark : ℕ) → limit_fault_or o rest ≡ Some (Broken rule mark) → rest ≡ Some (Broken rule mark)
+after_limits None rest rule mark h = h
+after_limits (Some which) rest rule mark h = cc (h)
 
 -- the mark at which a program breaks a rule is one of its marks
 broken_within : (tree : SyntaxTree) (rule : CheckingRule) (mark : ℕ) → fault_of tree ≡ Some (Broken rule mark) → mark < length (marks_of tree)
 broken_within tree rule mark h =
-    let within = broken_among 0 mark (marks_of tree) rule (behind_limits (first_limit_out tree.limits) (first_fault 0 (marks_of tree)) rule mark h) in
+    let within = broken_among 0 mark (marks_of tree) rule (after_limits (first_limit_out tree.limits) (first_fault 0 (marks_of tree)) rule mark h) in
     omega (arith, within)
 
 -- ---- each mark has an offset
@@ -42,9 +42,9 @@ HasPlace places mark = (place : ℕ) × (slice_get places mark ≡ Some (pos pla
 -- the offsets with those of one more token
 one_more_place : (b : Bool) (place : ℕ) (places : List ℤ) (mark : ℕ) → ((k : ℕ) → k < length places → HasPlace places k)
     → mark < length (if b then pos place ∷ places else places) → HasPlace (if b then pos place ∷ places else places) mark
-one_more_place false place places mark behind h = behind mark h
-one_more_place true place places zero behind h = (place, refl)
-one_more_place true place places (suc k) behind h = behind k (omega (arith, h))
+one_more_place false place places mark following h = following mark h
+one_more_place true place places zero following h = (place, refl)
+one_more_place true place places (suc k) following h = following k (omega (arith, h))
 
 -- each index below the number of marked tokens has an offset
 place_of_mark : (tokens : List Token) (mark : ℕ) → mark < length (mark_places tokens) → HasPlace (mark_places tokens) mark

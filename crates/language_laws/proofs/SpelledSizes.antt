@@ -101,8 +101,8 @@ closed {ps} t m =
     }
 
 -- pieces without statements at the beginning
-behind : {qs : List Piece} {es : List Expression} {n : ℕ} (ps : List Piece) → Measured qs es n → Measured (ps ++ qs) es n
-behind {qs} ps m =
+following : {qs : List Piece} {es : List Expression} {n : ℕ} (ps : List Piece) → Measured qs es n → Measured (ps ++ qs) es n
+following {qs} ps m =
     let split = flat_length ps qs in
     record {
       nodes = (let x = m.nodes in omega (arith, x, split));
@@ -149,4 +149,4 @@ limits_measured iterations stages steps emits m =
 pub measured_program : {ps : List Piece} {tree : SyntaxTree} → DerivesProgram ps tree → Measured ps (expressions_of tree) (statements_in_all tree)
 measured_program (ProgramIs {cs} iterations stages steps emits cells init test body last) =
     limits_measured iterations stages steps emits
-    (behind cs (both (measured_part init) (plain _ (plain _ (full test (plain _ (both (measured_block body) (measured_part last))))))))
+    (following cs (both (measured_part init) (plain _ (plain _ (full test (plain _ (both (measured_block body) (measured_part last))))))))

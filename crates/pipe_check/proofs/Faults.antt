@@ -28,11 +28,11 @@ has_none (Some rule) n x h = absurd (let e : Some _ ≡ None = h in cc (e))
 has_none None n x h = record { follows = h; skips = λ y. refl }
 
 -- after marks without a fault, the first fault is that of what follows
-pub first_behind : (n : ℕ) (a b : List Mark) → first_fault n a ≡ None → first_fault n (a ++ b) ≡ first_fault (n + length a) b
-first_behind n [] b h = ap (λ k. first_fault k b) (omega arith)
-first_behind n (mark ∷ a) b h =
+pub first_after : (n : ℕ) (a b : List Mark) → first_fault n a ≡ None → first_fault n (a ++ b) ≡ first_fault (n + length a) b
+first_after n [] b h = ap (λ k. first_fault k b) (omega arith)
+first_after n (mark ∷ a) b h =
     let none = has_none (broken_at mark) n (first_fault (n + 1) a) h in
-    none.skips (first_fault (n + 1) (a ++ b)) ∙ first_behind (n + 1) a b none.follows ∙ ap (λ k. first_fault k b) (omega arith)
+    none.skips (first_fault (n + 1) (a ++ b)) ∙ first_after (n + 1) a b none.follows ∙ ap (λ k. first_fault k b) (omega arith)
 
 -- an error that reports the fault of x reports that of y, if y has the same fault
 pub tells_more : (refusal : CheckFault) (x y : Option Fault) → ((fault : Fault) → x ≡ Some fault → y ≡ Some fault) → IsFirstFaultOf refusal x → IsFirstFaultOf refusal y
@@ -54,11 +54,11 @@ fails_first refusal n a b h = tells_more refusal (first_fault n a) (first_fault 
 -- marks without a fault pass, and then what follows decides
 pub passes_then : (answer : Result ℕ CheckFault) (n k : ℕ) (a b : List Mark) → PassesMarks (Ok k) n a → PassesMarks answer k b → PassesMarks answer n (a ++ b)
 passes_then (Ok end) n k a b p q =
-    let behind : first_fault n (a ++ b) ≡ first_fault k b = first_behind n a b p.0 ∙ ap (λ j. first_fault j b) (sym p.1) in
-    (behind ∙ q.0, omega (arith, p.1, q.1, length-append a b))
+    let following : first_fault n (a ++ b) ≡ first_fault k b = first_after n a b p.0 ∙ ap (λ j. first_fault j b) (sym p.1) in
+    (following ∙ q.0, omega (arith, p.1, q.1, length-append a b))
 passes_then (Err refusal) n k a b p q =
-    let behind : first_fault n (a ++ b) ≡ first_fault k b = first_behind n a b p.0 ∙ ap (λ j. first_fault j b) (sym p.1) in
-    tells_more refusal (first_fault k b) (first_fault n (a ++ b)) (λ fault h. behind ∙ h) q
+    let following : first_fault n (a ++ b) ≡ first_fault k b = first_after n a b p.0 ∙ ap (λ j. first_fault j b) (sym p.1) in
+    tells_more refusal (first_fault k b) (first_fault n (a ++ b)) (λ fault h. following ∙ h) q
 
 -- the numbers of the first marks fit, and those of what follows them
 pub fits_first : (n : ℕ) (a b : List Mark) → Fits n (a ++ b) → Fits n a

@@ -3,7 +3,7 @@ use Rattle.std.proofs.Common.{◌≡◌, ◌∙◌, ℕ, zero, suc, ◌+◌, ◌
 use Rattle.std.proofs.lemmas.List.{drop_all, at_drop_more}
 use Rattle.pipe_check.specs.declared.fault.CheckFault.{CheckFault}
 use Rattle.pipe_check.specs.Passing.{IsFirstFaultOf, PassesMarks, Fits}
-use Rattle.pipe_check.proofs.Faults.{first_behind, fails_first, passes_then, fits_first, fits_then}
+use Rattle.pipe_check.proofs.Faults.{first_after, fails_first, passes_then, fits_first, fits_then}
 use Rattle.pipe_check.proofs.Scopes.{first_visible}
 use Rattle.pipe_model.specs.declared.tree.Stmt.{Stmt}
 use Rattle.pipe_model.specs.Language.CheckingRules.{Fault, first_fault}
@@ -33,7 +33,7 @@ block_refused scope ss i n s refusal whole h e is p =
 pub record IsStep (scope next_scope : Scope) (ss : List Stmt) (i n next : ℕ) : Type 0 where
   pub faults : first_fault next (marks_of_statements next_scope (statements_of (drop (i + 1) ss))) ≡ first_fault n (marks_of_statements scope (statements_of (drop i ss)))
   pub numbers : next + length (marks_of_statements next_scope (statements_of (drop (i + 1) ss))) ≡ n + length (marks_of_statements scope (statements_of (drop i ss)))
-  pub behind : after_statements next_scope (statements_of (drop (i + 1) ss)) ≡ after_statements scope (statements_of (drop i ss))
+  pub scope_after : after_statements next_scope (statements_of (drop (i + 1) ss)) ≡ after_statements scope (statements_of (drop i ss))
 
 -- the numbers of the statement at index i are within the bound
 pub statement_fits : (scope : Scope) (ss : List Stmt) (i n all : ℕ) (s : Stmt) → i < length ss → s ≡ get_or ss i s
@@ -55,7 +55,7 @@ faults_step : (scope : Scope) (s : Statement) (rest : Statements) (n next : ℕ)
     → first_fault next (marks_of_statements (after_statement scope s) rest) ≡ first_fault n (marks_of_statements scope (Then s rest))
 faults_step scope s rest n next p =
     ap (λ k. first_fault k (marks_of_statements (after_statement scope s) rest)) p.1
-    ∙ sym (first_behind n (marks_of_statement scope s) (marks_of_statements (after_statement scope s) rest) p.0)
+    ∙ sym (first_after n (marks_of_statement scope s) (marks_of_statements (after_statement scope s) rest) p.0)
 
 numbers_step : (scope : Scope) (s : Statement) (rest : Statements) (n next : ℕ) → PassesMarks (Ok next) n (marks_of_statement scope s)
     → next + length (marks_of_statements (after_statement scope s) rest) ≡ n + length (marks_of_statements scope (Then s rest))
@@ -65,15 +65,15 @@ numbers_step scope s rest n next p =
 pub statement_passed : (scope next_scope : Scope) (ss : List Stmt) (i n next : ℕ) (s : Stmt) → i < length ss → s ≡ get_or ss i s
     → PassesMarks (Ok next) n (marks_of_statement scope (statement_of s)) → next_scope ≡ after_statement scope (statement_of s)
     → IsStep scope next_scope ss i n next
-statement_passed scope next_scope ss i n next s h e p behind =
+statement_passed scope next_scope ss i n next s h e p scope_after =
     let rest = statements_of (drop (i + 1) ss) in
     let from = sym (statements_from ss i s h e) in
     record {
-      faults = ap (λ x. first_fault next (marks_of_statements x rest)) behind ∙ faults_step scope (statement_of s) rest n next p
+      faults = ap (λ x. first_fault next (marks_of_statements x rest)) scope_after ∙ faults_step scope (statement_of s) rest n next p
           ∙ ap (λ t. first_fault n (marks_of_statements scope t)) from;
-      numbers = ap (λ x. next + length (marks_of_statements x rest)) behind ∙ numbers_step scope (statement_of s) rest n next p
+      numbers = ap (λ x. next + length (marks_of_statements x rest)) scope_after ∙ numbers_step scope (statement_of s) rest n next p
           ∙ ap (λ t. n + length (marks_of_statements scope t)) from;
-      behind = ap (λ x. after_statements x rest) behind ∙ ap (after_statements scope) from;
+      scope_after = ap (λ x. after_statements x rest) scope_after ∙ ap (after_statements scope) from;
     }
 
 -- after a block its own locals are out of scope again
@@ -105,8 +105,8 @@ first_refused scope n k e a b whole refusal is p q =
 pub second_decides : (scope between : Scope) (n k j : ℕ) (e : Expression) (a b : Statements) (whole : Statement) (answer : Result ℕ CheckFault) → whole ≡ If e a b
     → between ≡ after_block scope a → PassesMarks (Ok k) n (marks_of_expression scope e) → PassesMarks (Ok j) k (marks_of_statements scope a)
     → PassesMarks answer j (marks_of_statements between b) → PassesMarks answer n (marks_of_statement scope whole)
-second_decides scope between n k j e a b whole answer is behind p q r =
-    let second : PassesMarks answer j (marks_of_statements (after_block scope a) b) = subst (λ x. PassesMarks answer j (marks_of_statements x b)) behind r in
+second_decides scope between n k j e a b whole answer is scope_after p q r =
+    let second : PassesMarks answer j (marks_of_statements (after_block scope a) b) = subst (λ x. PassesMarks answer j (marks_of_statements x b)) scope_after r in
     let blocks = passes_then answer k j (marks_of_statements scope a) (marks_of_statements (after_block scope a) b) q second in
     subst (λ s. PassesMarks answer n (marks_of_statement scope s)) (sym is)
     (passes_then answer n k (marks_of_expression scope e) (marks_of_statements scope a ++ marks_of_statements (after_block scope a) b) p blocks)
@@ -122,10 +122,10 @@ first_fits scope n k e a b whole is h p =
 pub second_fits : (scope between : Scope) (n k j : ℕ) (e : Expression) (a b : Statements) (whole : Statement) → whole ≡ If e a b → between ≡ after_block scope a
     → Fits n (marks_of_statement scope whole) → PassesMarks (Ok k) n (marks_of_expression scope e) → PassesMarks (Ok j) k (marks_of_statements scope a)
     → Fits j (marks_of_statements between b)
-second_fits scope between n k j e a b whole is behind h p q =
+second_fits scope between n k j e a b whole is scope_after h p q =
     let whole_fits : Fits n (marks_of_statement scope (If e a b)) = subst (λ s. Fits n (marks_of_statement scope s)) is h in
     let blocks = fits_then n k (marks_of_expression scope e) (marks_of_statements scope a ++ marks_of_statements (after_block scope a) b) whole_fits p in
-    subst (λ x. Fits j (marks_of_statements x b)) (sym behind) (fits_then k j (marks_of_statements scope a) (marks_of_statements (after_block scope a) b) blocks q)
+    subst (λ x. Fits j (marks_of_statements x b)) (sym scope_after) (fits_then k j (marks_of_statements scope a) (marks_of_statements (after_block scope a) b) blocks q)
 
 -- the scope after both blocks
 pub branch_left : (scope between after : Scope) (e : Expression) (a b : Statements) (whole : Statement) → whole ≡ If e a b → between ≡ after_block scope a
@@ -154,4 +154,4 @@ body_fits scope n k e a whole is h p =
 -- the scope after the body
 pub loop_left : (scope after : Scope) (e : Expression) (a : Statements) (whole : Statement) → whole ≡ While e a → after ≡ after_block scope a
     → after ≡ after_statement scope whole
-loop_left scope after e a whole is behind = behind ∙ ap (after_statement scope) (sym is)
+loop_left scope after e a whole is scope_after = scope_after ∙ ap (after_statement scope) (sym is)

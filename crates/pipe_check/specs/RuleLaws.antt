@@ -21,10 +21,10 @@ FaultlessProgramsBreakNoRule = (tree : SyntaxTree) → fault_of tree ≡ None �
 pub record IsFirstBroken (marks : List Mark) (rule : CheckingRule) (number : ℕ) : Type 0 where
   pub before : List Mark
   pub mark : Mark
-  pub behind : List Mark
+  pub following : List Mark
   pub earlier : List CheckingRule
   pub later : List CheckingRule
-  pub marks_are : marks ≡ before ++ mark ∷ behind
+  pub marks_are : marks ≡ before ++ mark ∷ following
   pub numbered : length before ≡ number
   pub rules_are : rules_in_order ≡ earlier ++ rule ∷ later
   pub broken : breaks rule mark.scope mark.occurrence ≡ true

@@ -23,7 +23,7 @@ fn check_let(
 ) -> Result<u32, CheckFault>
     requires fits { Fits next (marks_of_statement scope.old (Let name.now (expression_of e.now))) }
     ensures marks { PassesMarks result next (marks_of_statement scope.old (Let name.now (expression_of e.now))) }
-    ensures behind { OnOk result (scope.new ≡ after_statement scope.old (Let name.now (expression_of e.now))) }
+    ensures scope_after { OnOk result (scope.new ≡ after_statement scope.old (Let name.now (expression_of e.now))) }
 {
     let next = scope.check_local(next, name)?;
     let next = check_expression(scope, next, e)?;
@@ -74,7 +74,7 @@ fn check_stage(scope: &Scope, next: u32, number: &Option<Expr>) -> Result<u32, C
 fn check_statement(alloc: Global, scope: &mut Scope, next: u32, s: &Stmt) -> Result<u32, CheckFault>
     requires fits { Fits next (marks_of_statement scope.old (statement_of s.now)) }
     ensures marks { PassesMarks result next (marks_of_statement scope.old (statement_of s.now)) }
-    ensures behind { OnOk result (scope.new ≡ after_statement scope.old (statement_of s.now)) }
+    ensures scope_after { OnOk result (scope.new ≡ after_statement scope.old (statement_of s.now)) }
 {
     match s {
         Stmt::Let(name, e) => check_let(alloc, scope, next, name, e),
@@ -106,7 +106,7 @@ pub fn check_block(
 ) -> Result<u32, CheckFault>
     requires fits { Fits next (marks_of_statements scope.old (statements_of block.now.statements.items)) }
     ensures marks { PassesMarks result next (marks_of_statements scope.old (statements_of block.now.statements.items)) }
-    ensures behind { OnOk result (scope.new ≡ after_block scope.old (statements_of block.now.statements.items)) }
+    ensures scope_after { OnOk result (scope.new ≡ after_block scope.old (statements_of block.now.statements.items)) }
 {
     let visible = scope.visible_len();
     let mut next = next;

@@ -10,21 +10,21 @@ use pipe_model::memory::NoMemory;
 use pipe_model::name::Name;
 use pipe_model::tree::{Block, Expr, StageKind, Stmt};
 
-/// Appends `indent` spaces, then the expression between the bytes `before` and `behind`. Returns an
+/// Appends `indent` spaces, then the expression between the bytes `before` and `after`. Returns an
 /// error only if memory runs out.
 pub fn push_between(
     text: &mut Vec<u8>,
     indent: usize,
     before: &[u8],
     e: &Expr,
-    behind: &[u8],
+    after: &[u8],
 ) -> Result<(), NoMemory>
     ensures { OnOk result (text.new.items
-        ≡ text.old.items ++ (replicate indent 32 ++ (before.now ++ (expression_text (expression_of e.now) ++ behind.now)))) }
+        ≡ text.old.items ++ (replicate indent 32 ++ (before.now ++ (expression_text (expression_of e.now) ++ after.now)))) }
 {
     push_indented(text, indent, before)?;
     push_expression(text, e)?;
-    text.extend_from_slice(behind)?;
+    text.extend_from_slice(after)?;
     Ok(())
 }
 

@@ -80,38 +80,38 @@ punctuation_or_flaw bytes first begins =
     by_best None h = by_sign (is_sign first) refl h
 
 -- this holds if a word or name begins there
-word_or_flaw : (bytes behind : List ℕ) (b : ℕ) → bytes ≡ b ∷ behind → is_letter b ≡ true → PieceOrFlaw bytes
-word_or_flaw bytes behind b e letter = by_place (word_place (take (1 + prefix_len is_name_byte behind) bytes)) refl
+word_or_flaw : (bytes following : List ℕ) (b : ℕ) → bytes ≡ b ∷ following → is_letter b ≡ true → PieceOrFlaw bytes
+word_or_flaw bytes following b e letter = by_place (word_place (take (1 + prefix_len is_name_byte following) bytes)) refl
   where
-    by_length : word_place (take (1 + prefix_len is_name_byte behind) bytes) ≡ None
-        → (64 < length (take (1 + prefix_len is_name_byte behind) bytes)) ⊎ (length (take (1 + prefix_len is_name_byte behind) bytes) ≤ 64) → PieceOrFlaw bytes
-    by_length h (inl long) = inr (_, name_flaw bytes behind _ b _ e letter refl refl h long)
-    by_length h (inr short) = inl (_, name_piece bytes behind _ b _ e letter refl refl h short)
+    by_length : word_place (take (1 + prefix_len is_name_byte following) bytes) ≡ None
+        → (64 < length (take (1 + prefix_len is_name_byte following) bytes)) ⊎ (length (take (1 + prefix_len is_name_byte following) bytes) ≤ 64) → PieceOrFlaw bytes
+    by_length h (inl long) = inr (_, name_flaw bytes following _ b _ e letter refl refl h long)
+    by_length h (inr short) = inl (_, name_piece bytes following _ b _ e letter refl refl h short)
 
-    by_place : (o : Option ℕ) → word_place (take (1 + prefix_len is_name_byte behind) bytes) ≡ o → PieceOrFlaw bytes
-    by_place (Some k) h = inl (_, word_piece bytes behind _ b _ k e letter refl refl h)
-    by_place None h = by_length h (cases_lt 64 (length (take (1 + prefix_len is_name_byte behind) bytes)))
+    by_place : (o : Option ℕ) → word_place (take (1 + prefix_len is_name_byte following) bytes) ≡ o → PieceOrFlaw bytes
+    by_place (Some k) h = inl (_, word_piece bytes following _ b _ k e letter refl refl h)
+    by_place None h = by_length h (cases_lt 64 (length (take (1 + prefix_len is_name_byte following) bytes)))
 
 -- this holds if a number begins there
-number_or_flaw : (bytes behind : List ℕ) (b : ℕ) → bytes ≡ b ∷ behind → is_letter b ≡ false → is_digit b ≡ true → PieceOrFlaw bytes
-number_or_flaw bytes behind b e letter digit = by_value (cases_lt (number_of (take (1 + prefix_len is_digit behind) bytes)) (2 ^ 63))
+number_or_flaw : (bytes following : List ℕ) (b : ℕ) → bytes ≡ b ∷ following → is_letter b ≡ false → is_digit b ≡ true → PieceOrFlaw bytes
+number_or_flaw bytes following b e letter digit = by_value (cases_lt (number_of (take (1 + prefix_len is_digit following) bytes)) (2 ^ 63))
   where
-    by_value : (number_of (take (1 + prefix_len is_digit behind) bytes) < 2 ^ 63) ⊎ (2 ^ 63 ≤ number_of (take (1 + prefix_len is_digit behind) bytes)) → PieceOrFlaw bytes
-    by_value (inl fits) = inl (_, number_piece bytes behind _ b _ _ e letter digit refl refl refl (omega (arith, ints, fits)))
-    by_value (inr wide) = inr (_, number_flaw bytes behind _ b _ e letter digit refl refl wide)
+    by_value : (number_of (take (1 + prefix_len is_digit following) bytes) < 2 ^ 63) ⊎ (2 ^ 63 ≤ number_of (take (1 + prefix_len is_digit following) bytes)) → PieceOrFlaw bytes
+    by_value (inl fits) = inl (_, number_piece bytes following _ b _ _ e letter digit refl refl refl (omega (arith, ints, fits)))
+    by_value (inr wide) = inr (_, number_flaw bytes following _ b _ e letter digit refl refl wide)
 
 -- this holds whatever the first byte is
-piece_or_flaw : (b : ℕ) (behind : List ℕ) → PieceOrFlaw (b ∷ behind)
-piece_or_flaw b behind = by_tests (is_blank b) (begins_comment (b ∷ behind)) (is_letter b) (is_digit b) refl refl refl refl
+piece_or_flaw : (b : ℕ) (following : List ℕ) → PieceOrFlaw (b ∷ following)
+piece_or_flaw b following = by_tests (is_blank b) (begins_comment (b ∷ following)) (is_letter b) (is_digit b) refl refl refl refl
   where
-    by_tests : (blank comment letter digit : Bool) → is_blank b ≡ blank → begins_comment (b ∷ behind) ≡ comment → is_letter b ≡ letter → is_digit b ≡ digit
-        → PieceOrFlaw (b ∷ behind)
-    by_tests true comment letter digit h i j k = inl (_, ABlank b behind refl h)
-    by_tests false true letter digit h i j k = inl (_, comment_piece (b ∷ behind) _ i refl)
-    by_tests false false true digit h i j k = word_or_flaw (b ∷ behind) behind b refl j
-    by_tests false false false true h i j k = number_or_flaw (b ∷ behind) behind b refl j k
+    by_tests : (blank comment letter digit : Bool) → is_blank b ≡ blank → begins_comment (b ∷ following) ≡ comment → is_letter b ≡ letter → is_digit b ≡ digit
+        → PieceOrFlaw (b ∷ following)
+    by_tests true comment letter digit h i j k = inl (_, ABlank b following refl h)
+    by_tests false true letter digit h i j k = inl (_, comment_piece (b ∷ following) _ i refl)
+    by_tests false false true digit h i j k = word_or_flaw (b ∷ following) following b refl j
+    by_tests false false false true h i j k = number_or_flaw (b ∷ following) following b refl j k
     by_tests false false false false h i j k =
-        punctuation_or_flaw (b ∷ behind) b (record { behind = behind; parts = refl; no_blank = h; no_comment = i; no_letter = j; no_digit = k })
+        punctuation_or_flaw (b ∷ following) b (record { following = following; parts = refl; no_blank = h; no_comment = i; no_letter = j; no_digit = k })
 
 -- ---- whole sources
 
@@ -125,13 +125,13 @@ flaw_is_fault source found rest flaws.NameTooLong r f = (_, at_flaw source found
 -- if at most `bound` bytes are left, the source has tokens or a fault
 goes_on : (bound : ℕ) (source : List ℕ) (found : List Token) (rest : List ℕ) → length rest ≤ bound → Reaches source found rest → IsLexedOrHasFault source
 goes_on bound source found [] h r = inl (found, at_end source found r)
-goes_on zero source found (b ∷ behind) h r = absurd (omega arith)
-goes_on (suc bound) source found (b ∷ behind) h r = elim (piece_or_flaw b behind) [
+goes_on zero source found (b ∷ following) h r = absurd (omega arith)
+goes_on (suc bound) source found (b ∷ following) h r = elim (piece_or_flaw b following) [
   | inl p ↦ (
       let within = piece_within p.1 in
-      goes_on bound source (found ++ tokens_of p.0 (length source - length (b ∷ behind))) (drop (length_of p.0) (b ∷ behind))
-      (omega (arith, h, within.0, within.1, length-drop (length_of p.0) (b ∷ behind))) (past_piece source found (b ∷ behind) p.0 _ r p.1 refl))
-  | inr f ↦ inr (flaw_is_fault source found (b ∷ behind) f.0 r f.1)
+      goes_on bound source (found ++ tokens_of p.0 (length source - length (b ∷ following))) (drop (length_of p.0) (b ∷ following))
+      (omega (arith, h, within.0, within.1, length-drop (length_of p.0) (b ∷ following))) (past_piece source found (b ∷ following) p.0 _ r p.1 refl))
+  | inr f ↦ inr (flaw_is_fault source found (b ∷ following) f.0 r f.1)
 ]
 
 pub lexed_or_fault : (source : List ℕ) → IsLexedOrHasFault source

@@ -52,7 +52,7 @@ front_is_punctuation : (bytes text rest : List ℕ) (first : ℕ) (s : Symbol) �
     → punctuation_symbol text ≡ Some s
 front_is_punctuation bytes [] rest first s begins e t = (let none : None ≡ Some s = t in cc (none))
 front_is_punctuation bytes (b ∷ text) rest first s begins e t =
-    let both : first ∷ begins.behind ≡ b ∷ (text ++ rest) = sym begins.parts ∙ e in
+    let both : first ∷ begins.following ≡ b ∷ (text ++ rest) = sym begins.parts ∙ e in
     let same : first ≡ b = cc (both) in
     sym (as_punctuation b text (rw same at begins.no_letter) (rw same at begins.no_digit)) ∙ t
 
@@ -61,7 +61,7 @@ punctuation_at_front : (bytes text rest : List ℕ) (first : ℕ) (s : Symbol) �
     → symbol_of text ≡ Some s
 punctuation_at_front bytes [] rest first s begins e some t = absurd (some refl)
 punctuation_at_front bytes (b ∷ text) rest first s begins e some t =
-    let both : first ∷ begins.behind ≡ b ∷ (text ++ rest) = sym begins.parts ∙ e in
+    let both : first ∷ begins.following ≡ b ∷ (text ++ rest) = sym begins.parts ∙ e in
     let same : first ≡ b = cc (both) in
     as_punctuation b text (rw same at begins.no_letter) (rw same at begins.no_digit) ∙ t
 
@@ -120,13 +120,13 @@ operator_piece bytes first code begins h =
     let some : text ≢ [] = operator_is_some h.row among in
     let n : operator_length code ≡ length text = ap operator_length (sym h.same) ∙ at_row (λ row. operator_length row.code) (λ row. length (text_of row)) h.row refl among in
     let front : take (operator_length code) bytes ≡ text = ap (λ x. take x bytes) n ∙ ap (λ x. take (length text) x) parts ∙ take-append_seam text rest in
-    let behind : drop (operator_length code) bytes ≡ rest = ap (λ x. drop x bytes) n ∙ ap (λ x. drop (length text) x) parts ∙ drop-append_seam text rest in
+    let following : drop (operator_length code) bytes ≡ rest = ap (λ x. drop x bytes) n ∙ ap (λ x. drop (length text) x) parts ∙ drop-append_seam text rest in
     let symbol : symbol_of text ≡ Some (symbols.Operator code) =
     punctuation_at_front bytes text rest first (symbols.Operator code) begins parts some (rw h.same at (row_symbol h.row among)) in
     let token : IsToken text rest (symbols.Operator code) =
     record { symbol = symbol; longest = operator_is_longest bytes first code begins h; no_comment = rw (← parts) begins.no_comment } in
     AToken (symbols.Operator code) (operator_length code) (omega (arith, n, some_more text some))
-    (omega (arith, n, ap length parts, length-append text rest)) (rw (front, behind) token) tt
+    (omega (arith, n, ap length parts, length-append text rest)) (rw (front, following) token) tt
 
 -- ---- signs
 
@@ -136,7 +136,7 @@ only_sign : (bytes text rest : List ℕ) (first : ℕ) (s : Symbol) → BeginsPu
 only_sign bytes text rest first s begins none e t = elim (punctuation_is text s (front_is_punctuation bytes text rest first s begins e t)) [
   | inl o ↦ absurd (no_front OPS.rows bytes o.1.row none o.1.among (rest, rw o.1.same_text e))
   | inr sign ↦ (
-      let both : first ∷ begins.behind ≡ sign.byte ∷ rest = sym begins.parts ∙ e ∙ ap (λ x. x ++ rest) sign.is in
+      let both : first ∷ begins.following ≡ sign.byte ∷ rest = sym begins.parts ∙ e ∙ ap (λ x. x ++ rest) sign.is in
       let same : sign.byte ≡ first = cc (both) in
       (sign.is ∙ ap (λ (x : ℕ). x ∷ []) same, ap is_sign (sym same) ∙ sign.sign))
 ]
@@ -148,7 +148,7 @@ sign_symbol bytes first begins none sign =
     as_punctuation first [] begins.no_letter begins.no_digit ∙ by_place (position (λ operator. bytes_eq operator (first ∷ [])) operators) refl
   where
     by_place : (o : Option ℕ) → position (λ operator. bytes_eq operator (first ∷ [])) operators ≡ o → operator_or_sign o (first ∷ []) ≡ Some (symbols.Sign first)
-    by_place (Some k) h = absurd (let r = operator_row (first ∷ []) k h in no_front OPS.rows bytes r.row none r.among (begins.behind, rw r.same_text begins.parts))
+    by_place (Some k) h = absurd (let r = operator_row (first ∷ []) k h in no_front OPS.rows bytes r.row none r.among (begins.following, rw r.same_text begins.parts))
     by_place None h = rw sign refl
 
 -- a sign is the token with which the bytes begin if no operator is
@@ -156,17 +156,17 @@ pub sign_piece : (bytes : List ℕ) (first : ℕ) → BeginsPunctuation first by
     → IsPiece bytes (pieces.Taken (kinds.Sign first) 1)
 sign_piece bytes first begins none sign =
     let front : take 1 bytes ≡ first ∷ [] = ap (λ x. take 1 x) begins.parts in
-    let behind : drop 1 bytes ≡ begins.behind = ap (λ x. drop 1 x) begins.parts in
-    let token : IsToken (first ∷ []) begins.behind (symbols.Sign first) = record {
+    let following : drop 1 bytes ≡ begins.following = ap (λ x. drop 1 x) begins.parts in
+    let token : IsToken (first ∷ []) begins.following (symbols.Sign first) = record {
       symbol = sign_symbol bytes first begins none sign;
       longest = record {
         longest = λ more after s e some t.
-            let only = only_sign bytes ((first ∷ []) ++ more) after first s begins none (longer_front bytes (first ∷ []) begins.behind more after begins.parts e) t in
+            let only = only_sign bytes ((first ∷ []) ++ more) after first s begins none (longer_front bytes (first ∷ []) begins.following more after begins.parts e) t in
             omega (arith, ap length only.0, some_more more some);
       };
       no_comment = ap begins_comment (sym begins.parts) ∙ begins.no_comment;
     } in
-    AToken (symbols.Sign first) 1 (omega arith) (omega (arith, ap length begins.parts)) (rw (front, behind) token) tt
+    AToken (symbols.Sign first) 1 (omega arith) (omega (arith, ap length begins.parts)) (rw (front, following) token) tt
 
 -- otherwise no token begins there
 pub nothing_stands : (bytes : List ℕ) (first : ℕ) → BeginsPunctuation first bytes → HasNoSymbol OPS.rows bytes → is_sign first ≡ false → IsFlaw bytes flaws.BadByte

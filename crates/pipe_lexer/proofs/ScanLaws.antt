@@ -11,7 +11,7 @@ use Rattle.pipe_lexer.specs.Pieces.{length_of, tokens_of, IsFlaw, IsPiece, ABlan
 
 -- a piece has at least one byte, and at most all bytes
 pub piece_within : {bytes : List ℕ} {piece : Piece} → IsPiece bytes piece → (0 < length_of piece) × (length_of piece ≤ length bytes)
-piece_within (ABlank b behind e g) = (omega arith, omega (arith, ap length e))
+piece_within (ABlank b following e g) = (omega arith, omega (arith, ap length e))
 piece_within (AComment n some within h) = (some, within)
 piece_within (AToken s n some within t w) = (some, within)
 
@@ -32,8 +32,8 @@ at_start source short =
 -- a scan goes on after a piece
 scans_past : {bytes : List ℕ} {piece : Piece} (place : ℕ) (others : List Token) (end : List ℕ) → IsPiece bytes piece
     → Scans (place + length_of piece) (drop (length_of piece) bytes) others end → Scans place bytes (tokens_of piece place ++ others) end
-scans_past {bytes} place others end (ABlank b behind e g) d =
-    let front : drop 1 bytes ≡ behind = ap (λ x. drop 1 x) e in
+scans_past {bytes} place others end (ABlank b following e g) d =
+    let front : drop 1 bytes ≡ following = ap (λ x. drop 1 x) e in
     rw e (Blank b g (rw front at d))
 scans_past {bytes} place others end (AComment n some within h) d =
     let n_is : length (take n bytes) ≡ n = length-take-le n bytes within in
@@ -47,7 +47,7 @@ scans_past {bytes} place others end (AToken s n some within t w) d =
 -- the tokens of a piece are within their bounds
 piece_bounded : {bytes : List ℕ} {piece : Piece} (place : ℕ) (found : List Token) → IsPiece bytes piece → All IsTokenWithinBounds found
     → All IsTokenWithinBounds (found ++ tokens_of piece place)
-piece_bounded place found (ABlank b behind e g) h = rw (append-nil found) h
+piece_bounded place found (ABlank b following e g) h = rw (append-nil found) h
 piece_bounded place found (AComment n some within c) h = rw (append-nil found) h
 piece_bounded place found (AToken s n some within t w) h = All-push IsTokenWithinBounds found (record { kind = kind_of s; place = place; length = n }) h w
 

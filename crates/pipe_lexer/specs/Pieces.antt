@@ -13,8 +13,8 @@ use Rattle.pipe_lexer.specs.declared.piece.Piece.TheVariants as pieces
 
 -- the bytes begin with `first`, and no blank, comment, word, name or number begins there
 pub record BeginsPunctuation (first : ℕ) (bytes : List ℕ) : Type 0 where
-  pub behind : List ℕ
-  pub parts : bytes ≡ first ∷ behind
+  pub following : List ℕ
+  pub parts : bytes ≡ first ∷ following
   pub no_blank : is_blank first ≡ false
   pub no_comment : begins_comment bytes ≡ false
   pub no_letter : is_letter first ≡ false
@@ -36,7 +36,7 @@ tokens_of (pieces.Taken kind n) place = record { kind = kind; place = place; len
 
 -- the bytes begin with this piece: a blank, a comment, or a token within its bounds
 pub data IsPiece (bytes : List ℕ) : Piece → Type 0 where
-  ABlank : (b : ℕ) (behind : List ℕ) → bytes ≡ b ∷ behind → is_blank b ≡ true → IsPiece bytes (pieces.Gap 1)
+  ABlank : (b : ℕ) (following : List ℕ) → bytes ≡ b ∷ following → is_blank b ≡ true → IsPiece bytes (pieces.Gap 1)
   AComment : (n : ℕ) → 0 < n → n ≤ length bytes → IsComment (take n bytes) (drop n bytes) → IsPiece bytes (pieces.Gap n)
   AToken : (s : Symbol) (n : ℕ) → 0 < n → n ≤ length bytes → IsToken (take n bytes) (drop n bytes) s → IsKindWithinBounds (kind_of s) n
       → IsPiece bytes (pieces.Taken (kind_of s) n)

@@ -45,13 +45,13 @@ pub enum Flaw {
 }
 
 // Reads the word or name with which the bytes begin; their first is a letter.
-fn word_or_name(bytes: &[u8], first: u8, behind: &[u8]) -> Result<Piece, Flaw>
-    requires front { bytes.now ≡ first ∷ behind.now }
+fn word_or_name(bytes: &[u8], first: u8, following: &[u8]) -> Result<Piece, Flaw>
+    requires front { bytes.now ≡ first ∷ following.now }
     requires letter { is_letter first ≡ true }
     ensures piece { IfOk result (λ piece. IsPiece bytes.now piece) }
     ensures flaw { IfErr result (λ flaw. IsFlaw bytes.now flaw) }
 {
-    let more = name_bytes(behind);
+    let more = name_bytes(following);
     let text = &bytes[..1 + more];
     if let Some(place) = reserved_place(text) {
         return Ok(Piece::Taken(TokenKind::Word(place), 1 + more));
@@ -63,14 +63,14 @@ fn word_or_name(bytes: &[u8], first: u8, behind: &[u8]) -> Result<Piece, Flaw>
 }
 
 // Reads the number with which the bytes begin; their first is a digit.
-fn number(bytes: &[u8], first: u8, behind: &[u8]) -> Result<Piece, Flaw>
-    requires front { bytes.now ≡ first ∷ behind.now }
+fn number(bytes: &[u8], first: u8, following: &[u8]) -> Result<Piece, Flaw>
+    requires front { bytes.now ≡ first ∷ following.now }
     requires letter { is_letter first ≡ false }
     requires digit { is_digit first ≡ true }
     ensures piece { IfOk result (λ piece. IsPiece bytes.now piece) }
     ensures flaw { IfErr result (λ flaw. IsFlaw bytes.now flaw) }
 {
-    let more = digits(behind);
+    let more = digits(following);
     let Some(value) = number_value(&bytes[..1 + more]) else {
         return Err(Flaw::TooWide);
     };

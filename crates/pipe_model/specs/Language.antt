@@ -15,5 +15,4 @@ pub mod Marks
 pub mod MarkPlaces
 pub mod CheckingRules
 pub mod SourceRefusals
-pub mod FirstForm
 pub mod ProgramsOfTrees

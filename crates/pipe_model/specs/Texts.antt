@@ -102,14 +102,6 @@ refusal_line (Syntactic rule place) = syntax_line rule place
 refusal_line (LimitOut which) = numbered_line (codes "refused check LimitOut ") which
 refusal_line (RuleBroken rule place) = rule_line rule place
 
--- the program is accepted, but is not of the first form
-abbrev pub refused_program : List ℕ
-refused_program = codes "refused source NotYetBuilt\n"
-
--- the input is not empty
-abbrev pub refused_input : List ℕ
-refused_input = codes "refused input NotYetBuilt\n"
-
 -- a file could not be read
 abbrev pub fault_read : List ℕ → List ℕ
 fault_read name = codes "fault read " ++ (name ++ codes "\n")

@@ -25,32 +25,32 @@ pub opened_more : (p : Symbol → Bool) (before : List Symbol) (t : Symbol) (n m
 opened_more p before t n m h i = i ∙ ap (λ x. x + cond (p t) 1 0) h ∙ sym (count_one_more p before t)
 
 -- the counts after one more symbol
-pub counted_more : (all rest behind : List Symbol) (t : Symbol) (opened closed o c : ℕ) → Counted all rest opened closed → rest ≡ t ∷ behind
+pub counted_more : (all rest following : List Symbol) (t : Symbol) (opened closed o c : ℕ) → Counted all rest opened closed → rest ≡ t ∷ following
     → o ≡ opened + cond (is_opening_bracket t) 1 0 → c ≡ closed + cond (is_closing_bracket t) 1 0 → o - c ≤ 64
-    → Counted all behind o c
-counted_more all rest behind t opened closed o c k h i j l =
+    → Counted all following o c
+counted_more all rest following t opened closed o c k h i j l =
     let opens = opened_more is_opening_bracket k.before t opened o k.opens i in
     let closes = opened_more is_closing_bracket k.before t closed c k.closes j in
     record {
       before = k.before ++ t ∷ [];
-      split = k.split ∙ ap (λ x. k.before ++ x) h ∙ sym (append_assoc k.before (t ∷ []) behind);
+      split = k.split ∙ ap (λ x. k.before ++ x) h ∙ sym (append_assoc k.before (t ∷ []) following);
       shallow = shallow_more k.before t k.shallow (omega (arith, l, opens, closes));
       opens = opens;
       closes = closes;
     }
 
 -- the symbol with which too many brackets are open
-pub counted_too_many : (all rest behind : List Symbol) (t : Symbol) (opened closed o c : ℕ) → Counted all rest opened closed → rest ≡ t ∷ behind
+pub counted_too_many : (all rest following : List Symbol) (t : Symbol) (opened closed o c : ℕ) → Counted all rest opened closed → rest ≡ t ∷ following
     → o ≡ opened + cond (is_opening_bracket t) 1 0 → c ≡ closed + cond (is_closing_bracket t) 1 0 → 64 < o - c
-    → OpensTooMany all (length all - length behind)
-counted_too_many all rest behind t opened closed o c k h i j l =
+    → OpensTooMany all (length all - length following)
+counted_too_many all rest following t opened closed o c k h i j l =
     let opens = opened_more is_opening_bracket k.before t opened o k.opens i in
     let closes = opened_more is_closing_bracket k.before t closed c k.closes j in
     let many : length all ≡ length k.before + length rest = ap length k.split ∙ length-append k.before rest in
     record {
       before = k.before;
       t = t;
-      after = behind;
+      after = following;
       split = k.split ∙ ap (λ x. k.before ++ x) h;
       many = omega (arith, many, ap length h);
       shallow = k.shallow;

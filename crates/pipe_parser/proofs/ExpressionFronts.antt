@@ -14,37 +14,37 @@ use Rattle.pipe_parser.specs.ExpressionFaults.{ExpressionStops, whole, closed, R
 -- ---- faults
 
 -- a fault after the symbols that were read is the fault of the whole
-pub fault_behind : (wants others : List Want) (ts us : List Symbol)
+pub fault_after : (wants others : List Want) (ts us : List Symbol)
     → ((below : List Want) → ending ts (wants ++ below) ≡ ending us (others ++ below)) → (f : SyntaxFault) → ExpressionStops others us f
     → ExpressionStops wants ts f
-fault_behind wants others ts us h faults.NoMemory x = tt
-fault_behind wants others ts us h (faults.TooDeep left) x = x
-fault_behind wants others ts us h (faults.TooLong left) x = x
-fault_behind wants others ts us h (faults.Unexpected left) x = record { stuck = λ below. h below ∙ x.stuck below }
+fault_after wants others ts us h faults.NoMemory x = tt
+fault_after wants others ts us h (faults.TooDeep left) x = x
+fault_after wants others ts us h (faults.TooLong left) x = x
+fault_after wants others ts us h (faults.Unexpected left) x = record { stuck = λ below. h below ∙ x.stuck below }
 
 -- a fault of what may follow an expression of a level
 pub fault_chained : (level : ℕ) (a : Expression) (ts mid : List Symbol) → 1 ≤ level → Reads level ts a mid → (f : SyntaxFault) → ExpressionStops (Tail ∷ []) mid f
     → ExpressionStops whole ts f
-fault_chained level a ts mid l r = fault_behind whole (Tail ∷ []) ts mid (λ below. passes level r l below)
+fault_chained level a ts mid l r = fault_after whole (Tail ∷ []) ts mid (λ below. passes level r l below)
 
 -- a fault of the sign that closes an expression
 pub fault_closed : (sign : ℕ) (e : Expression) (ts mid : List Symbol) → Reads any_expression ts e mid → (f : SyntaxFault) → ExpressionStops (Sign sign ∷ []) mid f
     → ExpressionStops (closed sign) ts f
-fault_closed sign e ts mid r = fault_behind (closed sign) (Sign sign ∷ []) ts mid (λ below. passes_expression r (Sign sign ∷ below))
+fault_closed sign e ts mid r = fault_after (closed sign) (Sign sign ∷ []) ts mid (λ below. passes_expression r (Sign sign ∷ below))
 
 -- ---- operators that extend an expression
 
 -- an operator and its operand extend an expression, and so does what follows them
-pub joins : (level code : ℕ) (a b e : Expression) (ts behind mid rest : List Symbol) → ts ≡ symbols.Operator code ∷ behind → level_of code ≡ level
-    → Reads (suc level) behind b mid → Extends level (binary_expression code a b) mid e rest
+pub joins : (level code : ℕ) (a b e : Expression) (ts following mid rest : List Symbol) → ts ≡ symbols.Operator code ∷ following → level_of code ≡ level
+    → Reads (suc level) following b mid → Extends level (binary_expression code a b) mid e rest
     → Extends level a ts e rest
-joins level code a b e ts behind mid rest h i r g = rw h (Joins code i r g)
+joins level code a b e ts following mid rest h i r g = rw h (Joins code i r g)
 
 -- the machine passes them
-pub passes_join : (level code : ℕ) (b : Expression) (ts behind mid : List Symbol) → 1 ≤ level → ts ≡ symbols.Operator code ∷ behind → level_of code ≡ level
-    → Reads (suc level) behind b mid → (below : List Want) → ending ts (Tail ∷ below) ≡ ending mid (Tail ∷ below)
-passes_join level code b ts behind mid l h i r below =
-    ap (λ x. ending x (Tail ∷ below)) h ∙ tail_joins code behind below (is_op code level i l) ∙ passes (suc level) r (omega (arith, l)) below
+pub passes_join : (level code : ℕ) (b : Expression) (ts following mid : List Symbol) → 1 ≤ level → ts ≡ symbols.Operator code ∷ following → level_of code ≡ level
+    → Reads (suc level) following b mid → (below : List Want) → ending ts (Tail ∷ below) ≡ ending mid (Tail ∷ below)
+passes_join level code b ts following mid l h i r below =
+    ap (λ x. ending x (Tail ∷ below)) h ∙ tail_joins code following below (is_op code level i l) ∙ passes (suc level) r (omega (arith, l)) below
 
 -- ---- operands
 -- a name without an index

@@ -84,10 +84,10 @@ read_in_window ts rest e l r p =
     sym (take-append-drop 257 ts) ∙ ap (λ x. x ++ drop 257 ts) t.split ∙ append_assoc t.taken rest (drop 257 ts) in
     let window : length (take 257 ts) ≡ 257 = length-take-le 257 ts (omega (arith, l)) in
     let many : length t.taken ≡ 257 - length rest = omega (arith, ap length t.split, length-append t.taken rest, window, p) in
-    let behind : drop (257 - length rest) ts ≡ rest ++ drop 257 ts =
+    let following : drop (257 - length rest) ts ≡ rest ++ drop 257 ts =
     ap (λ n. drop n ts) (sym many) ∙ ap (drop (length t.taken)) all ∙ drop-append_seam t.taken (rest ++ drop 257 ts) in
     record {
-      read = subst (λ x. Reads any_expression ts e x) (sym behind)
+      read = subst (λ x. Reads any_expression ts e x) (sym following)
           (subst (λ x. Reads any_expression x e (rest ++ drop 257 ts)) (take-append-drop 257 ts) (reads_more r (λ h. absurd (omega (arith, p, ap length h))) (drop 257 ts)));
       short = omega (arith, length-drop (257 - length rest) ts, p);
     }

@@ -19,14 +19,14 @@ use Rattle.pipe_parser.specs.ProgramReadings.{limit, limits, cell, loop, HasLimi
 use Rattle.pipe_parser.specs.StatementReadings.{block, ReadsTest}
 use Rattle.pipe_parser.specs.SymbolFronts.{NoOperator}
 use Rattle.pipe_parser.specs.SyntaxFaults.{SyntaxStops, Refuses}
-use Rattle.pipe_parser.proofs.StatementFronts.{fault_behind, fault_before, passes_test}
+use Rattle.pipe_parser.proofs.StatementFronts.{fault_after, fault_before, passes_test}
 
 -- a fault of the first wants after the symbols that were read
 fault_through : (wants others more : List Want) (ts us : List Symbol)
     → ((below : List Want) → judge 256 ts (Outside (wants ++ below)) ≡ judge 256 us (Outside ((others ++ more) ++ below))) → (f : SyntaxFault)
     → SyntaxStops others us f
     → SyntaxStops wants ts f
-fault_through wants others more ts us h f x = fault_behind wants (others ++ more) ts us h f (fault_before others more us f x)
+fault_through wants others more ts us h f x = fault_after wants (others ++ more) ts us h f (fault_before others more us f x)
 
 -- ---- limits
 -- a limit, from its word on, before other symbols
@@ -38,7 +38,7 @@ pub fault_emits : (i s p : ℤ) (ts a b c d : List Symbol) → ts ≡ symbols.Wo
     → c ≡ limit_before 4 p 44 d → (f : SyntaxFault) → SyntaxStops (limit 5 59) d f
     → SyntaxStops limits ts f
 fault_emits i s p ts a b c d h j k l =
-    fault_behind limits (limit 5 59) ts d
+    fault_after limits (limit 5 59) ts d
     (λ below. ap (λ x. judge 256 x (Outside (limits ++ below)))
     (h ∙ ap (λ x. symbols.Word 1 ∷ x) (j ∙ ap (limit_before 2 i 44) (k ∙ ap (limit_before 3 s 44) l))))
 
@@ -48,10 +48,10 @@ pub size_missing : (ts : List Symbol) → NoSign 91 ts → ReadsSize ts None ts
 size_missing ts h = ReadsNoSize ts h
 
 -- a size in its brackets
-pub size_read : (n : ℤ) (ts inside behind rest : List Symbol) → ts ≡ symbols.Sign 91 ∷ inside → inside ≡ symbols.Number n ∷ behind
-    → behind ≡ symbols.Sign 93 ∷ rest
+pub size_read : (n : ℤ) (ts inside following rest : List Symbol) → ts ≡ symbols.Sign 91 ∷ inside → inside ≡ symbols.Number n ∷ following
+    → following ≡ symbols.Sign 93 ∷ rest
     → ReadsSize ts (Some n) rest
-size_read n ts inside behind rest h i j = rw (h, i, j) (ReadsSizeIs n rest)
+size_read n ts inside following rest h i j = rw (h, i, j) (ReadsSizeIs n rest)
 
 -- without a minus a value is a number
 value_as_number : (ts : List Symbol) (below : List Want) → NoOperator 10 ts
@@ -65,7 +65,7 @@ value_as_number (symbols.Sign b ∷ ts) below h = refl
 
 -- so its fault is that of a number
 pub fault_value : (ts : List Symbol) → NoOperator 10 ts → (f : SyntaxFault) → SyntaxStops (AnyNumber ∷ []) ts f → SyntaxStops (Value ∷ []) ts f
-fault_value ts h = fault_behind (Value ∷ []) (AnyNumber ∷ []) ts ts (λ below. value_as_number ts below h)
+fault_value ts h = fault_after (Value ∷ []) (AnyNumber ∷ []) ts ts (λ below. value_as_number ts below h)
 
 -- a number is read as the value
 pub value_read : (n : ℤ) (ts rest : List Symbol) → ts ≡ symbols.Number n ∷ rest → ReadsValue ts n rest
@@ -109,21 +109,21 @@ pub fault_cell_end : (name : List ℕ) (size : Option ℤ) (value : ℤ) (ts a b
     → b ≡ symbols.Sign 61 ∷ c → ReadsValue c value d → (f : SyntaxFault) → SyntaxStops (Sign 59 ∷ []) d f
     → SyntaxStops cell ts f
 fault_cell_end name size value ts a b c d h s i v =
-    fault_behind cell (Sign 59 ∷ []) ts d (λ below. passes_equals name size ts a b c h s i below ∙ passes_value 256 v (Sign 59 ∷ below))
+    fault_after cell (Sign 59 ∷ []) ts d (λ below. passes_equals name size ts a b c h s i below ∙ passes_value 256 v (Sign 59 ∷ below))
 
 -- one more declaration is appended to those found so far
-pub one_more_cell : (all rest declared behind : List Symbol) (found : List Declaration) (d : Declaration)
+pub one_more_cell : (all rest declared following : List Symbol) (found : List Declaration) (d : Declaration)
     → ((ds : List Declaration) (end : List Symbol) → ReadsCells rest ds end → ReadsCells all (found ++ ds) end) → rest ≡ symbols.Word 6 ∷ declared
-    → ReadsCell declared d behind → (ds : List Declaration) (end : List Symbol) → ReadsCells behind ds end
+    → ReadsCell declared d following → (ds : List Declaration) (end : List Symbol) → ReadsCells following ds end
     → ReadsCells all ((found ++ d ∷ []) ++ ds) end
-one_more_cell all rest declared behind found d f h r ds end rs =
+one_more_cell all rest declared following found d f h r ds end rs =
     let more : ReadsCells rest (d ∷ ds) end = rw h (ReadsCellThen r rs) in
     subst (λ x. ReadsCells all x end) (sym (append_assoc found (d ∷ []) ds)) (f (d ∷ ds) end more)
 
 -- the machine passes it
-pub passes_one_cell : (rest declared behind : List Symbol) (d : Declaration) → rest ≡ symbols.Word 6 ∷ declared → ReadsCell declared d behind
-    → (below : List Want) → judge 256 rest (Outside (Cells ∷ below)) ≡ judge 256 behind (Outside (Cells ∷ below))
-passes_one_cell rest declared behind d h r below = ap (λ x. judge 256 x (Outside (Cells ∷ below))) h ∙ passes_cell 256 r (Cells ∷ below)
+pub passes_one_cell : (rest declared following : List Symbol) (d : Declaration) → rest ≡ symbols.Word 6 ∷ declared → ReadsCell declared d following
+    → (below : List Want) → judge 256 rest (Outside (Cells ∷ below)) ≡ judge 256 following (Outside (Cells ∷ below))
+passes_one_cell rest declared following d h r below = ap (λ x. judge 256 x (Outside (Cells ∷ below))) h ∙ passes_cell 256 r (Cells ∷ below)
 
 -- if the word of a cell does not come, the declarations found so far are all
 pub cells_read : (all rest : List Symbol) (found : List Declaration)
@@ -141,17 +141,17 @@ fault_cell all rest declared p h =
 
 -- ---- the loop
 -- a fault of the loop's body
-pub fault_loop_body : (e : Expression) (ts behind mid : List Symbol) → ts ≡ symbols.Word 8 ∷ behind → ReadsTest behind e mid → (f : SyntaxFault)
+pub fault_loop_body : (e : Expression) (ts following mid : List Symbol) → ts ≡ symbols.Word 8 ∷ following → ReadsTest following e mid → (f : SyntaxFault)
     → SyntaxStops block mid f
     → SyntaxStops loop ts f
-fault_loop_body e ts behind mid h t =
-    fault_behind loop block ts mid (λ below. ap (λ x. judge 256 x (Outside (loop ++ below))) h ∙ passes_test e behind mid t (block ++ below))
+fault_loop_body e ts following mid h t =
+    fault_after loop block ts mid (λ below. ap (λ x. judge 256 x (Outside (loop ++ below))) h ∙ passes_test e following mid t (block ++ below))
 
 -- the machine passes the loop
 passes_loop : (e : Expression) (ss : Statements) (ts rest : List Symbol) → ReadsLoop ts e ss rest → (below : List Want)
     → judge 256 ts (Outside (loop ++ below)) ≡ judge 256 rest (Outside below)
 passes_loop e ss ts rest l below =
-    ap (λ x. judge 256 x (Outside (loop ++ below))) l.begins ∙ passes_test e l.behind l.mid l.tested (block ++ below) ∙ passes_block l.block below
+    ap (λ x. judge 256 x (Outside (loop ++ below))) l.begins ∙ passes_test e l.following l.mid l.tested (block ++ below) ∙ passes_block l.block below
 
 -- ---- programs
 
@@ -164,58 +164,58 @@ abbrev from_cells : List Want
 from_cells = Cells ∷ Part 7 ∷ from_loop
 
 -- a fault after the parts of a program that were read
-refuses_behind : (wants below : List Want) (ts us : List Symbol) → judge 256 ts (Outside program) ≡ judge 256 us (Outside (wants ++ below))
+refuses_after : (wants below : List Want) (ts us : List Symbol) → judge 256 ts (Outside program) ≡ judge 256 us (Outside (wants ++ below))
     → (f : SyntaxFault) → SyntaxStops wants us f
     → Refuses ts f
-refuses_behind wants below ts us h (faults.Unexpected left) x = h ∙ x.refused below
-refuses_behind wants below ts us h (faults.TooLong left) x = h ∙ x.refused below
-refuses_behind wants below ts us h faults.NoMemory x = tt
-refuses_behind wants below ts us h (faults.TooDeep left) x = x
+refuses_after wants below ts us h (faults.Unexpected left) x = h ∙ x.refused below
+refuses_after wants below ts us h (faults.TooLong left) x = h ∙ x.refused below
+refuses_after wants below ts us h faults.NoMemory x = tt
+refuses_after wants below ts us h (faults.TooDeep left) x = x
 
 -- a fault of the limits
 pub refuses_limits : (ts : List Symbol) (f : SyntaxFault) → SyntaxStops limits ts f → Refuses ts f
-refuses_limits ts = refuses_behind limits from_cells ts ts refl
+refuses_limits ts = refuses_after limits from_cells ts ts refl
 
 -- the machine passes the limits
-behind_limits : (l : Limits) (ts a : List Symbol) → HasLimits ts l a → judge 256 ts (Outside program) ≡ judge 256 a (Outside from_cells)
-behind_limits l ts a h = ap (λ x. judge 256 x (Outside program)) h
+after_limits : (l : Limits) (ts a : List Symbol) → HasLimits ts l a → judge 256 ts (Outside program) ≡ judge 256 a (Outside from_cells)
+after_limits l ts a h = ap (λ x. judge 256 x (Outside program)) h
 
 -- a fault of the declarations
 pub refuses_cells : (l : Limits) (ts a : List Symbol) → HasLimits ts l a → (f : SyntaxFault) → SyntaxStops (Cells ∷ []) a f → Refuses ts f
-refuses_cells l ts a h = refuses_behind (Cells ∷ []) (Part 7 ∷ from_loop) ts a (behind_limits l ts a h)
+refuses_cells l ts a h = refuses_after (Cells ∷ []) (Part 7 ∷ from_loop) ts a (after_limits l ts a h)
 
 -- the machine passes the declarations
-behind_cells : (l : Limits) (ds : List Declaration) (ts a b : List Symbol) → HasLimits ts l a → ReadsCells a ds b
+after_cells : (l : Limits) (ds : List Declaration) (ts a b : List Symbol) → HasLimits ts l a → ReadsCells a ds b
     → judge 256 ts (Outside program) ≡ judge 256 b (Outside (Part 7 ∷ from_loop))
-behind_cells l ds ts a b h c = behind_limits l ts a h ∙ passes_cells 256 c (Part 7 ∷ from_loop)
+after_cells l ds ts a b h c = after_limits l ts a h ∙ passes_cells 256 c (Part 7 ∷ from_loop)
 
 -- a fault of the first part
 pub refuses_init : (l : Limits) (ds : List Declaration) (ts a b : List Symbol) → HasLimits ts l a → ReadsCells a ds b → (f : SyntaxFault)
     → SyntaxStops (Part 7 ∷ []) b f
     → Refuses ts f
-refuses_init l ds ts a b h c = refuses_behind (Part 7 ∷ []) from_loop ts b (behind_cells l ds ts a b h c)
+refuses_init l ds ts a b h c = refuses_after (Part 7 ∷ []) from_loop ts b (after_cells l ds ts a b h c)
 
 -- the machine passes the first part
-behind_init : (l : Limits) (ds : List Declaration) (init : Statements) (ts a b c : List Symbol) → HasLimits ts l a → ReadsCells a ds b
+after_init : (l : Limits) (ds : List Declaration) (init : Statements) (ts a b c : List Symbol) → HasLimits ts l a → ReadsCells a ds b
     → ReadsPart 256 7 b init c → judge 256 ts (Outside program) ≡ judge 256 c (Outside from_loop)
-behind_init l ds init ts a b c h r p = behind_cells l ds ts a b h r ∙ passes_part p from_loop
+after_init l ds init ts a b c h r p = after_cells l ds ts a b h r ∙ passes_part p from_loop
 
 -- a fault of the loop
 pub refuses_loop : (l : Limits) (ds : List Declaration) (init : Statements) (ts a b c : List Symbol) → HasLimits ts l a → ReadsCells a ds b
     → ReadsPart 256 7 b init c → (f : SyntaxFault) → SyntaxStops loop c f
     → Refuses ts f
-refuses_loop l ds init ts a b c h r p = refuses_behind loop (Part 11 ∷ []) ts c (behind_init l ds init ts a b c h r p)
+refuses_loop l ds init ts a b c h r p = refuses_after loop (Part 11 ∷ []) ts c (after_init l ds init ts a b c h r p)
 
 -- the machine passes the loop of a program
-behind_loop : (l : Limits) (ds : List Declaration) (init body : Statements) (e : Expression) (ts a b c d : List Symbol) → HasLimits ts l a
+after_loop : (l : Limits) (ds : List Declaration) (init body : Statements) (e : Expression) (ts a b c d : List Symbol) → HasLimits ts l a
     → ReadsCells a ds b → ReadsPart 256 7 b init c → ReadsLoop c e body d → judge 256 ts (Outside program) ≡ judge 256 d (Outside (Part 11 ∷ []))
-behind_loop l ds init body e ts a b c d h r p q = behind_init l ds init ts a b c h r p ∙ passes_loop e body c d q (Part 11 ∷ [])
+after_loop l ds init body e ts a b c d h r p q = after_init l ds init ts a b c h r p ∙ passes_loop e body c d q (Part 11 ∷ [])
 
 -- a fault of the last part
 pub refuses_last : (l : Limits) (ds : List Declaration) (init body : Statements) (e : Expression) (ts a b c d : List Symbol) → HasLimits ts l a
     → ReadsCells a ds b → ReadsPart 256 7 b init c → ReadsLoop c e body d → (f : SyntaxFault) → SyntaxStops (Part 11 ∷ []) d f
     → Refuses ts f
-refuses_last l ds init body e ts a b c d h r p q = refuses_behind (Part 11 ∷ []) [] ts d (behind_loop l ds init body e ts a b c d h r p q)
+refuses_last l ds init body e ts a b c d h r p q = refuses_after (Part 11 ∷ []) [] ts d (after_loop l ds init body e ts a b c d h r p q)
 
 -- if nothing more may come, the first symbol is unexpected
 left_over : (ts : List Symbol) → 0 < length ts → judge 256 ts (Outside []) ≡ machine.Unexpected (length ts)
@@ -227,7 +227,7 @@ pub refuses_more : (l : Limits) (ds : List Declaration) (init body last : Statem
     → ReadsCells a ds b → ReadsPart 256 7 b init c → ReadsLoop c e body d → ReadsPart 256 11 d last rest → 0 < length rest
     → judge 256 ts (Outside program) ≡ machine.Unexpected (length rest)
 refuses_more l ds init body last e ts a b c d rest h r p q x n =
-    behind_loop l ds init body e ts a b c d h r p q ∙ passes_part x [] ∙ left_over rest n
+    after_loop l ds init body e ts a b c d h r p q ∙ passes_part x [] ∙ left_over rest n
 
 -- a program, by its parts
 pub program_read : (l : Limits) (ds : List Declaration) (init body last : Statements) (e : Expression) (ts a b c d rest : List Symbol) → HasLimits ts l a

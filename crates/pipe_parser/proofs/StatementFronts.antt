@@ -34,24 +34,24 @@ before_none [] = refl
 before_none (s ∷ found) = ap (Then (statement_of s)) (before_none found)
 
 -- at the closing brace the statements found so far are all
-pub block_read : (ts all rest behind : List Symbol) (found : List Stmt) → ts ≡ symbols.Sign 123 ∷ all
+pub block_read : (ts all rest following : List Symbol) (found : List Stmt) → ts ≡ symbols.Sign 123 ∷ all
     → ((ss : Statements) (end : List Symbol) → ReadsStatements 256 rest ss end → ReadsStatements 256 all (before found ss) end)
-    → rest ≡ symbols.Sign 125 ∷ behind
-    → ReadsBlock 256 ts (statements_of found) behind
-block_read ts all rest behind found h f e =
-    let closed : ReadsStatements 256 rest Empty behind = subst (λ x. ReadsStatements 256 x Empty behind) (sym e) (ReadsClose behind) in
-    rw h (ReadsBraces (subst (λ x. ReadsStatements 256 all x behind) (before_none found) (f Empty behind closed)))
+    → rest ≡ symbols.Sign 125 ∷ following
+    → ReadsBlock 256 ts (statements_of found) following
+block_read ts all rest following found h f e =
+    let closed : ReadsStatements 256 rest Empty following = subst (λ x. ReadsStatements 256 x Empty following) (sym e) (ReadsClose following) in
+    rw h (ReadsBraces (subst (λ x. ReadsStatements 256 all x following) (before_none found) (f Empty following closed)))
 
 -- ---- faults
 
 -- a fault after the symbols that were read is the fault of the whole
-pub fault_behind : (wants others : List Want) (ts us : List Symbol)
+pub fault_after : (wants others : List Want) (ts us : List Symbol)
     → ((below : List Want) → judge 256 ts (Outside (wants ++ below)) ≡ judge 256 us (Outside (others ++ below))) → (f : SyntaxFault) → SyntaxStops others us f
     → SyntaxStops wants ts f
-fault_behind wants others ts us h (faults.Unexpected left) x = record { refused = λ below. h below ∙ x.refused below }
-fault_behind wants others ts us h (faults.TooLong left) x = record { refused = λ below. h below ∙ x.refused below }
-fault_behind wants others ts us h faults.NoMemory x = tt
-fault_behind wants others ts us h (faults.TooDeep left) x = x
+fault_after wants others ts us h (faults.Unexpected left) x = record { refused = λ below. h below ∙ x.refused below }
+fault_after wants others ts us h (faults.TooLong left) x = record { refused = λ below. h below ∙ x.refused below }
+fault_after wants others ts us h faults.NoMemory x = tt
+fault_after wants others ts us h (faults.TooDeep left) x = x
 
 -- a fault of the first wants is a fault of those wants followed by more
 pub fault_before : (wants more : List Want) (ts : List Symbol) (f : SyntaxFault) → SyntaxStops wants ts f → SyntaxStops (wants ++ more) ts f
@@ -69,13 +69,13 @@ fault_before wants more ts =
 -- a fault after a full expression
 pub fault_full : (others : List Want) (e : Expression) (ts mid : List Symbol) → ReadsFull 256 ts e mid → (f : SyntaxFault) → SyntaxStops others mid f
     → SyntaxStops (FullExpression ∷ others) ts f
-fault_full others e ts mid r = fault_behind (FullExpression ∷ others) others ts mid (λ below. passes_full r (others ++ below))
+fault_full others e ts mid r = fault_after (FullExpression ∷ others) others ts mid (λ below. passes_full r (others ++ below))
 
 -- a fault of the sign after an index
 pub fault_index : (index : Expression) (ts mid : List Symbol) → ReadsFull 256 ts index (symbols.Sign 93 ∷ mid) → (f : SyntaxFault) → SyntaxStops (Sign 61 ∷ []) mid f
     → SyntaxStops element ts f
 fault_index index ts mid r f x =
-    fault_behind element (Sign 61 ∷ FullExpression ∷ Sign 59 ∷ []) ts mid (λ below. passes_full r (Sign 93 ∷ Sign 61 ∷ FullExpression ∷ Sign 59 ∷ below)) f
+    fault_after element (Sign 61 ∷ FullExpression ∷ Sign 59 ∷ []) ts mid (λ below. passes_full r (Sign 93 ∷ Sign 61 ∷ FullExpression ∷ Sign 59 ∷ below)) f
     (fault_before (Sign 61 ∷ []) (FullExpression ∷ Sign 59 ∷ []) mid f x)
 
 -- a fault of the value that an element is assigned
@@ -83,7 +83,7 @@ pub fault_assigned : (index : Expression) (ts mid inside : List Symbol) → Read
     → (f : SyntaxFault) → SyntaxStops (FullExpression ∷ Sign 59 ∷ []) inside f
     → SyntaxStops element ts f
 fault_assigned index ts mid inside r h =
-    fault_behind element (FullExpression ∷ Sign 59 ∷ []) ts inside
+    fault_after element (FullExpression ∷ Sign 59 ∷ []) ts inside
     (λ below. passes_full r (Sign 93 ∷ Sign 61 ∷ FullExpression ∷ Sign 59 ∷ below)
     ∙ ap (λ x. judge 256 x (Outside (Sign 61 ∷ FullExpression ∷ Sign 59 ∷ below))) h)
 
@@ -92,16 +92,16 @@ pub fault_number : (ts inside : List Symbol) → ts ≡ symbols.Sign 40 ∷ insi
     → SyntaxStops (FullExpression ∷ Sign 41 ∷ []) inside f
     → SyntaxStops stage ts f
 fault_number ts inside h n f x =
-    fault_behind stage (FullExpression ∷ Sign 41 ∷ Sign 59 ∷ []) ts inside
+    fault_after stage (FullExpression ∷ Sign 41 ∷ Sign 59 ∷ []) ts inside
     (λ below. ap (λ y. judge 256 y (Outside (stage ++ below))) h ∙ stage_number 256 inside (Sign 59 ∷ below) n) f
     (fault_before (FullExpression ∷ Sign 41 ∷ []) (Sign 59 ∷ []) inside f x)
 
 -- a fault of the sign after a stage number
-pub fault_behind_number : (e : Expression) (ts inside mid : List Symbol) → ts ≡ symbols.Sign 40 ∷ inside → ReadsFull 256 inside e (symbols.Sign 41 ∷ mid)
+pub fault_after_number : (e : Expression) (ts inside mid : List Symbol) → ts ≡ symbols.Sign 40 ∷ inside → ReadsFull 256 inside e (symbols.Sign 41 ∷ mid)
     → (f : SyntaxFault) → SyntaxStops (Sign 59 ∷ []) mid f
     → SyntaxStops stage ts f
-fault_behind_number e ts inside mid h r =
-    fault_behind stage (Sign 59 ∷ []) ts mid
+fault_after_number e ts inside mid h r =
+    fault_after stage (Sign 59 ∷ []) ts mid
     (λ below. ap (λ y. judge 256 y (Outside (stage ++ below))) h ∙ passes_stage_number r (Sign 59 ∷ below))
 
 -- the machine passes a test
@@ -112,26 +112,26 @@ passes_test e ts mid t below =
 
 -- a fault of the body of a `while`
 pub fault_body : (e : Expression) (ts mid : List Symbol) → ReadsTest ts e mid → (f : SyntaxFault) → SyntaxStops block mid f → SyntaxStops repetition ts f
-fault_body e ts mid t = fault_behind repetition block ts mid (λ below. passes_test e ts mid t (block ++ below))
+fault_body e ts mid t = fault_after repetition block ts mid (λ below. passes_test e ts mid t (block ++ below))
 
 -- a fault of the first block of an `if`
 pub fault_then : (e : Expression) (ts mid : List Symbol) → ReadsTest ts e mid → (f : SyntaxFault) → SyntaxStops block mid f → SyntaxStops choice ts f
 fault_then e ts mid t f x = fault_before repetition (Part 14 ∷ []) ts f (fault_body e ts mid t f x)
 
 -- a fault of the `else` of an `if`
-pub fault_else : (e : Expression) (a : Statements) (ts mid behind : List Symbol) → ReadsTest ts e mid → ReadsBlock 256 mid a behind → (f : SyntaxFault)
-    → SyntaxStops (Part 14 ∷ []) behind f
+pub fault_else : (e : Expression) (a : Statements) (ts mid following : List Symbol) → ReadsTest ts e mid → ReadsBlock 256 mid a following → (f : SyntaxFault)
+    → SyntaxStops (Part 14 ∷ []) following f
     → SyntaxStops choice ts f
-fault_else e a ts mid behind t b =
-    fault_behind choice (Part 14 ∷ []) ts behind
+fault_else e a ts mid following t b =
+    fault_after choice (Part 14 ∷ []) ts following
     (λ below. passes_test e ts mid t (Sign 123 ∷ machine.Statements ∷ Sign 125 ∷ Part 14 ∷ below) ∙ passes_block b (Part 14 ∷ below))
 
 -- ---- readings
 -- a `let`
-pub let_read : (name : List ℕ) (e : Expression) (ts behind inside rest : List Symbol) → ts ≡ symbols.Name name ∷ behind → behind ≡ symbols.Sign 61 ∷ inside
+pub let_read : (name : List ℕ) (e : Expression) (ts following inside rest : List Symbol) → ts ≡ symbols.Name name ∷ following → following ≡ symbols.Sign 61 ∷ inside
     → ReadsFull 256 inside e (symbols.Sign 59 ∷ rest)
     → ReadsStatement 256 (symbols.Word 12 ∷ ts) (Let name e) rest
-let_read name e ts behind inside rest h i r = rw (h, i) (ReadsLet name r)
+let_read name e ts following inside rest h i r = rw (h, i) (ReadsLet name r)
 
 -- an assignment
 pub assign_read : (name : List ℕ) (e : Expression) (ts inside rest : List Symbol) → ts ≡ symbols.Sign 61 ∷ inside
@@ -169,15 +169,15 @@ pub while_read : (e : Expression) (a : Statements) (ts mid rest : List Symbol) �
 while_read e a ts mid rest t b = rw t.opens (ReadsWhile t.reads b)
 
 -- an `if`, by its parts
-pub if_read : (e : Expression) (a b : Statements) (ts mid behind rest : List Symbol) → ReadsTest ts e mid → ReadsBlock 256 mid a behind
-    → ReadsPart 256 14 behind b rest
+pub if_read : (e : Expression) (a b : Statements) (ts mid following rest : List Symbol) → ReadsTest ts e mid → ReadsBlock 256 mid a following
+    → ReadsPart 256 14 following b rest
     → ReadsStatement 256 (symbols.Word 13 ∷ ts) (If e a b) rest
-if_read e a b ts mid behind rest t c p = rw t.opens (ReadsIf t.reads c p)
+if_read e a b ts mid following rest t c p = rw t.opens (ReadsIf t.reads c p)
 
 -- a part that is present
-pub part_read : (word : ℕ) (ss : Statements) (ts behind rest : List Symbol) → ts ≡ symbols.Word word ∷ behind → ReadsBlock 256 behind ss rest
+pub part_read : (word : ℕ) (ss : Statements) (ts following rest : List Symbol) → ts ≡ symbols.Word word ∷ following → ReadsBlock 256 following ss rest
     → ReadsPart 256 word ts ss rest
-part_read word ss ts behind rest h b = rw h (ReadsPartIs b)
+part_read word ss ts following rest h b = rw h (ReadsPartIs b)
 
 -- a part that is missing is empty
 pub part_missing : (word : ℕ) (ts : List Symbol) → NoWord word ts → ReadsPart 256 word ts Empty ts

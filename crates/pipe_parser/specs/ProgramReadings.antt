@@ -35,8 +35,8 @@ HasLimits ts l rest = ts ≡ flat (limits_before l.iterations l.stages l.steps l
 
 -- the symbols begin with the loop of this test and body
 pub record ReadsLoop (ts : List Symbol) (test : tree.Expression) (body : tree.Statements) (rest : List Symbol) : Type 0 where
-  pub behind : List Symbol
-  pub begins : ts ≡ word_pipe_while ∷ behind
+  pub following : List Symbol
+  pub begins : ts ≡ word_pipe_while ∷ following
   pub mid : List Symbol
-  pub tested : ReadsTest behind test mid
+  pub tested : ReadsTest following test mid
   pub block : ReadsBlock LONGEST_EXPRESSION mid body rest

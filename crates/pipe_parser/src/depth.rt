@@ -42,14 +42,14 @@ pub fn first_too_deep(symbols: &Symbols) -> Option<usize>
     let all = symbols.len();
     let mut opened: usize = 0;
     let mut closed: usize = 0;
-    let mut rest = symbols.behind(0);
+    let mut rest = symbols.skip(0);
     while let Some(first) = rest.first() {
         opened += one_where(is_opening_bracket(first.kind));
         closed += one_where(is_closing_bracket(first.kind));
         if MOST_OPEN_BRACKETS < opened.saturating_sub(closed) {
-            return Some(all - first.behind.len());
+            return Some(all - first.following.len());
         }
-        rest = first.behind;
+        rest = first.following;
     }
     None
 }

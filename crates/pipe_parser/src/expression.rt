@@ -50,7 +50,7 @@ fn operator_of_level<'a>(symbols: &Symbols<'a>, level: u8) -> Option<(u8, Symbol
     match first.kind {
         TokenKind::Operator(code) => {
             if level_of(code) == level {
-                Some((code, first.behind))
+                Some((code, first.following))
             } else {
                 None
             }
@@ -67,12 +67,12 @@ fn boxed(alloc: Global, e: Expr) -> Result<Box<Expr>, AllocError>
 
 /// Returns the symbols after `sign`. Returns an error if `sign` does not come first.
 pub fn expect_sign<'a>(symbols: &Symbols<'a>, sign: u8) -> Result<Symbols<'a>, SyntaxFault>
-    ensures ok { IfOk result (λ behind. symbols.now ≡ terminals.Sign sign ∷ behind) }
+    ensures ok { IfOk result (λ following. symbols.now ≡ terminals.Sign sign ∷ following) }
     ensures stuck { IfErr result (λ fault. ExpressionStops (Sign sign ∷ []) symbols.now fault) }
     ensures err { IfErr result (λ fault. syntax.SyntaxStops (machine.Sign sign ∷ []) symbols.now fault) }
 {
     match symbols.after_sign(sign) {
-        Some(behind) => Ok(behind),
+        Some(following) => Ok(following),
         None => Err(SyntaxFault::Unexpected(symbols.len())),
     }
 }
@@ -97,14 +97,14 @@ fn read_operand<'a>(alloc: Global, symbols: &Symbols<'a>) -> Read<'a, Expr>
         return Err(SyntaxFault::Unexpected(0));
     };
     match first.kind {
-        TokenKind::Number(n) => Ok((Expr::Number(n), first.behind)),
-        TokenKind::Name => read_named(alloc, first.text, first.behind),
-        TokenKind::Word(MORE) => read_call(Expr::More, &first.behind),
-        TokenKind::Word(TAKE) => read_call(Expr::Take, &first.behind),
-        TokenKind::Word(ITER) => read_call(Expr::Iter, &first.behind),
-        TokenKind::Operator(MINUS) => read_unary(alloc, NEGATIVE, &first.behind),
-        TokenKind::Sign(b'!') => read_unary(alloc, NOT, &first.behind),
-        TokenKind::Sign(b'(') => read_closed(alloc, b')', &first.behind),
+        TokenKind::Number(n) => Ok((Expr::Number(n), first.following)),
+        TokenKind::Name => read_named(alloc, first.text, first.following),
+        TokenKind::Word(MORE) => read_call(Expr::More, &first.following),
+        TokenKind::Word(TAKE) => read_call(Expr::Take, &first.following),
+        TokenKind::Word(ITER) => read_call(Expr::Iter, &first.following),
+        TokenKind::Operator(MINUS) => read_unary(alloc, NEGATIVE, &first.following),
+        TokenKind::Sign(b'!') => read_unary(alloc, NOT, &first.following),
+        TokenKind::Sign(b'(') => read_closed(alloc, b')', &first.following),
         _ => Err(SyntaxFault::Unexpected(symbols.len())),
     }
 }
@@ -188,8 +188,8 @@ fn extend<'a>(alloc: Global, level: u8, first: Expr, symbols: Symbols<'a>) -> Re
 {
     let mut joined = first;
     let mut rest = symbols;
-    while let Some((code, behind)) = operator_of_level(&rest, level) {
-        let (second, after) = read_expression(alloc, level + 1, &behind)?;
+    while let Some((code, following)) = operator_of_level(&rest, level) {
+        let (second, after) = read_expression(alloc, level + 1, &following)?;
         joined = Expr::Binary(code, boxed(alloc, joined)?, boxed(alloc, second)?);
         rest = after;
     }

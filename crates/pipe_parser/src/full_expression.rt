@@ -38,13 +38,13 @@ fn read_in_window<'a>(alloc: Global, symbols: &Symbols<'a>) -> Read<'a, Expr>
     ensures shorter { IfOk result (λ r. length r.1 < length symbols.now) }
 {
     let more = symbols.len() - (LONGEST_EXPRESSION + 1);
-    let window = symbols.front(LONGEST_EXPRESSION + 1);
+    let window = symbols.prefix(LONGEST_EXPRESSION + 1);
     match read_expression(alloc, ANY_EXPRESSION, &window) {
         Ok((e, rest)) => {
             if rest.len() == 0 {
                 return Err(SyntaxFault::TooLong(more + 1));
             }
-            Ok((e, symbols.behind(LONGEST_EXPRESSION + 1 - rest.len())))
+            Ok((e, symbols.skip(LONGEST_EXPRESSION + 1 - rest.len())))
         }
         Err(SyntaxFault::Unexpected(left)) => {
             if left == 0 {

@@ -72,7 +72,7 @@ fn fault_up_to(alloc: Global, symbols: &Symbols, count: usize) -> SyntaxFault
     ensures { BreaksFirst symbols.now result }
 {
     let more = symbols.len() - count;
-    let cut = symbols.front(count);
+    let cut = symbols.prefix(count);
     let Err(fault) = read_program(alloc, &cut) else {
         return SyntaxFault::TooDeep(more + 1);
     };

@@ -23,11 +23,11 @@ use std::alloc::{AllocError, Global};
 
 // Returns the symbols after a word that has to come first.
 fn expect_word<'a>(symbols: &Symbols<'a>, word: u8) -> Result<Symbols<'a>, SyntaxFault>
-    ensures ok { IfOk result (λ behind. symbols.now ≡ terminals.Word word ∷ behind) }
+    ensures ok { IfOk result (λ following. symbols.now ≡ terminals.Word word ∷ following) }
     ensures err { IfErr result (λ fault. SyntaxStops (Word word ∷ []) symbols.now fault) }
 {
     match symbols.after_word(word) {
-        Some(behind) => Ok(behind),
+        Some(following) => Ok(following),
         None => Err(SyntaxFault::Unexpected(symbols.len())),
     }
 }
@@ -38,7 +38,7 @@ fn expect_number<'a>(symbols: &Symbols<'a>) -> Read<'a, i64>
     ensures err { IfErr result (λ fault. SyntaxStops (AnyNumber ∷ []) symbols.now fault) }
 {
     match symbols.after_number() {
-        Some((number, behind)) => Ok((number, behind)),
+        Some((number, following)) => Ok((number, following)),
         None => Err(SyntaxFault::Unexpected(symbols.len())),
     }
 }
@@ -48,8 +48,8 @@ fn read_limit<'a>(symbols: &Symbols<'a>, word: u8, sign: u8) -> Read<'a, i64>
     ensures ok { IfOk result (λ r. symbols.now ≡ terminals.Word word ∷ terminals.Number r.0 ∷ terminals.Sign sign ∷ r.1) }
     ensures err { IfErr result (λ fault. SyntaxStops (limit word sign) symbols.now fault) }
 {
-    let behind = expect_word(symbols, word)?;
-    let (number, rest) = expect_number(&behind)?;
+    let following = expect_word(symbols, word)?;
+    let (number, rest) = expect_number(&following)?;
     let rest = expect_sign(&rest, sign)?;
     Ok((number, rest))
 }
@@ -83,8 +83,8 @@ fn read_size<'a>(symbols: Symbols<'a>) -> Read<'a, Option<i64>>
     let Some(inside) = symbols.after_sign(b'[') else {
         return Ok((None, symbols));
     };
-    let (size, behind) = expect_number(&inside)?;
-    let rest = expect_sign(&behind, b']')?;
+    let (size, following) = expect_number(&inside)?;
+    let rest = expect_sign(&following, b']')?;
     Ok((Some(size), rest))
 }
 
@@ -93,14 +93,14 @@ fn read_value<'a>(symbols: &Symbols<'a>) -> Read<'a, i64>
     ensures ok { IfOk result (λ r. ReadsValue symbols.now r.0 r.1) }
     ensures err { IfErr result (λ fault. SyntaxStops (Value ∷ []) symbols.now fault) }
 {
-    let Some(behind) = symbols.after_operator(MINUS) else {
+    let Some(following) = symbols.after_operator(MINUS) else {
         return expect_number(symbols);
     };
-    let Some((size, rest)) = behind.after_number() else {
-        return Err(SyntaxFault::Unexpected(behind.len()));
+    let Some((size, rest)) = following.after_number() else {
+        return Err(SyntaxFault::Unexpected(following.len()));
     };
     if size < 0 {
-        return Err(SyntaxFault::Unexpected(behind.len()));
+        return Err(SyntaxFault::Unexpected(following.len()));
     }
     Ok((-size, rest))
 }
@@ -130,9 +130,9 @@ fn read_cells<'a>(alloc: Global, symbols: Symbols<'a>) -> Read<'a, Declarations>
     let mut cells = Declarations::new(alloc);
     let mut rest = symbols;
     while let Some(declared) = rest.after_word(CELL) {
-        let (cell, behind) = read_cell(alloc, &declared)?;
+        let (cell, following) = read_cell(alloc, &declared)?;
         cells.push(cell).map_err(AllocError::from)?;
-        rest = behind;
+        rest = following;
     }
     Ok((cells, rest))
 }
@@ -145,8 +145,8 @@ fn read_loop<'a>(
     ensures ok { IfOk result (λ r. ReadsLoop symbols.now (expression_of r.0) (statements_of r.1.statements.items) r.2) }
     ensures err { IfErr result (λ fault. SyntaxStops loop symbols.now fault) }
 {
-    let behind = expect_word(symbols, PIPE_WHILE)?;
-    let (test, inside) = read_test(alloc, &behind)?;
+    let following = expect_word(symbols, PIPE_WHILE)?;
+    let (test, inside) = read_test(alloc, &following)?;
     let (body, rest) = read_block(alloc, &inside)?;
     Ok((test, body, rest))
 }

@@ -50,10 +50,10 @@ fn read_let<'a>(alloc: Global, symbols: &Symbols<'a>) -> Read<'a, Stmt>
     ensures err { IfErr result (λ fault. SyntaxStops binding symbols.now fault) }
     ensures shorter { IfOk result (λ r. length r.1 < length symbols.now) }
 {
-    let Some((name, behind)) = symbols.after_name() else {
+    let Some((name, following)) = symbols.after_name() else {
         return Err(SyntaxFault::Unexpected(symbols.len()));
     };
-    let rest = expect_sign(&behind, b'=')?;
+    let rest = expect_sign(&following, b'=')?;
     let (e, rest) = read_until(alloc, b';', &rest)?;
     let name = Name::new(alloc, name)?;
     Ok((Stmt::Let(name, e), rest))
@@ -81,10 +81,10 @@ fn read_assignment<'a>(alloc: Global, name: &[u8], symbols: &Symbols<'a>) -> Rea
     if let Some(inside) = symbols.after_sign(b'[') {
         return read_element(alloc, name, &inside);
     }
-    let Some(behind) = symbols.after_sign(b'=') else {
+    let Some(following) = symbols.after_sign(b'=') else {
         return Err(SyntaxFault::Unexpected(symbols.len()));
     };
-    let (e, rest) = read_until(alloc, b';', &behind)?;
+    let (e, rest) = read_until(alloc, b';', &following)?;
     let name = Name::new(alloc, name)?;
     Ok((Stmt::Assign(name, e), rest))
 }
@@ -107,12 +107,12 @@ fn read_stage<'a>(alloc: Global, symbols: &Symbols<'a>) -> Read<'a, Option<Expr>
     ensures shorter { IfOk result (λ r. length r.1 < length symbols.now) }
 {
     let inside = expect_sign(symbols, b'(')?;
-    if let Some(behind) = inside.after_sign(b')') {
-        let rest = expect_sign(&behind, b';')?;
+    if let Some(following) = inside.after_sign(b')') {
+        let rest = expect_sign(&following, b';')?;
         return Ok((None, rest));
     }
-    let (e, behind) = read_until(alloc, b')', &inside)?;
-    let rest = expect_sign(&behind, b';')?;
+    let (e, following) = read_until(alloc, b')', &inside)?;
+    let rest = expect_sign(&following, b';')?;
     Ok((Some(e), rest))
 }
 
@@ -128,19 +128,19 @@ fn read_statement<'a>(alloc: Global, symbols: &Symbols<'a>) -> Read<'a, Stmt>
         return Err(SyntaxFault::Unexpected(0));
     };
     match first.kind {
-        TokenKind::Name => read_assignment(alloc, first.text, &first.behind),
+        TokenKind::Name => read_assignment(alloc, first.text, &first.following),
         TokenKind::Word(PIPE_WAIT) => {
-            let (number, rest) = read_stage(alloc, &first.behind)?;
+            let (number, rest) = read_stage(alloc, &first.following)?;
             Ok((Stmt::Wait(number), rest))
         }
         TokenKind::Word(PIPE_CONTINUE) => {
-            let (number, rest) = read_stage(alloc, &first.behind)?;
+            let (number, rest) = read_stage(alloc, &first.following)?;
             Ok((Stmt::Continue(number), rest))
         }
-        TokenKind::Word(LET) => read_let(alloc, &first.behind),
-        TokenKind::Word(IF) => read_if(alloc, &first.behind),
-        TokenKind::Word(WHILE) => read_while(alloc, &first.behind),
-        TokenKind::Word(EMIT) => read_emit(alloc, &first.behind),
+        TokenKind::Word(LET) => read_let(alloc, &first.following),
+        TokenKind::Word(IF) => read_if(alloc, &first.following),
+        TokenKind::Word(WHILE) => read_while(alloc, &first.following),
+        TokenKind::Word(EMIT) => read_emit(alloc, &first.following),
         _ => Err(SyntaxFault::Unexpected(symbols.len())),
     }
 }
@@ -179,7 +179,7 @@ pub fn read_part<'a>(alloc: Global, word: u8, symbols: Symbols<'a>) -> Read<'a, 
     ensures shorter { IfOk result (λ r. length r.1 ≤ length symbols.entry) }
 {
     match symbols.after_word(word) {
-        Some(behind) => read_block(alloc, &behind),
+        Some(following) => read_block(alloc, &following),
         None => Ok((
             Block {
                 statements: Vec::new(alloc),
@@ -199,11 +199,11 @@ pub fn read_block<'a>(alloc: Global, symbols: &Symbols<'a>) -> Read<'a, Block>
     let mut rest = expect_sign(symbols, b'{')?;
     let mut statements = Vec::new(alloc);
     loop {
-        if let Some(behind) = rest.after_sign(b'}') {
-            return Ok((Block { statements }, behind));
+        if let Some(following) = rest.after_sign(b'}') {
+            return Ok((Block { statements }, following));
         }
-        let (statement, behind) = read_statement(alloc, &rest)?;
+        let (statement, following) = read_statement(alloc, &rest)?;
         statements.push(statement).map_err(AllocError::from)?;
-        rest = behind;
+        rest = following;
     }
 }

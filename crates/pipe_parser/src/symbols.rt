@@ -31,26 +31,26 @@ impl<'a> Model for Symbols<'a> {
 pub struct First<'a> {
     pub kind: TokenKind,
     pub text: &'a [u8],
-    pub behind: Symbols<'a>,
+    pub following: Symbols<'a>,
 }
 
 // The bytes of a token in its source.
 fn text_of<'a>(source: &'a [u8], token: Token) -> &'a [u8]
     ensures { result.now ≡ text_in source.now token }
 {
-    let behind = source.get(token.place as usize..).unwrap_or(&[]);
-    behind.get(..token.length as usize).unwrap_or(behind)
+    let following = source.get(token.place as usize..).unwrap_or(&[]);
+    following.get(..token.length as usize).unwrap_or(following)
 }
 
 // The first `count` tokens, or all if there are fewer.
-fn front_of(tokens: &[Token], count: usize) -> &[Token]
+fn prefix_of(tokens: &[Token], count: usize) -> &[Token]
     ensures { result.now ≡ take count tokens.now }
 {
     tokens.get(..count).unwrap_or(tokens)
 }
 
 // The tokens after the first `count`.
-fn behind(tokens: &[Token], count: usize) -> &[Token]
+fn suffix_of(tokens: &[Token], count: usize) -> &[Token]
     ensures { result.now ≡ drop count tokens.now }
 {
     tokens.get(count..).unwrap_or(&[])
@@ -72,71 +72,71 @@ impl<'a> Symbols<'a> {
     }
 
     /// Returns the first `count` symbols, or all if there are fewer.
-    pub fn front(&self, count: usize) -> Symbols<'a>
+    pub fn prefix(&self, count: usize) -> Symbols<'a>
         ensures { result ≡ take count self.now }
     {
         Symbols {
             source: self.source,
-            tokens: front_of(self.tokens, count),
+            tokens: prefix_of(self.tokens, count),
         }
     }
 
     /// Returns the symbols after the first `count`.
-    pub fn behind(&self, count: usize) -> Symbols<'a>
+    pub fn skip(&self, count: usize) -> Symbols<'a>
         ensures { result ≡ drop count self.now }
     {
         Symbols {
             source: self.source,
-            tokens: behind(self.tokens, count),
+            tokens: suffix_of(self.tokens, count),
         }
     }
 
     /// Returns the first symbol; `None` if there is none.
     pub fn first(&self) -> Option<First<'a>>
-        ensures some { IfSome result (λ first. self.now ≡ symbol_as first.kind first.text.now ∷ first.behind) }
+        ensures some { IfSome result (λ first. self.now ≡ symbol_as first.kind first.text.now ∷ first.following) }
         ensures none { IfNone result (self.now ≡ []) }
     {
-        let (token, behind) = self.tokens.split_first()?;
+        let (token, following) = self.tokens.split_first()?;
         Some(First {
             kind: token.kind,
             text: text_of(self.source, *token),
-            behind: Symbols {
+            following: Symbols {
                 source: self.source,
-                tokens: behind,
+                tokens: following,
             },
         })
     }
 
     /// Returns the symbols after the sign, if it comes first.
     pub fn after_sign(&self, sign: u8) -> Option<Symbols<'a>>
-        ensures some { IfSome result (λ behind. self.now ≡ Sign sign ∷ behind) }
+        ensures some { IfSome result (λ following. self.now ≡ Sign sign ∷ following) }
         ensures none { IfNone result (NoSign sign self.now) }
     {
         match self.first() {
             Some(
                 First {
                     kind: TokenKind::Sign(b),
-                    behind,
+                    following,
                     ..
                 },
-            ) if b == sign => Some(behind),
+            ) if b == sign => Some(following),
             _ => None,
         }
     }
 
     /// Returns the symbols after the reserved word, if it comes first.
     pub fn after_word(&self, word: u8) -> Option<Symbols<'a>>
-        ensures some { IfSome result (λ behind. self.now ≡ Word word ∷ behind) }
+        ensures some { IfSome result (λ following. self.now ≡ Word word ∷ following) }
         ensures none { IfNone result (NoWord word self.now) }
     {
         match self.first() {
             Some(
                 First {
                     kind: TokenKind::Word(k),
-                    behind,
+                    following,
                     ..
                 },
-            ) if k == word => Some(behind),
+            ) if k == word => Some(following),
             _ => None,
         }
     }
@@ -151,9 +151,9 @@ impl<'a> Symbols<'a> {
                 First {
                     kind: TokenKind::Name,
                     text,
-                    behind,
+                    following,
                 },
-            ) => Some((text, behind)),
+            ) => Some((text, following)),
             _ => None,
         }
     }
@@ -167,27 +167,27 @@ impl<'a> Symbols<'a> {
             Some(
                 First {
                     kind: TokenKind::Number(n),
-                    behind,
+                    following,
                     ..
                 },
-            ) => Some((n, behind)),
+            ) => Some((n, following)),
             _ => None,
         }
     }
 
     /// Returns the symbols after the operator, if it comes first.
     pub fn after_operator(&self, code: u8) -> Option<Symbols<'a>>
-        ensures some { IfSome result (λ behind. self.now ≡ Operator code ∷ behind) }
+        ensures some { IfSome result (λ following. self.now ≡ Operator code ∷ following) }
         ensures none { IfNone result (NoOperator code self.now) }
     {
         match self.first() {
             Some(
                 First {
                     kind: TokenKind::Operator(other),
-                    behind,
+                    following,
                     ..
                 },
-            ) if other == code => Some(behind),
+            ) if other == code => Some(following),
             _ => None,
         }
     }

@@ -18,7 +18,7 @@ use Rattle.pipe_model.specs.Pipelines.SerialElision.{located, located_from, seri
 use Rattle.pipe_model.specs.Pipelines.Store.{value_after}
 use Rattle.serial_elision.specs.ColumnEvents.{access_events, column_events, end_events, entry_events, events_of, is_made_by, left_by_column, own_count}
 
--- the trace comes to its end, and has nothing behind it
+-- the trace has an end, and it is the last action
 abbrev IsWhole : List Action → Type 0
 IsWhole [] = ⊥
 IsWhole (Accessed a ∷ is) = IsWhole is
@@ -68,7 +68,7 @@ foreign_iterations : (i j : ℕ) (ts : List (List Action)) → i < j → (k : �
 foreign_iterations i j [] w k = refl
 foreign_iterations i j (t ∷ ts) w k = foreign_place i j 0 k t (located_from (j + 1) ts) w (foreign_iterations i (j + 1) ts (omega (arith, w)) k)
 
--- the events from inside an instance on: the rest of its accesses, and the instances behind it
+-- the events from inside instance k on: its other accesses, then the later instances
 abbrev events_inside : ℕ → ℕ → List Node → List NodeAccess → List Event
 events_inside i k nodes accesses =
     access_events i (take (own_count i k accesses) accesses) ++ column_events i (k + 1) nodes (drop (own_count i k accesses) accesses)
@@ -77,7 +77,7 @@ events_inside i k nodes accesses =
 abbrev left_inside : ℕ → ℕ → List Node → List NodeAccess → List NodeAccess
 left_inside i k nodes accesses = left_by_column i (k + 1) nodes (drop (own_count i k accesses) accesses)
 
--- where nothing at the front is its own, the instances behind it come next
+-- if the next access is not its own, the later instances follow
 events_at_end : (i k : ℕ) (nodes : List Node) (accesses : List NodeAccess) → own_count i k accesses ≡ 0
     → events_inside i k nodes accesses ≡ column_events i (k + 1) nodes accesses
 events_at_end i k nodes accesses none = rw none refl
@@ -123,7 +123,7 @@ whole_events i k (Staged kind n ∷ is) rest w f =
     ∙ ap (λ es. events.Advance i kind n ∷ (events.Enter i ∷ es)) (whole_events i (k + 1) is rest w f)
 whole_events i k (Ended e ∷ is) rest w f = rw w (ap (λ es. es ++ events.Finish i e ∷ []) (events_at_end i k [] rest (f.none k)))
 
--- a whole trace leaves what stands behind its accesses
+-- a whole trace leaves the accesses after its own
 whole_left : (i k : ℕ) (t : List Action) (rest : List NodeAccess) → IsWhole t → IsForeign i rest
     → left_inside i k (nodes_in t) (located i k t ++ rest) ≡ rest
 whole_left i k [] rest w f = absurd w

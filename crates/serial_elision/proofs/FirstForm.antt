@@ -8,7 +8,7 @@ use Rattle.pipe_model.specs.declared.region.Region.TheVariants as regions
 use Rattle.pipe_model.specs.declared.symbol.Symbol.{Symbol}
 use Rattle.pipe_model.specs.declared.tree.Declaration.{Declaration}
 use Rattle.pipe_model.specs.Language.CheckingRules.{Fault, CheckingRule, Twice, TooManyCells, broken_at, cell_total, fault_of, fault_or, first_fault, is_cell, limit_fault_or, first_limit_out}
-use Rattle.pipe_model.specs.Language.FirstForm.{IsPlain, are_plain_statements, is_no_size, is_plain_cell, is_plain_code, is_plain_expression, is_plain_statement}
+use Rattle.serial_elision.specs.FirstForm.{IsPlain, are_plain_statements, is_no_size, is_plain_cell, is_plain_code, is_plain_expression, is_plain_statement}
 use Rattle.pipe_model.specs.Language.Marks.{DeclaredCell, Mark, mark_at, marks_of, marks_of_cells, opening}
 use Rattle.pipe_model.specs.Language.Programs.{declared_size}
 use Rattle.pipe_model.specs.Language.SpellablePrograms.{IsSpellable}
@@ -92,7 +92,7 @@ total_more : (ds : List Declaration) (d : Declaration) → cell_total (ds ++ d �
 total_more [] d = omega arith
 total_more (e ∷ ds) d = let more = total_more ds d in omega (arith, more)
 
--- plain cells that break no rule, behind the cells before them
+-- plain cells that break no rule, declared after the cells `before`
 cells_fit : (n : ℕ) (before ds : List Declaration) (rest : List Mark) → cell_total before ≤ 65536 → list_all is_plain_cell ds ≡ true
     → first_fault n (marks_of_cells before ds ++ rest) ≡ None → cell_total before + length ds ≤ 65536
 cells_fit n before [] rest few plain h = omega (arith, few)

@@ -11,7 +11,7 @@ use Rattle.serial_elision.specs.TreeResults.{basis_of}
 use Rattle.serial_elision.specs.ElisionState.{Basis}
 use Rattle.serial_elision.specs.Runnable.{IsPlainCell}
 
--- the cell of a declaration at a place of a list, or of one behind it
+-- the cells of a name are those of the declaration at index i, or of a later one
 pub range_step : (ds : List Declaration) (i next : ℕ) (x : List ℕ) (d : Declaration) → i < length ds → d ≡ get_or ds i d → d.size ≡ None
     → range_of next (drop i ds) x ≡ cond (bytes_eq d.name x) (Some (record { first = next; size = 1 })) (range_of (next + 1) (drop (i + 1) ds) x)
 range_step ds i next x d h e plain =

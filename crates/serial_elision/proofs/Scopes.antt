@@ -1,4 +1,4 @@
--- Look-ups of locals go on behind one that has another name.
+-- Look-ups of locals, one local at a time.
 use Rattle.std.proofs.Common.{◌≡◌, ◌∙◌, ap, sym, ℕ, ℤ, ◌+◌, ◌<◌, ◌++◌, ◌∷◌, List, Some, true, cond, length, get_or, take, drop, set, add-one}
 use Rattle.std.proofs.lemmas.List.{at_drop_more, map-append, set_split}
 use Rattle.std.specs.Str.{bytes_eq}
@@ -6,14 +6,14 @@ use Rattle.pipe_model.specs.Language.Evaluation.{Local as Named_value, local_val
 use Rattle.serial_elision.specs.declared.locals.Local.{Local}
 use Rattle.serial_elision.specs.LocalValues.{value_of, values_of}
 
--- the local at a place of a list, or one behind it
+-- the local of a name is the one at index i, or a later one
 pub local_step : (ls : List Local) (i : ℕ) (x : List ℕ) (l : Local) → i < length ls → l ≡ get_or ls i l
     → local_value (values_of (drop i ls)) x ≡ cond (bytes_eq l.name x) (Some l.value) (local_value (values_of (drop (i + 1) ls)) x)
 local_step ls i x l h e =
     at_drop_more (λ more. local_value (values_of more) x) ls i l h
     ∙ ap (λ (m : Local). cond (bytes_eq m.name x) (Some m.value) (local_value (values_of (drop (i + 1) ls)) x)) (sym e)
 
--- the locals, where the one at a place is the first of the name and has a new value
+-- a new value for the local at index i, the first of its name
 pub set_first : (ls : List Local) (i : ℕ) (l : Local) (x : List ℕ) (v : ℤ) (whole : List Named_value) → i < length ls → l ≡ get_or ls i l
     → bytes_eq l.name x ≡ true
     → values_of (take i ls) ++ updated_locals (values_of (drop i ls)) x v ≡ whole → values_of (set ls i (record { name = l.name; value = v })) ≡ whole

@@ -1,3 +1,4 @@
+pub mod FirstForm
 pub mod ElisionState
 pub mod Runnable
 pub mod Caching

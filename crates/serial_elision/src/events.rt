@@ -68,9 +68,9 @@ fn push_column<'a>(
     let mut rest = accesses;
     for (index, node) in nodes.iter().enumerate() {
         push_entry(events, iteration, index, *node)?;
-        let (own, behind) = rest.split_at(own_count(rest, iteration, index));
+        let (own, following) = rest.split_at(own_count(rest, iteration, index));
         push_accesses(events, iteration, own)?;
-        rest = behind;
+        rest = following;
     }
     Ok(rest)
 }

@@ -1,7 +1,7 @@
 use Rattle.std.proofs.Common.{◌∙◌, sym, rules}
 use Rattle.std.proofs.lemmas.Iterator.{YieldsList-from_slice}
 use Rattle.std.proofs.lemmas.Iterator.Search.{all_from_yields_List}
-use Rattle.pipe_model.specs.Language.FirstForm.{is_plain_statement}
+use Rattle.serial_elision.specs.FirstForm.{is_plain_statement}
 use Rattle.pipe_model.specs.Language.SyntaxTree.{statement_of}
 use Rattle.cilkp_program.proofs.FirstFormTests.{plain_statements}
 use Rattle.cilkp_program.proofs.first_form.are_plain_statements.Goals as goal

@@ -1,7 +1,7 @@
 use Rattle.std.proofs.Common.{rules}
 use Rattle.std.proofs.lemmas.Iterator.{YieldsList-from_slice}
 use Rattle.std.proofs.lemmas.Iterator.Search.{any_from_yields_List}
-use Rattle.pipe_model.specs.Language.FirstForm.{begins_part}
+use Rattle.serial_elision.specs.FirstForm.{begins_part}
 use Rattle.pipe_model.specs.Language.Tokens.{symbol_in}
 use Rattle.cilkp_program.proofs.FirstFormTests.{no_part_counted}
 use Rattle.cilkp_program.proofs.first_form.has_part.Goals as goal

@@ -5,5 +5,5 @@ use Rattle.cilkp_program.proofs.race_text.push_declared.Given as goal
 abbrev pub invariant-loop-declaration : goal.invariant-loop-declaration
 invariant-loop-declaration l = record {
   kept : l.text.items ≡ l.fn.text.items;
-  behind : declared_name (drop l.declaration-index l.cells) l.rest ≡ declared_name l.cells l.place;
+  following : declared_name (drop l.declaration-index l.cells) l.rest ≡ declared_name l.cells l.place;
 }

@@ -29,18 +29,18 @@ pub check_block-loop-s-preserved : goal.check_block-loop-s-preserved
 check_block-loop-s-preserved t c =
     let w : c.loop-s.s-index < length c.deref-s-items.result.now = omega arith in
     let step = statement_passed c.loop-s.scope c.check_statement.new.scope c.deref-s-items.result.now c.loop-s.s-index c.loop-s.next c.in_ok-next.next c.s-item.result w c.s-item.is
-    c.in_ok-next.ensures.marks c.in_ok-next.ensures.behind in
+    c.in_ok-next.ensures.marks c.in_ok-next.ensures.scope_after in
     record {
       faults = step.faults ∙ c.loop-s.invariant.faults;
       numbers = step.numbers ∙ c.loop-s.invariant.numbers;
-      behind = step.behind ∙ c.loop-s.invariant.behind;
+      scope_after = step.scope_after ∙ c.loop-s.invariant.scope_after;
     }
 
-pub check_block-returns-clause-behind : goal.check_block-returns-clause-behind
-check_block-returns-clause-behind t c =
+pub check_block-returns-clause-scope_after : goal.check_block-returns-clause-scope_after
+check_block-returns-clause-scope_after t c =
     let left = none_left c.deref-s-items.result.now c.loop-s.s-index c.loop-s-test.false in
     let ended : c.loop-s.scope ≡ after_statements c.args.scope.now (statements_of c.args.block.now.statements.items) =
-    sym (ap (after_statements c.loop-s.scope) left) ∙ c.loop-s.invariant.behind in
+    sym (ap (after_statements c.loop-s.scope) left) ∙ c.loop-s.invariant.scope_after in
     rw (c.leave.ensures, c.visible_len-visible.ensures) (block_left c.args.scope.now c.loop-s.scope (statements_of c.args.block.now.statements.items) ended)
 
 pub check_statement-returns-in_err-next-in-If-clause-marks : goal.check_statement-returns-in_err-next-in-If-clause-marks
@@ -66,21 +66,21 @@ check_statement-check_block-requires-in-If t c =
     let is = ap statement_of c.in-If.is ∙ if_seen c.in-If.e c.in-If.a c.in-If.b in
     let counted = ap statement_count is in (
       omega (arith, c.decreases, counted),
-      second_fits c.args.scope.now c.check_block.new.scope _ _ _ (expression_of c.in-If.e) _ _ _ is c.in_ok-next-in-If-2.ensures.behind c.requires.fits
+      second_fits c.args.scope.now c.check_block.new.scope _ _ _ (expression_of c.in-If.e) _ _ _ is c.in_ok-next-in-If-2.ensures.scope_after c.requires.fits
           c.in_ok-next-in-If.ensures c.in_ok-next-in-If-2.ensures.marks,
     )
 
 pub check_statement-returns-in_ok-next-in-If-2-clause-marks : goal.check_statement-returns-in_ok-next-in-If-2-clause-marks
 check_statement-returns-in_ok-next-in-If-2-clause-marks t c =
     let is = ap statement_of c.in-If.is ∙ if_seen c.in-If.e c.in-If.a c.in-If.b in
-    second_decides c.args.scope.now c.check_block.new.scope _ _ _ (expression_of c.in-If.e) _ _ _ _ is c.in_ok-next-in-If-2.ensures.behind
+    second_decides c.args.scope.now c.check_block.new.scope _ _ _ (expression_of c.in-If.e) _ _ _ _ is c.in_ok-next-in-If-2.ensures.scope_after
     c.in_ok-next-in-If.ensures c.in_ok-next-in-If-2.ensures.marks c.check_block-in-If.ensures.marks
 
-pub check_statement-returns-in_ok-next-in-If-2-clause-behind : goal.check_statement-returns-in_ok-next-in-If-2-clause-behind
-check_statement-returns-in_ok-next-in-If-2-clause-behind t c =
+pub check_statement-returns-in_ok-next-in-If-2-clause-scope_after : goal.check_statement-returns-in_ok-next-in-If-2-clause-scope_after
+check_statement-returns-in_ok-next-in-If-2-clause-scope_after t c =
     let is = ap statement_of c.in-If.is ∙ if_seen c.in-If.e c.in-If.a c.in-If.b in
     on_ok_weaker c.check_block-in-If.result (λ left. branch_left c.args.scope.now c.check_block.new.scope c.check_block-in-If.new.scope (expression_of c.in-If.e)
-    (statements_of c.in-If.a.statements.items) (statements_of c.in-If.b.statements.items) _ is c.in_ok-next-in-If-2.ensures.behind left) c.check_block-in-If.ensures.behind
+    (statements_of c.in-If.a.statements.items) (statements_of c.in-If.b.statements.items) _ is c.in_ok-next-in-If-2.ensures.scope_after left) c.check_block-in-If.ensures.scope_after
 
 pub check_statement-returns-in_err-next-in-While-clause-marks : goal.check_statement-returns-in_err-next-in-While-clause-marks
 check_statement-returns-in_err-next-in-While-clause-marks t c =
@@ -99,8 +99,8 @@ check_statement-returns-in_ok-next-in-While-clause-marks t c =
     let is = ap statement_of c.in-While.is ∙ while_seen c.in-While.e c.in-While.a in
     body_decides c.args.scope.now _ _ (expression_of c.in-While.e) _ _ _ is c.in_ok-next-in-While.ensures c.check_block-in-While.ensures.marks
 
-pub check_statement-returns-in_ok-next-in-While-clause-behind : goal.check_statement-returns-in_ok-next-in-While-clause-behind
-check_statement-returns-in_ok-next-in-While-clause-behind t c =
+pub check_statement-returns-in_ok-next-in-While-clause-scope_after : goal.check_statement-returns-in_ok-next-in-While-clause-scope_after
+check_statement-returns-in_ok-next-in-While-clause-scope_after t c =
     let is = ap statement_of c.in-While.is ∙ while_seen c.in-While.e c.in-While.a in
     on_ok_weaker c.check_block-in-While.result (λ left. loop_left c.args.scope.now c.check_block-in-While.new.scope (expression_of c.in-While.e)
-    (statements_of c.in-While.a.statements.items) _ is left) c.check_block-in-While.ensures.behind
+    (statements_of c.in-While.a.statements.items) _ is left) c.check_block-in-While.ensures.scope_after

@@ -4,7 +4,7 @@ use Rattle.pipe_parser.proofs.depth.first_too_deep.Goals as goal
 
 pub loop-first-init : goal.loop-first-init
 loop-first-init c =
-    rw c.behind-rest.ensures (counted_none c.args.symbols.now)
+    rw c.skip-rest.ensures (counted_none c.args.symbols.now)
 
 pub overflow_add-opened : goal.overflow_add-opened
 overflow_add-opened c =

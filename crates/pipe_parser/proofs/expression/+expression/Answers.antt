@@ -13,13 +13,13 @@ pub extend-loop-code-preserved : goal.extend-loop-code-preserved
 extend-loop-code-preserved t c =
     let front = c.in-Some.ensures.some in
     let next : c.args.level + 1 ≡ suc c.args.level = omega arith in
-    let right : Reads (suc c.args.level) c.in-Some.behind (expression_of c.in_ok-second.second) c.in_ok-second.after =
-    subst (λ level. Reads level c.in-Some.behind (expression_of c.in_ok-second.second) c.in_ok-second.after) next c.in_ok-second.ensures.ok in
+    let right : Reads (suc c.args.level) c.in-Some.following (expression_of c.in_ok-second.second) c.in_ok-second.after =
+    subst (λ level. Reads level c.in-Some.following (expression_of c.in_ok-second.second) c.in_ok-second.after) next c.in_ok-second.ensures.ok in
     rw (c.in_ok-boxed.ensures, c.in_ok-boxed-2.ensures) (record {
       extends = λ e end g. c.loop-code.invariant.extends e end
-          (joins c.args.level c.in-Some.code _ _ e c.loop-code.rest c.in-Some.behind c.in_ok-second.after end front.0 front.1 right g);
+          (joins c.args.level c.in-Some.code _ _ e c.loop-code.rest c.in-Some.following c.in_ok-second.after end front.0 front.1 right g);
       passes = λ below. c.loop-code.invariant.passes below
-          ∙ passes_join c.args.level c.in-Some.code _ c.loop-code.rest c.in-Some.behind c.in_ok-second.after c.requires.from front.0 front.1 right below;
+          ∙ passes_join c.args.level c.in-Some.code _ c.loop-code.rest c.in-Some.following c.in_ok-second.after c.requires.from front.0 front.1 right below;
       shorter = omega (arith, c.loop-code.invariant.shorter, c.in_ok-second.ensures.shorter, ap length front.0);
     })
 
@@ -58,30 +58,30 @@ read_operand-returns-in-Number-clause-ok t c =
 
 pub read_operand-returns-in-Word-eq17-clause-ok : goal.read_operand-returns-in-Word-eq17-clause-ok
 read_operand-returns-in-Word-eq17-clause-ok t c =
-    let e : c.args.symbols.now ≡ terminals.Word 17 ∷ c.in-Some.first.behind = search rules in
+    let e : c.args.symbols.now ≡ terminals.Word 17 ∷ c.in-Some.first.following = search rules in
     if_ok _ _ c.read_call.result (λ x u. rw u.1 (more_read _ _ _ e u.0)) c.read_call.ensures.ok
 
 pub read_operand-returns-in-Word-eq18-clause-ok : goal.read_operand-returns-in-Word-eq18-clause-ok
 read_operand-returns-in-Word-eq18-clause-ok t c =
-    let e : c.args.symbols.now ≡ terminals.Word 18 ∷ c.in-Some.first.behind = search rules in
+    let e : c.args.symbols.now ≡ terminals.Word 18 ∷ c.in-Some.first.following = search rules in
     if_ok _ _ c.read_call-in-Word-eq18.result (λ x u. rw u.1 (take_read _ _ _ e u.0)) c.read_call-in-Word-eq18.ensures.ok
 
 pub read_operand-returns-in-Word-eq19-clause-ok : goal.read_operand-returns-in-Word-eq19-clause-ok
 read_operand-returns-in-Word-eq19-clause-ok t c =
-    let e : c.args.symbols.now ≡ terminals.Word 19 ∷ c.in-Some.first.behind = search rules in
+    let e : c.args.symbols.now ≡ terminals.Word 19 ∷ c.in-Some.first.following = search rules in
     if_ok _ _ c.read_call-in-Word-eq19.result (λ x u. rw u.1 (iter_read _ _ _ e u.0)) c.read_call-in-Word-eq19.ensures.ok
 
 pub read_operand-returns-in-Operator-eq10-clause-ok : goal.read_operand-returns-in-Operator-eq10-clause-ok
 read_operand-returns-in-Operator-eq10-clause-ok t c =
-    let e : c.args.symbols.now ≡ terminals.Operator 10 ∷ c.in-Some.first.behind = search rules in
+    let e : c.args.symbols.now ≡ terminals.Operator 10 ∷ c.in-Some.first.following = search rules in
     if_ok _ _ c.read_unary.result (λ x u. negative_read _ _ _ _ e u) c.read_unary.ensures.ok
 
 pub read_operand-returns-in-Sign-eq33-clause-ok : goal.read_operand-returns-in-Sign-eq33-clause-ok
 read_operand-returns-in-Sign-eq33-clause-ok t c =
-    let e : c.args.symbols.now ≡ terminals.Sign 33 ∷ c.in-Some.first.behind = search rules in
+    let e : c.args.symbols.now ≡ terminals.Sign 33 ∷ c.in-Some.first.following = search rules in
     if_ok _ _ c.read_unary-in-Sign-eq33.result (λ x u. not_read _ _ _ _ e u) c.read_unary-in-Sign-eq33.ensures.ok
 
 pub read_operand-returns-in-Sign-eq40-clause-ok : goal.read_operand-returns-in-Sign-eq40-clause-ok
 read_operand-returns-in-Sign-eq40-clause-ok t c =
-    let e : c.args.symbols.now ≡ terminals.Sign 40 ∷ c.in-Some.first.behind = search rules in
+    let e : c.args.symbols.now ≡ terminals.Sign 40 ∷ c.in-Some.first.following = search rules in
     if_ok _ _ c.read_closed.result (λ x u. bracket_read _ _ _ _ e u) c.read_closed.ensures.ok

@@ -10,16 +10,16 @@ use Rattle.pipe_parser.proofs.statement.+block.Goals as goal
 
 pub read_block-returns-in-Some-clause-ok : goal.read_block-returns-in-Some-clause-ok
 read_block-returns-in-Some-clause-ok t c =
-    block_read _ _ _ _ c.loop-behind.statements.items c.in_ok-rest.ensures.ok c.loop-behind.invariant.reads c.in-Some.ensures.some
+    block_read _ _ _ _ c.loop-following.statements.items c.in_ok-rest.ensures.ok c.loop-following.invariant.reads c.in-Some.ensures.some
 
-pub read_block-loop-behind-preserved : goal.read_block-loop-behind-preserved
-read_block-loop-behind-preserved t c =
-    let items : c.push.new.self.items ≡ c.loop-behind.statements.items ++ c.in_ok-statement.statement ∷ [] = search rules in
+pub read_block-loop-following-preserved : goal.read_block-loop-following-preserved
+read_block-loop-following-preserved t c =
+    let items : c.push.new.self.items ≡ c.loop-following.statements.items ++ c.in_ok-statement.statement ∷ [] = search rules in
     record {
-      reads = λ ss end r. rw (items, before_one c.loop-behind.statements.items c.in_ok-statement.statement ss)
-          (c.loop-behind.invariant.reads _ end (ReadsOneMore c.in_ok-statement.ensures.ok r));
-      passes = λ below. c.loop-behind.invariant.passes below ∙ passes_statement c.in_ok-statement.ensures.ok below;
-      shorter = omega (arith, c.loop-behind.invariant.shorter, c.in_ok-statement.ensures.shorter);
+      reads = λ ss end r. rw (items, before_one c.loop-following.statements.items c.in_ok-statement.statement ss)
+          (c.loop-following.invariant.reads _ end (ReadsOneMore c.in_ok-statement.ensures.ok r));
+      passes = λ below. c.loop-following.invariant.passes below ∙ passes_statement c.in_ok-statement.ensures.ok below;
+      shorter = omega (arith, c.loop-following.invariant.shorter, c.in_ok-statement.ensures.shorter);
     }
 
 pub read_if-returns-in_err-then-clause-err : goal.read_if-returns-in_err-then-clause-err
@@ -45,12 +45,12 @@ read_part-returns-in-None-clause-ok t c = rw c.new.ensures.items (part_missing _
 
 pub read_statement-returns-in_ok-number-in-Word-eq9-clause-ok : goal.read_statement-returns-in_ok-number-in-Word-eq9-clause-ok
 read_statement-returns-in_ok-number-in-Word-eq9-clause-ok t c =
-    let e : c.args.symbols.now ≡ terminals.Word 9 ∷ c.in-Some.first.behind = search rules in
+    let e : c.args.symbols.now ≡ terminals.Word 9 ∷ c.in-Some.first.following = search rules in
     wait_read _ _ _ _ e c.in_ok-number-in-Word-eq9.ensures.ok
 
 pub read_statement-returns-in_ok-number-in-Word-eq10-clause-ok : goal.read_statement-returns-in_ok-number-in-Word-eq10-clause-ok
 read_statement-returns-in_ok-number-in-Word-eq10-clause-ok t c =
-    let e : c.args.symbols.now ≡ terminals.Word 10 ∷ c.in-Some.first.behind = search rules in
+    let e : c.args.symbols.now ≡ terminals.Word 10 ∷ c.in-Some.first.following = search rules in
     continue_read _ _ _ _ e c.in_ok-number-in-Word-eq10.ensures.ok
 
 pub read_while-returns-in_err-body-clause-err : goal.read_while-returns-in_err-body-clause-err

@@ -5,8 +5,8 @@ use Rattle.dag_build.specs.RacingAccesses.{noted_all}
 use Rattle.dag_build.proofs.FrontLaws.{fronts_moved, fronts_grown, joined_fronts-column}
 use Rattle.dag_build.proofs.dag.Dag.first_race.Goals as goal
 
-pub race_behind-requires-clause-fronts : goal.race_behind-requires-clause-fronts
-race_behind-requires-clause-fronts c =
+pub racing_before-requires-clause-fronts : goal.racing_before-requires-clause-fronts
+racing_before-requires-clause-fronts c =
     let moved = c.moved-fronts.ensures in
     fronts_moved _ _ _ _ _ _ c.loop-later.invariant.1 moved.column moved.writes moved.accesses
 
