@@ -7,4 +7,5 @@ pub mod AccessHistory
 pub mod HistoryRaces
 pub mod HistoryReports
 pub mod OrderMarks
+pub mod GrowingLists
 pub mod HistoryStates

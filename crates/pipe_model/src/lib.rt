@@ -13,6 +13,7 @@ pub mod memory;
 pub mod name;
 pub mod node;
 pub mod operator_codes;
+pub mod orders;
 pub mod region;
 pub mod report;
 pub mod sign_bytes;
