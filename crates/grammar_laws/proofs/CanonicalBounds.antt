@@ -69,13 +69,16 @@ peak_close : (n : ℕ) (a b : Symbol) (ts : List Symbol) → IsPair a b → peak
 peak_close n a b ts h = let x = h.ends in let y = h.closes in let e : (suc n + 0) - 1 ≡ n = omega arith in rw (x, y, e) refl
 
 most_plain : (o c : ℕ) (t : Symbol) (ts : List Symbol) → IsUnjoined t → most_open o c (t ∷ ts) ≡ greater (o - c) (most_open o c ts)
-most_plain o c t ts h = let a = h.no_opening in let b = h.no_closing in let e : o + 0 ≡ o = omega arith in let f : c + 0 ≡ c = omega arith in rw (a, b, e, f) refl
+most_plain o c t ts h = let a = h.no_opening in let b = h.no_closing in let e : o + 0 ≡ o = omega arith in let f : c + 0 ≡ c = omega arith in
+    rw (a, b, e, f) refl
 
 most_open_one : (o c : ℕ) (a b : Symbol) (ts : List Symbol) → IsPair a b → most_open o c (a ∷ ts) ≡ greater (o - c) (most_open (suc o) c ts)
-most_open_one o c a b ts h = let x = h.opens in let y = h.stays in let e : o + 1 ≡ suc o = omega arith in let f : c + 0 ≡ c = omega arith in rw (x, y, e, f) refl
+most_open_one o c a b ts h = let x = h.opens in let y = h.stays in let e : o + 1 ≡ suc o = omega arith in let f : c + 0 ≡ c = omega arith in
+    rw (x, y, e, f) refl
 
 most_close_one : (o c : ℕ) (a b : Symbol) (ts : List Symbol) → IsPair a b → most_open o c (b ∷ ts) ≡ greater (o - c) (most_open o (suc c) ts)
-most_close_one o c a b ts h = let x = h.ends in let y = h.closes in let e : o + 0 ≡ o = omega arith in let f : c + 1 ≡ suc c = omega arith in rw (x, y, e, f) refl
+most_close_one o c a b ts h = let x = h.ends in let y = h.closes in let e : o + 0 ≡ o = omega arith in let f : c + 1 ≡ suc c = omega arith in
+    rw (x, y, e, f) refl
 
 -- ---- symbols that open no more at a time than others
 
@@ -113,7 +116,8 @@ pub more_deep : {us ts : List Symbol} (t : Symbol) → IsUnjoined t → NoDeeper
 more_deep {us} {ts} t p d = record {
   deep = λ n rest other h c.
       rw (peak_plain n t (us ++ rest) p)
-      (let x = d.deep n rest other h c in let y = peak_least n (us ++ rest) in greater_least n (peak n (us ++ rest)) (most_open (n + c) c (ts ++ other)) (omega (arith, x, y)) x);
+      (let x = d.deep n rest other h c in let y = peak_least n (us ++ rest) in
+          greater_least n (peak n (us ++ rest)) (most_open (n + c) c (ts ++ other)) (omega (arith, x, y)) x);
 }
 
 pub both_deep : {us ts vs ws : List Symbol} → NoDeeper us ts → NoDeeper vs ws → NoDeeper (us ++ vs) (ts ++ ws)
@@ -161,12 +165,14 @@ both_lift {us} {vs} l m = record {
 nested_lifts : {us : List Symbol} (a b : Symbol) → IsPair a b → Lifts us → Lifts (a ∷ (us ++ b ∷ []))
 nested_lifts {us} a b p l = record { lift = inside }
   where
-    inside : (n : ℕ) (rest other : List Symbol) → peak n rest ≤ peak (suc n) other → peak n ((a ∷ (us ++ b ∷ [])) ++ rest) ≤ peak (suc n) ((a ∷ (us ++ b ∷ [])) ++ other)
+    inside : (n : ℕ) (rest other : List Symbol) → peak n rest ≤ peak (suc n) other
+        → peak n ((a ∷ (us ++ b ∷ [])) ++ rest) ≤ peak (suc n) ((a ∷ (us ++ b ∷ [])) ++ other)
     inside n rest other h =
         let following : peak (suc n) (b ∷ rest) ≤ peak (suc (suc n)) (b ∷ other) =
         rw (peak_close n a b rest p, peak_close (suc n) a b other p) (greater_both (suc n) (peak n rest) (suc (suc n)) (peak (suc n) other) (omega arith) h) in
         rw (append_assoc us (b ∷ []) rest, append_assoc us (b ∷ []) other, peak_open n a b (us ++ b ∷ rest) p, peak_open (suc n) a b (us ++ b ∷ other) p)
-        (greater_both n (peak (suc n) (us ++ b ∷ rest)) (suc n) (peak (suc (suc n)) (us ++ b ∷ other)) (omega arith) (l.lift (suc n) (b ∷ rest) (b ∷ other) following))
+        (greater_both n (peak (suc n) (us ++ b ∷ rest)) (suc n) (peak (suc (suc n)) (us ++ b ∷ other)) (omega arith)
+            (l.lift (suc n) (b ∷ rest) (b ∷ other) following))
 
 -- without the outer brackets
 pub fewer_deep : {us ts : List Symbol} (a b : Symbol) → IsPair a b → Lifts us → NoDeeper us ts → NoDeeper us (a ∷ (ts ++ b ∷ []))
@@ -261,7 +267,8 @@ at_its_level : (needed own : ℕ) (us : List Symbol) → needed ≤ own → symb
 at_its_level needed own us h = let e : nat_le needed own ≡ true = grind (arith, nat_tests, h) in rw e refl
 
 -- the canonical text with or without brackets, compared with symbols in brackets
-bracketed_more : (needed own : ℕ) (us ts : List Symbol) → Lifts us → NoMore us ts → NoMore (symbols_at_level needed own us) (open_round ∷ (ts ++ close_round ∷ []))
+bracketed_more : (needed own : ℕ) (us ts : List Symbol) → Lifts us → NoMore us ts
+    → NoMore (symbols_at_level needed own us) (open_round ∷ (ts ++ close_round ∷ []))
 bracketed_more needed own us ts l m = by_test (nat_le needed own)
   where
     by_test : (b : Bool) → NoMore (if b then us else open_round ∷ (us ++ close_round ∷ [])) (open_round ∷ (ts ++ close_round ∷ []))
@@ -289,7 +296,8 @@ unbracketed {us} {ts} a b p l m = record {
 }
 
 -- a lower needed level
-lower_more : (lower needed own : ℕ) (us ts : List Symbol) → lower ≤ needed → Lifts us → NoMore (symbols_at_level needed own us) ts → NoMore (symbols_at_level lower own us) ts
+lower_more : (lower needed own : ℕ) (us ts : List Symbol) → lower ≤ needed → Lifts us → NoMore (symbols_at_level needed own us) ts
+    → NoMore (symbols_at_level lower own us) ts
 lower_more lower needed own us ts h l m = by_tests (nat_le lower own) (nat_le needed own) (λ e. grind (arith, nat_tests, h, e)) m
   where
     by_tests : (x y : Bool) → (y ≡ true → x ≡ true) → NoMore (if y then us else open_round ∷ (us ++ close_round ∷ [])) ts
@@ -321,7 +329,8 @@ joined_least : (level code : ℕ) (left right : List Symbol) (a b e : Expression
 joined_least level code left right a b e eq l j x y =
     let own = j.level in
     let next : suc level ≡ level_of code + 1 = omega (arith, eq) in
-    let here : symbols_at_level level (level_in e) (expression_symbols e) ≡ two_place_symbols code (level_in a) (level_in b) (expression_symbols a) (expression_symbols b) =
+    let here : symbols_at_level level (level_in e) (expression_symbols e) ≡ two_place_symbols code (level_in a) (level_in b)
+        (expression_symbols a) (expression_symbols b) =
     at_its_level level (level_in e) (expression_symbols e) (omega (arith, eq, own)) ∙ j.same in
     let first = subst (λ k. NoMore (symbols_at_level k (level_in a) (expression_symbols a)) left) (sym eq) x.no_more in
     let second = subst (λ k. NoMore (symbols_at_level k (level_in b) (expression_symbols b)) right) next y.no_more in
@@ -378,17 +387,21 @@ counted p t ts = sum_by-cons (λ x. cond (p x) 1 0) t ts ∙ by_test (p t)
     by_test false = refl
 
 -- the peak is within the bound if the count after each prefix is
-most_within : (bound o c : ℕ) (ts : List Symbol) → ((before after : List Symbol) → ts ≡ before ++ after → (o + count_by is_opening_bracket before) - (c + count_by is_closing_bracket before) ≤ bound)
+most_within : (bound o c : ℕ) (ts : List Symbol)
+    → ((before after : List Symbol) → ts ≡ before ++ after
+    → (o + count_by is_opening_bracket before) - (c + count_by is_closing_bracket before) ≤ bound)
     → most_open o c ts ≤ bound
 most_within bound o c [] h = (let x = h [] [] refl in omega (arith, x))
 most_within bound o c (t ∷ ts) h =
     let here = h [] (t ∷ ts) refl in
     greater_least (o - c) (most_open (o + ones (is_opening_bracket t)) (c + ones (is_closing_bracket t)) ts) bound (omega (arith, here))
-    (most_within bound (o + ones (is_opening_bracket t)) (c + ones (is_closing_bracket t)) ts (λ before after e. following before after e (h (t ∷ before) after (ap (λ x. t ∷ x) e))))
+    (most_within bound (o + ones (is_opening_bracket t)) (c + ones (is_closing_bracket t)) ts
+        (λ before after e. following before after e (h (t ∷ before) after (ap (λ x. t ∷ x) e))))
   where
     following : (before after : List Symbol) → ts ≡ before ++ after
         → (o + count_by is_opening_bracket (t ∷ before)) - (c + count_by is_closing_bracket (t ∷ before)) ≤ bound
-        → ((o + ones (is_opening_bracket t)) + count_by is_opening_bracket before) - ((c + ones (is_closing_bracket t)) + count_by is_closing_bracket before) ≤ bound
+        → ((o + ones (is_opening_bracket t)) + count_by is_opening_bracket before) -
+        ((c + ones (is_closing_bracket t)) + count_by is_closing_bracket before) ≤ bound
     following before after e g = let x = counted is_opening_bracket t before in let y = counted is_closing_bracket t before in omega (arith, g, x, y)
 
 -- the count after each prefix is at most the peak
@@ -418,4 +431,5 @@ no_deeper_shallow us ts d s = record { shallow = fronts }
     whole = (let x = d.deep 0 [] [] at_end 0 in rw (append-nil us, append-nil ts) at x)
 
     fronts : (before after : List Symbol) → us ≡ before ++ after → open_brackets before ≤ 64
-    fronts before after e = (let x = within_peak 0 before after in let y : peak 0 us ≡ peak 0 (before ++ after) = ap (peak 0) e in let z = whole in let m = most in omega (arith, x, y, z, m))
+    fronts before after e = (let x = within_peak 0 before after in let y : peak 0 us ≡ peak 0 (before ++ after) = ap (peak 0) e in let z =
+        whole in let m = most in omega (arith, x, y, z, m))

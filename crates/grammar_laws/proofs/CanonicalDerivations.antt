@@ -55,7 +55,8 @@ at_level_derives : (needed own : ℕ) (e : Expression) (ts : List Symbol) → ne
     → Derives needed (symbols_at_level needed own ts) e
 at_level_derives needed own e ts k l d = bracketed_by (nat_le needed own) needed own e ts (λ h. grind (arith, nat_tests, h)) k l d
 
-one_place : (code : ℕ) (e : Expression) (ts : List Symbol) → ((code ≡ 1) ⊎ (code ≡ 2)) → Derives operand_level ts e → Derives operand_level (one_place_symbol code ∷ ts) (Unary code e)
+one_place : (code : ℕ) (e : Expression) (ts : List Symbol) → ((code ≡ 1) ⊎ (code ≡ 2)) → Derives operand_level ts e
+    → Derives operand_level (one_place_symbol code ∷ ts) (Unary code e)
 one_place code e ts (inl h) d = rw h (Negative d)
 one_place code e ts (inr h) d = rw h (Not d)
 
@@ -91,7 +92,8 @@ expression_derived (Binary code a b) h =
     subst (λ x. Derives (level_of code) (expression_symbols (Binary code a b)) x) (joined_as code a b h.0)
     (two_place code a b (expression_symbols a) (expression_symbols b) la lb (expression_derived a h.2) (expression_derived b h.3))
 expression_derived (Unary code a) h =
-    let l = level_from a h.1 in one_place code a _ h.0 (at_level_derives operand_level (level_in a) a (expression_symbols a) (omega arith) l (expression_derived a h.1))
+    let l = level_from a h.1 in one_place code a _ h.0 (at_level_derives operand_level (level_in a) a (expression_symbols a) (omega arith) l
+        (expression_derived a h.1))
 expression_derived More h = CallsMore
 expression_derived Take h = CallsTake
 expression_derived Iter h = CallsIter

@@ -116,7 +116,8 @@ space : Writing Any (codes " ") []
 space = record { writes = λ rest found h d. Space 32 refl d }
 
 is : Writing Any (codes " = ") (equals ∷ [])
-is = record { writes = λ rest found h d. Space 32 refl (Puts (61 ∷ []) equals (spaced_token (61 ∷ []) rest equals refl (λ more. refl) refl) tt (Space 32 refl d)) }
+is = record { writes = λ rest found h d. Space 32 refl (Puts (61 ∷ []) equals (spaced_token (61 ∷ []) rest equals refl (λ more. refl) refl) tt
+    (Space 32 refl d)) }
 
 -- a word, a space, and the text after them
 word_then : {G : List ℕ → Type 0} {u : List ℕ} {us : List Symbol} (text : List ℕ) (k : ℕ) → begins_letter text ≡ true → symbol_of text ≡ Some (symbols.Word k)
@@ -125,7 +126,8 @@ word_then text k l t v = both (word text k l t) (next space v) (λ rest h. refl)
 
 -- ---- expressions
 
-levelled : (needed own : ℕ) (text : List ℕ) (ts : List Symbol) → Writing SymbolEdge text ts → Writing SymbolEdge (at_level needed own text) (symbols_at_level needed own ts)
+levelled : (needed own : ℕ) (text : List ℕ) (ts : List Symbol) → Writing SymbolEdge text ts
+    → Writing SymbolEdge (at_level needed own text) (symbols_at_level needed own ts)
 levelled needed own text ts w = by_test (nat_le needed own)
   where
     by_test : (b : Bool) → Writing SymbolEdge (if b then text else codes "(" ++ (text ++ codes ")")) (if b then ts else open_round ∷ (ts ++ close_round ∷ []))
@@ -224,7 +226,8 @@ line_writing n {text} {ts} w = record { writes = put }
         (spaces n (w.writes (10 ∷ rest) found refl (Space 10 refl d)))
 
 -- an expression before a sign
-closed : {G : List ℕ → Type 0} {u : List ℕ} {us : List Symbol} (e : Expression) → IsWritable e → Writing G u us → ((rest : List ℕ) → G rest → SymbolEdge (u ++ rest))
+closed : {G : List ℕ → Type 0} {u : List ℕ} {us : List Symbol} (e : Expression) → IsWritable e → Writing G u us
+    → ((rest : List ℕ) → G rest → SymbolEdge (u ++ rest))
     → Writing G (expression_text e ++ u) (expression_symbols e ++ us)
 closed e h w f = both (expression_writing e h) w f
 
@@ -238,7 +241,8 @@ opens_block = next round_end (next space brace)
 
 -- the opening line of a test: a word, the test in brackets, an opening brace
 test_line : (n : ℕ) (text : List ℕ) (k : ℕ) (e : Expression) → begins_letter text ≡ true → symbol_of text ≡ Some (symbols.Word k) → IsWritable e
-    → Writing Any (line n (text ++ (codes " (" ++ (expression_text e ++ codes ") {")))) (symbols.Word k ∷ open_round ∷ (expression_symbols e ++ close_round ∷ open_brace ∷ []))
+    → Writing Any (line n (text ++ (codes " (" ++ (expression_text e ++ codes ") {"))))
+    (symbols.Word k ∷ open_round ∷ (expression_symbols e ++ close_round ∷ open_brace ∷ []))
 test_line n text k e l t h =
     line_writing n (any_edge (word_then text k l t (next round (closed e h opens_block (λ rest f. refl)))))
 
@@ -259,18 +263,23 @@ choice_symbols : (es : List Symbol) (a : List Piece) (more : List Piece)
     → (es ++ close_round ∷ open_brace ∷ []) ++ (flat a ++ (close_brace ∷ flat more)) ≡ es ++ close_round ∷ flat (block_pieces a ++ more)
 choice_symbols es a more =
     let inner : flat ((a ++ Single close_brace ∷ []) ++ more) ≡ flat a ++ (close_brace ∷ flat more) =
-    flat_append (a ++ Single close_brace ∷ []) more ∙ ap (λ x. x ++ flat more) (flat_append a (Single close_brace ∷ [])) ∙ append_assoc (flat a) (close_brace ∷ []) (flat more) in
+    flat_append (a ++ Single close_brace ∷ []) more ∙ ap (λ x. x ++ flat more) (flat_append a (Single close_brace ∷ []))
+        ∙ append_assoc (flat a) (close_brace ∷ []) (flat more) in
     append_assoc es (close_round ∷ open_brace ∷ []) (flat a ++ (close_brace ∷ flat more)) ∙ ap (λ x. es ++ close_round ∷ open_brace ∷ x) (sym inner)
 
-block_symbols : (es : List Symbol) (a : List Piece) → (es ++ close_round ∷ open_brace ∷ []) ++ (flat a ++ close_brace ∷ []) ≡ es ++ close_round ∷ flat (block_pieces a)
+block_symbols : (es : List Symbol) (a : List Piece)
+    → (es ++ close_round ∷ open_brace ∷ []) ++ (flat a ++ close_brace ∷ []) ≡ es ++ close_round ∷ flat (block_pieces a)
 block_symbols es a =
-    append_assoc es (close_round ∷ open_brace ∷ []) (flat a ++ close_brace ∷ []) ∙ ap (λ x. es ++ close_round ∷ open_brace ∷ x) (sym (flat_append a (Single close_brace ∷ [])))
+    append_assoc es (close_round ∷ open_brace ∷ []) (flat a ++ close_brace ∷ [])
+        ∙ ap (λ x. es ++ close_round ∷ open_brace ∷ x) (sym (flat_append a (Single close_brace ∷ [])))
 
-stage_writing : (n : ℕ) (kind : StageKind) (e : Expression) → IsWritable e → Writing Any (statement_text n (Stage kind e)) (flat (statement_pieces (Stage kind e)))
+stage_writing : (n : ℕ) (kind : StageKind) (e : Expression) → IsWritable e
+    → Writing Any (statement_text n (Stage kind e)) (flat (statement_pieces (Stage kind e)))
 stage_writing n kinds.Wait e h =
     line_writing n (any_edge (both (word (codes "pipe_wait") 9 refl refl) (next round (closed e h (next round_end end) (λ rest f. refl))) (λ rest f. refl)))
 stage_writing n kinds.Continue e h =
-    line_writing n (any_edge (both (word (codes "pipe_continue") 10 refl refl) (next round (closed e h (next round_end end) (λ rest f. refl))) (λ rest f. refl)))
+    line_writing n (any_edge (both (word (codes "pipe_continue") 10 refl refl) (next round (closed e h (next round_end end) (λ rest f. refl)))
+        (λ rest f. refl)))
 
 next_stage_writing : (n : ℕ) (kind : StageKind) → Writing Any (statement_text n (NextStage kind)) (flat (statement_pieces (NextStage kind)))
 next_stage_writing n kinds.Wait =
@@ -307,7 +316,8 @@ mutual
 
 -- a field of the limits
 field : {u : List ℕ} {us : List Symbol} (text : List ℕ) (k : ℕ) (z : ℤ) → begins_letter text ≡ true → symbol_of text ≡ Some (symbols.Word k) → IsNumeral z
-    → Writing Any u us → ((rest : List ℕ) → SymbolEdge (u ++ rest)) → Writing Any (text ++ (codes " " ++ (signed_decimal z ++ u))) (symbols.Word k ∷ symbols.Number z ∷ us)
+    → Writing Any u us → ((rest : List ℕ) → SymbolEdge (u ++ rest))
+    → Writing Any (text ++ (codes " " ++ (signed_decimal z ++ u))) (symbols.Word k ∷ symbols.Number z ∷ us)
 field text k z l t h w f = word_then text k l t (both (number z h) w (λ rest g. f rest))
 
 -- the line of limits
@@ -320,7 +330,8 @@ limits_writing tree h =
     (field (codes "iterations") 2 tree.limits.iterations refl refl h.iterations
     (next comma_sign (next space (field (codes "stages") 3 tree.limits.stages refl refl h.stages
     (next comma_sign (next space (field (codes "steps") 4 tree.limits.steps refl refl h.steps
-    (next comma_sign (next space (field (codes "emits") 5 tree.limits.emits refl refl h.emits end (λ rest. refl)))) (λ rest. refl)))) (λ rest. refl)))) (λ rest. refl))))
+    (next comma_sign (next space (field (codes "emits") 5 tree.limits.emits refl refl h.emits end (λ rest. refl)))) (λ rest. refl))))
+        (λ rest. refl)))) (λ rest. refl))))
 
 -- a declared value before a sign
 value_writing : {u : List ℕ} {us : List Symbol} (z : ℤ) → IsDeclaredValue z → Writing Any u us → ((rest : List ℕ) → SymbolEdge (u ++ rest))
@@ -329,7 +340,8 @@ value_writing z (Positive n h) w f = both (numeral n h) w (λ rest g. f rest)
 value_writing z (Negative n h) w f = next minus_sign (both (numeral (suc n) h) w (λ rest g. f rest))
 
 -- a size, if there is one, before a space
-size_writing : {u : List ℕ} {us : List Symbol} (size : Option ℤ) → IsWritableSize size → Writing Any u us → Writing Any (size_text size ++ u) (flat (size_pieces size) ++ us)
+size_writing : {u : List ℕ} {us : List Symbol} (size : Option ℤ) → IsWritableSize size → Writing Any u us
+    → Writing Any (size_text size ++ u) (flat (size_pieces size) ++ us)
 size_writing None h w = w
 size_writing (Some z) h w = next (next index (both (number z h) index_end (λ rest g. refl))) w
 
@@ -379,14 +391,16 @@ program_symbols : (cs is bs ls : List Piece) (ts : List Symbol)
     → flat cs ++ (flat is ++ ((word_pipe_while ∷ open_round ∷ (ts ++ close_round ∷ flat bs)) ++ flat ls))
     ≡ flat (cs ++ (is ++ Single word_pipe_while ∷ Single open_round ∷ FullExpression ts ∷ Single close_round ∷ (bs ++ ls)))
 program_symbols cs is bs ls ts =
-    ap (λ x. flat cs ++ (flat is ++ word_pipe_while ∷ open_round ∷ x)) (append_assoc ts (close_round ∷ flat bs) (flat ls) ∙ ap (λ x. ts ++ close_round ∷ x) (sym (flat_append bs ls)))
+    ap (λ x. flat cs ++ (flat is ++ word_pipe_while ∷ open_round ∷ x)) (append_assoc ts (close_round ∷ flat bs) (flat ls) ∙ ap
+        (λ x. ts ++ close_round ∷ x) (sym (flat_append bs ls)))
     ∙ ap (λ x. flat cs ++ x) (sym (flat_append is (Single word_pipe_while ∷ Single open_round ∷ FullExpression ts ∷ Single close_round ∷ (bs ++ ls))))
     ∙ sym (flat_append cs (is ++ Single word_pipe_while ∷ Single open_round ∷ FullExpression ts ∷ Single close_round ∷ (bs ++ ls)))
 
 -- the text of a program is written as its symbols
 program_writing : (tree : SyntaxTree) → IsWritableProgram tree → Writing Any (program_text tree) (flat (program_pieces tree))
 program_writing tree h =
-    same (ap (λ x. word_limits ∷ word_iterations ∷ symbols.Number tree.limits.iterations ∷ comma ∷ word_stages ∷ symbols.Number tree.limits.stages ∷ comma ∷ word_steps
+    same (ap (λ x. word_limits ∷ word_iterations ∷ symbols.Number tree.limits.iterations ∷ comma ∷ word_stages ∷ symbols.Number
+        tree.limits.stages ∷ comma ∷ word_steps
     ∷ symbols.Number tree.limits.steps ∷ comma ∷ word_emits ∷ symbols.Number tree.limits.emits ∷ semicolon ∷ x)
     (program_symbols (cells_pieces tree.cells) (part_pieces 7 tree.init (statements_pieces tree.init)) (block_pieces (statements_pieces tree.body))
     (part_pieces 11 tree.last (statements_pieces tree.last)) (expression_symbols tree.test)))
@@ -394,7 +408,8 @@ program_writing tree h =
     (next (loop_writing tree.test tree.body h.test h.body) (part_writing (codes "final") 11 tree.last refl refl h.last)))))
 
 -- so these are its tokens, if the text is not too long
-pub program_source : (tree : SyntaxTree) → IsWritableProgram tree → length (program_text tree) ≤ 1048576 → IsWritingOf (program_text tree) (flat (program_pieces tree))
+pub program_source : (tree : SyntaxTree) → IsWritableProgram tree → length (program_text tree) ≤ 1048576
+    → IsWritingOf (program_text tree) (flat (program_pieces tree))
 program_source tree h short =
     let w = program_writing tree h in
     written_source (program_text tree) (flat (program_pieces tree)) short

@@ -23,7 +23,8 @@ no_piece = record { short = λ h. h; deep = none_deep }
 plain : {us ps : List Piece} (t : Symbol) → is_opening_bracket t ≡ false → is_closing_bracket t ≡ false → Leaner us ps → Leaner (Single t ∷ us) (Single t ∷ ps)
 plain t a b l = record { short = l.short; deep = plain_deep t t (record { no_opening = a; no_closing = b }) (record { no_opening = a; no_closing = b }) l.deep }
 
-full : {us ps : List Piece} {ts : List Symbol} {e : Expression} → Derives any_expression ts e → Leaner us ps → Leaner (FullExpression (expression_symbols e) ∷ us) (FullExpression ts ∷ ps)
+full : {us ps : List Piece} {ts : List Symbol} {e : Expression} → Derives any_expression ts e → Leaner us ps
+    → Leaner (FullExpression (expression_symbols e) ∷ us) (FullExpression ts ∷ ps)
 full d l =
     let m = full_least d in
     record { short = λ h. (let x = h.0 in let y = m.few in omega (arith, x, y), l.short h.1); deep = both_deep m.deep l.deep }
@@ -31,7 +32,8 @@ full d l =
 both : {us ps vs qs : List Piece} → Leaner us ps → Leaner vs qs → Leaner (us ++ vs) (ps ++ qs)
 both {us} {ps} {vs} {qs} l m = record {
   short = λ h. short_append 256 us vs (l.short (short_front 256 ps qs h)) (m.short (short_back 256 ps qs h));
-  deep = subst (λ x. NoDeeper x (flat (ps ++ qs))) (sym (flat_append us vs)) (subst (λ x. NoDeeper (flat us ++ flat vs) x) (sym (flat_append ps qs)) (both_deep l.deep m.deep));
+  deep = subst (λ x. NoDeeper x (flat (ps ++ qs))) (sym (flat_append us vs))
+      (subst (λ x. NoDeeper (flat us ++ flat vs) x) (sym (flat_append ps qs)) (both_deep l.deep m.deep));
 }
 
 nested : {us ps : List Piece} (a b : Symbol) → IsPair a b → Leaner us ps → Leaner (Single a ∷ (us ++ Single b ∷ [])) (Single a ∷ (ps ++ Single b ∷ []))
@@ -43,11 +45,13 @@ nested {us} {ps} a b p l = record {
 
 -- a full expression in brackets, and what follows it
 test : {us ps : List Piece} {ts : List Symbol} {e : Expression} → Derives any_expression ts e → Leaner us ps
-    → Leaner (Single open_round ∷ FullExpression (expression_symbols e) ∷ Single close_round ∷ us) (Single open_round ∷ FullExpression ts ∷ Single close_round ∷ ps)
+    → Leaner (Single open_round ∷ FullExpression (expression_symbols e) ∷ Single close_round ∷ us)
+    (Single open_round ∷ FullExpression ts ∷ Single close_round ∷ ps)
 test d l = both (nested open_round close_round (record { opens = refl; stays = refl; ends = refl; closes = refl }) (full d no_piece)) l
 
 index : {us ps : List Piece} {ts : List Symbol} {e : Expression} → Derives any_expression ts e → Leaner us ps
-    → Leaner (Single open_square ∷ FullExpression (expression_symbols e) ∷ Single close_square ∷ us) (Single open_square ∷ FullExpression ts ∷ Single close_square ∷ ps)
+    → Leaner (Single open_square ∷ FullExpression (expression_symbols e) ∷ Single close_square ∷ us)
+    (Single open_square ∷ FullExpression ts ∷ Single close_square ∷ ps)
 index d l = both (nested open_square close_square (record { opens = refl; stays = refl; ends = refl; closes = refl }) (full d no_piece)) l
 
 calls : {us ps : List Piece} → Leaner us ps → Leaner (Single open_round ∷ Single close_round ∷ us) (Single open_round ∷ Single close_round ∷ ps)
@@ -86,7 +90,8 @@ mutual
   pub leaner_block : {ps : List Piece} {ss : Statements} → DerivesBlock ps ss → Leaner (block_pieces (statements_pieces ss)) ps
   leaner_block (BlockIs d) = braces (leaner_statements d)
 
-  pub leaner_part : {word : ℕ} {ps : List Piece} {ss : Statements} → DerivesPart (symbols.Word word) ps ss → Leaner (part_pieces word ss (statements_pieces ss)) ps
+  pub leaner_part : {word : ℕ} {ps : List Piece} {ss : Statements} → DerivesPart (symbols.Word word) ps ss
+      → Leaner (part_pieces word ss (statements_pieces ss)) ps
   leaner_part NoPart = no_piece
   leaner_part {word} (PartIs {ss = ss} d) = in_part word ss (leaner_block d)
 

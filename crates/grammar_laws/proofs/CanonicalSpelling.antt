@@ -16,7 +16,8 @@ use Rattle.grammar_laws.proofs.OneSourceSpelling.{one_source_spelling}
 use Rattle.grammar_laws.proofs.WritablePrograms.{writable_program}
 use Rattle.grammar_laws.proofs.Writings.{IsWritingOf}
 
-pub canonical_spells : (source : List ℕ) (tree : SyntaxTree) → SourceSpells source tree → length (program_text tree) ≤ 1048576 → SourceSpells (program_text tree) tree
+pub canonical_spells : (source : List ℕ) (tree : SyntaxTree) → SourceSpells source tree → length (program_text tree) ≤ 1048576
+    → SourceSpells (program_text tree) tree
 canonical_spells source tree h short =
     let s = h.spelled in
     let symbols : List Symbol = symbols_in source h.tokens in

@@ -13,7 +13,8 @@ use Rattle.pipe_model.proofs.LevelLaws.{looser}
 pub data Completes : List Want → List Symbol → Type 0 where
   Nothing : Completes [] []
   OfSign : {wants : List Want} {ts : List Symbol} (sign : ℕ) → Completes wants ts → Completes (Sign sign ∷ wants) (symbols.Sign sign ∷ ts)
-  OfOperand : {wants : List Want} {us ts : List Symbol} {e : Expression} → Derives operand_level us e → Completes wants ts → Completes (Operand ∷ wants) (us ++ ts)
+  OfOperand : {wants : List Want} {us ts : List Symbol} {e : Expression} → Derives operand_level us e → Completes wants ts
+      → Completes (Operand ∷ wants) (us ++ ts)
   OfNoIndex : {wants : List Want} {ts : List Symbol} → Completes wants ts → Completes (Index ∷ wants) ts
   OfIndex : {wants : List Want} {us ts : List Symbol} {e : Expression} → Derives any_expression us e → Completes wants ts
       → Completes (Index ∷ wants) (symbols.Sign 91 ∷ (us ++ symbols.Sign 93 ∷ ts))
@@ -111,7 +112,8 @@ record Closed (wants : List Want) (sign : ℕ) (ts : List Symbol) : Type 0 where
   split : ts ≡ inside ++ symbols.Sign sign ∷ rest
   completes : Completes wants rest
 
-closed_by : {wants : List Want} {sign : ℕ} (inside : List Symbol) {e : Expression} {ts rest : List Symbol} → Derives any_expression inside e → ts ≡ inside ++ rest
+closed_by : {wants : List Want} {sign : ℕ} (inside : List Symbol) {e : Expression} {ts rest : List Symbol} → Derives any_expression inside e
+    → ts ≡ inside ++ rest
     → Completes (Sign sign ∷ wants) rest
     → Closed wants sign ts
 closed_by inside {e = e} d h (OfSign {ts = rest} sign s) = record { inside = inside; rest = rest; e = e; derived = d; split = h; completes = s }

@@ -233,7 +233,8 @@ broken (FirstTooDeep before t after b front l) = record { before = before; rest 
 broken (FirstTooLong before t after b l ends) = record { before = before; rest = t ∷ after; split = refl; many = refl; obeys = b; breaks = (l, ends) }
 
 -- a symbol breaks no rule if longer symbols break none
-not_before : (rule : GrammarRule) (before : List Symbol) (x : Symbol) (more after : List Symbol) → BreaksNoRule (before ++ x ∷ more) → Breaks rule before (x ∷ after) → ⊥
+not_before : (rule : GrammarRule) (before : List Symbol) (x : Symbol) (more after : List Symbol) → BreaksNoRule (before ++ x ∷ more)
+    → Breaks rule before (x ∷ after) → ⊥
 not_before spelling.Unexpected before x more after o b =
     b (shorter_front (before ++ x ∷ []) more (subst IsProgramPrefix (sym (append_assoc before (x ∷ []) more)) o.front))
 not_before spelling.TooDeep before x more after o b =

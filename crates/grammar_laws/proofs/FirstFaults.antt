@@ -324,7 +324,8 @@ run_part (t ∷ ts) us s = run_part_on (next s t) ts us (run_part ts us)
 run_then : (ts us : List Symbol) (s mid : MachineState) → run ts s ≡ Some mid → run (ts ++ us) s ≡ run us mid
 run_then ts us s mid h = run_part ts us s ∙ ap (λ o. and_run o (run us)) h
 
-front_ran : (o : Option MachineState) (go : MachineState → Option MachineState) (s : MachineState) → and_run o go ≡ Some s → (mid : MachineState) × (o ≡ Some mid)
+front_ran : (o : Option MachineState) (go : MachineState → Option MachineState) (s : MachineState) → and_run o go ≡ Some s
+    → (mid : MachineState) × (o ≡ Some mid)
 front_ran None go s h = absurd (cc (h))
 front_ran (Some mid) go s h = (mid, refl)
 

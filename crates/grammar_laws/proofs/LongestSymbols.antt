@@ -52,7 +52,8 @@ blank_begins_no_symbol b bs s g h = by_cases (blank_is b g)
     by_cases (inr (inr (inr e))) = none_at 10 bs s (blanks_begin_none bs).3 (ap (λ (x : ℕ). symbol_of (x ∷ bs)) (sym e) ∙ h)
 
 -- two longest symbols at the same bytes are equal, and so are their rests
-pub one_longest : (x y u v : List ℕ) (s s' : Symbol) → IsLongest x u → IsLongest y v → symbol_of x ≡ Some s → symbol_of y ≡ Some s' → x ++ u ≡ y ++ v → (x ≡ y) × (u ≡ v)
+pub one_longest : (x y u v : List ℕ) (s s' : Symbol) → IsLongest x u → IsLongest y v → symbol_of x ≡ Some s → symbol_of y ≡ Some s'
+    → x ++ u ≡ y ++ v → (x ≡ y) × (u ≡ v)
 one_longest x y u v s s' l l' t t' h = elim (one_goes_on x y u v h) [
   | inl r ↦ not_longer x y u v s' l r t'
   | inr r ↦ (let p = not_longer y x v u s l' r t in (sym p.0, sym p.1))

@@ -29,7 +29,8 @@ pub data Reached : List Symbol → MachineState → Type 0 where
       → Reached (flat ps) (Outside wants)
   Within : (ps : List Piece) (inside : List Symbol) (n : ℕ) (inner : List expression.Want) (wants : List Want) → length inside ≡ n
       → expression.run inside whole ≡ Some inner
-      → ((ts : List Symbol) (e : Expression) (qs : List Piece) → Derives any_expression ts e → Completes wants qs → Completes program (ps ++ FullExpression ts ∷ qs))
+      → ((ts : List Symbol) (e : Expression) (qs : List Piece) → Derives any_expression ts e → Completes wants qs
+      → Completes program (ps ++ FullExpression ts ∷ qs))
       → Reached (flat ps ++ inside) (Inside n inner wants)
 
 reached_moved : {ts us : List Symbol} {s : MachineState} → ts ≡ us → Reached ts s → Reached us s
@@ -50,7 +51,8 @@ reached_outside ps wants t (Inside n i left) f g =
 
 -- a symbol after a full expression that ends
 reached_after : (ps : List Piece) (inside : List Symbol) (wants : List Want) (t : Symbol) (s : MachineState)
-    → ((ts : List Symbol) (e : Expression) (qs : List Piece) → Derives any_expression ts e → Completes wants qs → Completes program (ps ++ FullExpression ts ∷ qs))
+    → ((ts : List Symbol) (e : Expression) (qs : List Piece) → Derives any_expression ts e → Completes wants qs
+    → Completes program (ps ++ FullExpression ts ∷ qs))
     → inner.IsExpression inside → step wants t ≡ Some s
     → Reached ((flat ps ++ inside) ++ t ∷ []) s
 reached_after ps inside wants t s f x h =
@@ -62,7 +64,8 @@ reached_after ps inside wants t s f x h =
 reached_inside : (ps : List Piece) (inside : List Symbol) (n : ℕ) (i : List expression.Want) (wants : List Want) (t : Symbol) (s : MachineState)
     (o : Option (List expression.Want)) (b : Bool) → expression.step i t ≡ o → expression.may_end i ≡ b → length inside ≡ n
     → expression.run inside whole ≡ Some i
-    → ((ts : List Symbol) (e : Expression) (qs : List Piece) → Derives any_expression ts e → Completes wants qs → Completes program (ps ++ FullExpression ts ∷ qs))
+    → ((ts : List Symbol) (e : Expression) (qs : List Piece) → Derives any_expression ts e → Completes wants qs
+    → Completes program (ps ++ FullExpression ts ∷ qs))
     → continued o b n wants (step wants t) ≡ Some s → Reached ((flat ps ++ inside) ++ t ∷ []) s
 reached_inside ps inside n i wants t s (Some mid) b e m l r f h =
     let same : Inside (suc n) mid wants ≡ s = cc (h) in
@@ -127,7 +130,8 @@ pub record GoesOnAsProgram (ps : List Piece) (inside : List Symbol) : Type 0 whe
   pub derived : DerivesProgram (ps ++ FullExpression (inside ++ more) ∷ after) tree
 
 within_goes_on : (ps : List Piece) (inside : List Symbol) (i : List expression.Want) (wants : List Want) → expression.run inside whole ≡ Some i
-    → ((ts : List Symbol) (e : Expression) (qs : List Piece) → Derives any_expression ts e → Completes wants qs → Completes program (ps ++ FullExpression ts ∷ qs))
+    → ((ts : List Symbol) (e : Expression) (qs : List Piece) → Derives any_expression ts e → Completes wants qs
+    → Completes program (ps ++ FullExpression ts ∷ qs))
     → GoesOnAsProgram ps inside
 within_goes_on ps inside i wants r f =
     let m = inner.completion i in
@@ -241,7 +245,8 @@ too_long_here longest inside more rest wants d h =
     record { left = suc (length rest); verdict = over_full longest inside rest r.left wants r.ran h; more = omega arith }
 
 -- the machine passes a full expression on the way, or finds that it is too long
-pub over_or_past : {e : Expression} (longest : ℕ) (ts : List Symbol) (sign : ℕ) (following rest : List Symbol) (wants : List Want) → Derives any_expression ts e → sign ≢ 91
+pub over_or_past : {e : Expression} (longest : ℕ) (ts : List Symbol) (sign : ℕ) (following rest : List Symbol) (wants : List Want)
+    → Derives any_expression ts e → sign ≢ 91
     → (length ts ≤ longest) ⊎ (longest < length ts) → length rest ≤ length following
     → FindsTooLong longest following wants rest
     → FindsTooLong longest (ts ++ symbols.Sign sign ∷ following) (machine.FullExpression ∷ Sign sign ∷ wants) rest

@@ -27,7 +27,8 @@ pub data Completes : List Want → List Piece → Type 0 where
       → Completes (StageNumber ∷ wants) (FullExpression ts ∷ ps)
   OfAssign : {wants : List Want} {ps : List Piece} {ts : List Symbol} {e : Expression} → Derives any_expression ts e → Completes wants ps
       → Completes (Target ∷ wants) (Single equals ∷ FullExpression ts ∷ Single semicolon ∷ ps)
-  OfAssignElement : {wants : List Want} {ps : List Piece} {us ts : List Symbol} {index e : Expression} → Derives any_expression us index → Derives any_expression ts e
+  OfAssignElement : {wants : List Want} {ps : List Piece} {us ts : List Symbol} {index e : Expression} → Derives any_expression us index
+      → Derives any_expression ts e
       → Completes wants ps
       → Completes (Target ∷ wants)
       (Single open_square ∷ FullExpression us ∷ Single close_square ∷ Single equals ∷ FullExpression ts ∷ Single semicolon ∷ ps)
@@ -340,7 +341,8 @@ skipped want wants t (Outside left) f g = λ ps c. f (Single t ∷ ps) (g ps c)
 skipped want wants t (Inside n inner left) f g = (g.0, g.1, λ ts e ps d c. f (FullExpression ts ∷ ps) (g.2 ts e ps d c))
 
 begun : (want : Want) (wants : List Want) (t : Symbol) (s : MachineState) (o : Option (List expression.Want)) → expression.step whole t ≡ o
-    → ((ts : List Symbol) (e : Expression) (ps : List Piece) → Derives any_expression ts e → Completes wants ps → Completes (want ∷ wants) (FullExpression ts ∷ ps))
+    → ((ts : List Symbol) (e : Expression) (ps : List Piece) → Derives any_expression ts e → Completes wants ps
+    → Completes (want ∷ wants) (FullExpression ts ∷ ps))
     → entered o wants ≡ Some s → Leads (want ∷ wants) t s
 begun want wants t s None i f h = absurd (cc (h))
 begun want wants t s (Some inner) i f h = let e : Inside 1 inner wants ≡ s = cc (h) in subst (Leads (want ∷ wants) t) e (refl, i, f)

@@ -119,7 +119,8 @@ mutual
       comes refl (moved (append_assoc ps (Single close_brace ∷ []) qs)
       (walks_statements d (Sign 125 ∷ wants) qs (LeavesOut refl (comes refl w))))
 
-  walks_part : {word : ℕ} {ps : List Piece} {ss : Statements} → DerivesPart (symbols.Word word) ps ss → (wants : List Want) (qs : List Piece) → BeginsWithout word qs
+  walks_part : {word : ℕ} {ps : List Piece} {ss : Statements} → DerivesPart (symbols.Word word) ps ss → (wants : List Want) (qs : List Piece)
+      → BeginsWithout word qs
       → Walks wants qs
       → Walks (Part word ∷ wants) (ps ++ qs)
   walks_part {word} NoPart wants qs h w = without_part word qs h w

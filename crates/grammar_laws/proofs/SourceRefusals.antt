@@ -18,13 +18,15 @@ pub one_lexed : (source : List ℕ) (tokens others : List Token) → IsLexed sou
 one_lexed source tokens others h g = one_list source tokens others h.scanned g.scanned
 
 -- the tokens of a source that spells a program break no rule of the grammar
-spelled_unbroken : (source : List ℕ) (tokens : List Token) (rule : grammar.GrammarRule) (place : ℕ) (tree : SyntaxTree) → IsLexed source tokens → BreaksAt source tokens rule place
+spelled_unbroken : (source : List ℕ) (tokens : List Token) (rule : grammar.GrammarRule) (place : ℕ) (tree : SyntaxTree) → IsLexed source tokens
+    → BreaksAt source tokens rule place
     → SourceSpells source tree → ⊥
 spelled_unbroken source tokens rule place tree l b s =
     faults.spelled_without_fault b.breaks (subst (λ found. Spells (symbols_in source found) tree) (one_lexed source s.tokens tokens s.lexed l) s.spelled)
 
 -- at most one token is the first that breaks a rule, and it breaks one rule first
-one_break : (source : List ℕ) (tokens : List Token) (rule other : grammar.GrammarRule) (place at : ℕ) → BreaksAt source tokens rule place → BreaksAt source tokens other at
+one_break : (source : List ℕ) (tokens : List Token) (rule other : grammar.GrammarRule) (place at : ℕ) → BreaksAt source tokens rule place
+    → BreaksAt source tokens other at
     → Syntactic rule place ≡ Syntactic other at
 one_break source tokens rule other place at b c =
     let one = faults.one_fault b.breaks c.breaks in

@@ -176,14 +176,16 @@ mutual
 -- ---- what is derived is read
 
 -- a full expression is read before a sign other than `[`
-pub found_full : {longest : ℕ} {ts : List Symbol} {e : Expression} (sign : ℕ) (rest : List Symbol) → sign ≢ 91 → Derives any_expression ts e → length ts ≤ longest
+pub found_full : {longest : ℕ} {ts : List Symbol} {e : Expression} (sign : ℕ) (rest : List Symbol) → sign ≢ 91 → Derives any_expression ts e
+    → length ts ≤ longest
     → ReadsFull longest (ts ++ symbols.Sign sign ∷ rest) e (symbols.Sign sign ∷ rest)
 found_full {longest} {ts} {e} sign rest h d l =
     let many : length (ts ++ symbols.Sign sign ∷ rest) ≡ length ts + length (symbols.Sign sign ∷ rest) = length-append ts (symbols.Sign sign ∷ rest) in
     record { read = found_before_sign sign rest h d; short = omega (arith, many, l) }
 
 -- the same, whatever follows the sign
-found_here : {longest : ℕ} {ts : List Symbol} {e : Expression} (sign : ℕ) (close rest : List Symbol) → sign ≢ 91 → Derives any_expression ts e → length ts ≤ longest
+found_here : {longest : ℕ} {ts : List Symbol} {e : Expression} (sign : ℕ) (close rest : List Symbol) → sign ≢ 91 → Derives any_expression ts e
+    → length ts ≤ longest
     → ReadsFull longest ((ts ++ symbols.Sign sign ∷ close) ++ rest) e (symbols.Sign sign ∷ (close ++ rest))
 found_here {longest} {ts} {e} sign close rest h d l =
     subst (λ x. ReadsFull longest x e (symbols.Sign sign ∷ (close ++ rest))) (sym (append_assoc ts (symbols.Sign sign ∷ close) rest))

@@ -199,16 +199,21 @@ past_same place text following bytes rest end o tokens others stands meets whole
   })
   | inr p ↦ (
       let same = one_stands stands p.stands (e ∙ p.parts) in
-      let first : others ≡ taken place text o ++ p.others = p.first ∙ ap (λ x. taken place x p.symbol ++ p.others) (sym same.text) ∙ ap (λ x. taken place text x ++ p.others) (sym same.symbol) in
-      let scan : Scans (place + length text) following p.others end = subst (λ x. Scans (place + length x) following p.others end) (sym same.text) (subst (λ x. Scans (place + length p.text) x p.others end) (sym same.rest) p.scan) in
+      let first : others ≡ taken place text o ++ p.others = p.first ∙ ap (λ x. taken place x p.symbol ++ p.others) (sym same.text)
+          ∙ ap (λ x. taken place text x ++ p.others) (sym same.symbol) in
+      let scan : Scans (place + length text) following p.others end =
+          subst (λ x. Scans (place + length x) following p.others end) (sym same.text)
+          (subst (λ x. Scans (place + length p.text) x p.others end) (sym same.rest) p.scan) in
       rw first (with_front (taken place text o) tokens p.others rest end (meets p.others scan)))
 ]
 
 -- of two scans of the same bytes from the same offset, one continues where the other stops
-pub scans_meet : {place : ℕ} {bytes other rest end : List ℕ} {tokens others : List Token} → Scans place bytes tokens rest → Scans place other others end → bytes ≡ other
+pub scans_meet : {place : ℕ} {bytes other rest end : List ℕ} {tokens others : List Token} → Scans place bytes tokens rest
+    → Scans place other others end → bytes ≡ other
     → Meet tokens others rest end
 unfolding taken
-scans_meet {end} {others = us} (Stops place rest) d h = inl (record { more = us; place = place; parts = refl; scan = subst (λ x. Scans place x us end) (sym h) d })
+scans_meet {end} {others = us} (Stops place rest) d h =
+    inl (record { more = us; place = place; parts = refl; scan = subst (λ x. Scans place x us end) (sym h) d })
 scans_meet {other} {end} {others = us} (Blank {place} {bytes} {rest} {tokens} b g s) d h =
     past_same place (b ∷ []) bytes other rest end None tokens us (ABlank b bytes g) (λ vs w. scans_meet s w refl) (Blank b g s) d h
 scans_meet {other} {end} {others = us} (Comment {place} {bytes} {rest} {tokens} text c s) d h =
@@ -284,7 +289,8 @@ one_thing (Beyond s w b) (Beyond s' w' b') =
     let same = one_stands (AToken w.text w.rest s w.token) (AToken w'.text w'.rest s' w'.token) (sym w.parts ∙ w'.parts) in same.symbol
 
 -- a symbol beyond its bounds is not taken
-not_taken : (place : ℕ) (bytes : List ℕ) (tokens : List Token) (end : List ℕ) (s : Symbol) → BeginsWith bytes s → (IsWithinBounds s → ⊥) → All IsTokenWithinBounds tokens
+not_taken : (place : ℕ) (bytes : List ℕ) (tokens : List Token) (end : List ℕ) (s : Symbol) → BeginsWith bytes s → (IsWithinBounds s → ⊥)
+    → All IsTokenWithinBounds tokens
     → IsPast place bytes tokens end → ⊥
 unfolding taken
 not_taken place bytes tokens end s w b bounded p =
@@ -295,7 +301,8 @@ not_taken place bytes tokens end s w b bounded p =
     b (bounded_symbol place w.text s w.token.symbol (here 0 (token_at place w.text s) (omega arith)))
 
 -- no scan within the bounds continues from a stop
-stays : {place : ℕ} {bytes end : List ℕ} {tokens : List Token} {o : Option Symbol} → IsStop bytes o → Scans place bytes tokens end → All IsTokenWithinBounds tokens → bytes ≡ end
+stays : {place : ℕ} {bytes end : List ℕ} {tokens : List Token} {o : Option Symbol} → IsStop bytes o → Scans place bytes tokens end
+    → All IsTokenWithinBounds tokens → bytes ≡ end
 stays (Nothing {bytes} n) d w = elim (past_or_not d) [
   | inl p ↦ p.0
   | inr p ↦ absurd (nothing_at bytes n p.stands p.parts)
@@ -374,7 +381,8 @@ by_length_or_stop (HasLongName place name r w h) = inr (record {
 pub one_fault : (source : List ℕ) (f g : LexicalFault) → HasFault source f → HasFault source g → f ≡ g
 one_fault source f g h i = by_both (by_length_or_stop h) (by_length_or_stop i)
   where
-    by_both : ((f ≡ SourceTooLong) × (1048576 < length source)) ⊎ IsOfStop source f → ((g ≡ SourceTooLong) × (1048576 < length source)) ⊎ IsOfStop source g → f ≡ g
+    by_both : ((f ≡ SourceTooLong) × (1048576 < length source)) ⊎ IsOfStop source f
+        → ((g ≡ SourceTooLong) × (1048576 < length source)) ⊎ IsOfStop source g → f ≡ g
     by_both (inl p) (inl q) = p.0 ∙ sym q.0
     by_both (inl p) (inr q) = absurd (omega (arith, p.1, q.stops.reached.short))
     by_both (inr p) (inl q) = absurd (omega (arith, q.1, p.stops.reached.short))
@@ -403,7 +411,8 @@ token_symbol source text rest place s e h =
     ap symbol_of same ∙ h ∙ sym (ap Some (ap (λ x. symbol_as (kind_of s) x) same ∙ symbol_of_kind text s h))
 
 -- the token of a text is in the source that has the text at its offset
-stands_in : (source text rest : List ℕ) (place : ℕ) (s : Symbol) → drop place source ≡ text ++ rest → symbol_of text ≡ Some s → StandsIn source (token_at place text s)
+stands_in : (source text rest : List ℕ) (place : ℕ) (s : Symbol) → drop place source ≡ text ++ rest → symbol_of text ≡ Some s
+    → StandsIn source (token_at place text s)
 stands_in source [] rest place s e h = (let none : None ≡ Some s = h in cc (none))
 stands_in source (b ∷ text) rest place s e h = record {
   symbol = token_symbol source (b ∷ text) rest place s e h;
@@ -421,7 +430,8 @@ all_stand_in source (Stops place rest) e = All-nil (StandsIn source)
 all_stand_in source (Blank {place} {bytes} b g d) e = all_stand_in source d (after_front source (b ∷ []) bytes place e)
 all_stand_in source (Comment {place} {bytes} text h d) e = all_stand_in source d (after_front source text bytes place e)
 all_stand_in source (Taken {place} {bytes} {tokens} text s t d) e =
-    All-cons (StandsIn source) (token_at place text s) tokens (stands_in source text bytes place s e t.symbol) (all_stand_in source d (after_front source text bytes place e))
+    All-cons (StandsIn source) (token_at place text s) tokens (stands_in source text bytes place s e t.symbol)
+        (all_stand_in source d (after_front source text bytes place e))
 
 -- each token of a source is in it, and its text there is that of its symbol
 pub tokens_stand : (source : List ℕ) (tokens : List Token) → HasTokens source tokens → All (StandsIn source) tokens

@@ -128,7 +128,8 @@ code_range (suc (suc (suc (suc (suc (suc (suc (suc (suc (suc (suc (suc (suc (suc
 joined_writable : (code : ℕ) (a b : Expression) → 1 ≤ code → code ≤ 13 → IsWritable a → IsWritable b → IsWritable (binary_expression code a b)
 joined_writable code a b l h x y = by_code (code == 1) (code == 2) (λ e. grind (arith, nat_tests, e)) (λ e. grind (arith, nat_tests, e))
   where
-    by_code : (p q : Bool) → (p ≡ false → 1 < code) → (q ≡ false → 1 < code → 2 < code) → IsWritable (if p then Or a b else (if q then And a b else Binary code a b))
+    by_code : (p q : Bool) → (p ≡ false → 1 < code) → (q ≡ false → 1 < code → 2 < code)
+        → IsWritable (if p then Or a b else (if q then And a b else Binary code a b))
     by_code true q f g = (x, y)
     by_code false true f g = (x, y)
     by_code false false f g = (let m = g refl (f refl) in omega (arith, m), h, x, y)
@@ -210,7 +211,8 @@ writable_cells grammar.NoCell g = tt
 writable_cells (grammar.CellIs {ps} {qs} {rs} x s v c) g =
     let sized = others (others g) in
     let valued = others (pieces_back ps _ sized) in
-    (first (others g), writable_size s (pieces_front ps _ sized), writable_value v (pieces_front qs _ valued), writable_cells c (others (pieces_back qs _ valued)))
+    (first (others g), writable_size s (pieces_front ps _ sized), writable_value v (pieces_front qs _ valued), writable_cells c
+        (others (pieces_back qs _ valued)))
 
 -- a program that good symbols derive can be written
 program_of_good : {ps : List Piece} {tree : SyntaxTree} → DerivesProgram ps tree → AreGood (flat ps) → IsWritableProgram tree
@@ -236,6 +238,7 @@ program_of_good (grammar.ProgramIs {cs} {is} {bs} {ls} {ts} iterations stages st
     }
 
 -- a program that a source spells can be written
-pub writable_program : (source : List ℕ) (found : List Symbol) (ps : List Piece) (tree : SyntaxTree) → IsWritingOf source found → found ≡ flat ps → DerivesProgram ps tree
+pub writable_program : (source : List ℕ) (found : List Symbol) (ps : List Piece) (tree : SyntaxTree) → IsWritingOf source found → found ≡ flat ps
+    → DerivesProgram ps tree
     → IsWritableProgram tree
 writable_program source found ps tree s e d = program_of_good d (subst AreGood e (good_source source found s))

@@ -155,7 +155,8 @@ decimal_opens n rest h = by_digits (decimal n) (digits_of_decimal n h)
 -- ---- operators and signs
 
 -- a text that is no prefix of a longer symbol
-pub closed_token : (b : ℕ) (rest : List ℕ) (s : Symbol) → symbol_of (b ∷ []) ≡ Some s → ((c : ℕ) (more : List ℕ) → symbol_of (b ∷ c ∷ more) ≡ None) → (b == 47) ≡ false
+pub closed_token : (b : ℕ) (rest : List ℕ) (s : Symbol) → symbol_of (b ∷ []) ≡ Some s
+    → ((c : ℕ) (more : List ℕ) → symbol_of (b ∷ c ∷ more) ≡ None) → (b == 47) ≡ false
     → IsToken (b ∷ []) rest s
 closed_token b rest s t closed slash = record {
   symbol = t;
@@ -210,8 +211,12 @@ operator_token (suc (suc (suc (suc (suc (suc zero)))))) rest l h = spaced_token 
 operator_token (suc (suc (suc (suc (suc (suc (suc zero))))))) rest l h = spaced_token (codes ">") rest (symbols.Operator 7) refl (λ more. refl) refl
 operator_token (suc (suc (suc (suc (suc (suc (suc (suc zero)))))))) rest l h = spaced_token (codes ">=") rest (symbols.Operator 8) refl (λ more. refl) refl
 operator_token (suc (suc (suc (suc (suc (suc (suc (suc (suc zero))))))))) rest l h = spaced_token (codes "+") rest (symbols.Operator 9) refl (λ more. refl) refl
-operator_token (suc (suc (suc (suc (suc (suc (suc (suc (suc (suc zero)))))))))) rest l h = spaced_token (codes "-") rest (symbols.Operator 10) refl (λ more. refl) refl
-operator_token (suc (suc (suc (suc (suc (suc (suc (suc (suc (suc (suc zero))))))))))) rest l h = spaced_token (codes "*") rest (symbols.Operator 11) refl (λ more. refl) refl
-operator_token (suc (suc (suc (suc (suc (suc (suc (suc (suc (suc (suc (suc zero)))))))))))) rest l h = spaced_token (codes "/") rest (symbols.Operator 12) refl (λ more. refl) refl
-operator_token (suc (suc (suc (suc (suc (suc (suc (suc (suc (suc (suc (suc (suc zero))))))))))))) rest l h = spaced_token (codes "%") rest (symbols.Operator 13) refl (λ more. refl) refl
+operator_token (suc (suc (suc (suc (suc (suc (suc (suc (suc (suc zero)))))))))) rest l h =
+    spaced_token (codes "-") rest (symbols.Operator 10) refl (λ more. refl) refl
+operator_token (suc (suc (suc (suc (suc (suc (suc (suc (suc (suc (suc zero))))))))))) rest l h =
+    spaced_token (codes "*") rest (symbols.Operator 11) refl (λ more. refl) refl
+operator_token (suc (suc (suc (suc (suc (suc (suc (suc (suc (suc (suc (suc zero)))))))))))) rest l h =
+    spaced_token (codes "/") rest (symbols.Operator 12) refl (λ more. refl) refl
+operator_token (suc (suc (suc (suc (suc (suc (suc (suc (suc (suc (suc (suc (suc zero))))))))))))) rest l h =
+    spaced_token (codes "%") rest (symbols.Operator 13) refl (λ more. refl) refl
 operator_token (suc (suc (suc (suc (suc (suc (suc (suc (suc (suc (suc (suc (suc (suc n)))))))))))))) rest l h = absurd (omega (arith, h))

@@ -50,8 +50,10 @@ mutual
     ReadsMore : (rest : List Symbol) → Reads operand_level (word_more ∷ open_round ∷ close_round ∷ rest) More rest
     ReadsTake : (rest : List Symbol) → Reads operand_level (word_take ∷ open_round ∷ close_round ∷ rest) Take rest
     ReadsIter : (rest : List Symbol) → Reads operand_level (word_iter ∷ open_round ∷ close_round ∷ rest) Iter rest
-    ReadsNegative : {ts rest : List Symbol} {e : Expression} → Reads operand_level ts e rest → Reads operand_level (minus ∷ ts) (Unary operator_codes.NEGATIVE e) rest
-    ReadsNot : {ts rest : List Symbol} {e : Expression} → Reads operand_level ts e rest → Reads operand_level (exclamation ∷ ts) (Unary operator_codes.NOT e) rest
+    ReadsNegative : {ts rest : List Symbol} {e : Expression} → Reads operand_level ts e rest
+        → Reads operand_level (minus ∷ ts) (Unary operator_codes.NEGATIVE e) rest
+    ReadsNot : {ts rest : List Symbol} {e : Expression} → Reads operand_level ts e rest
+        → Reads operand_level (exclamation ∷ ts) (Unary operator_codes.NOT e) rest
     ReadsBracketed : {ts rest : List Symbol} {e : Expression} → Reads any_expression ts e (close_round ∷ rest) → Reads operand_level (open_round ∷ ts) e rest
     ReadsChain : {level : ℕ} {ts mid rest : List Symbol} {a e : Expression} → Reads (suc level) ts a mid → Extends level a mid e rest → Reads level ts e rest
 

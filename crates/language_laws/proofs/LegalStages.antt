@@ -47,12 +47,14 @@ straight-then (Gets c s) h = RisesGet c (λ v. straight-then (s v) h)
 straight-then (Sets c v s) h = RisesSet c v (straight-then s h)
 
 -- one of two trees: the first if the test is true
-either : {A : Type 0} {P : Bool → ℤ → A → Type 0} {first : Bool} {n : ℤ} (b : Bool) {x y : Interaction A} → (b ≡ true → Rises P first n x) → Rises P first n y → Rises P first n (if b then x else y)
+either : {A : Type 0} {P : Bool → ℤ → A → Type 0} {first : Bool} {n : ℤ} (b : Bool) {x y : Interaction A} → (b ≡ true → Rises P first n x)
+    → Rises P first n y → Rises P first n (if b then x else y)
 either true s t = s refl
 either false s t = t
 
 -- one of two trees, chosen by a number
-pub either_by_zero : {A : Type 0} {P : Bool → ℤ → A → Type 0} {first : Bool} {n : ℤ} (v : ℤ) {x y : Interaction A} → Rises P first n x → Rises P first n y → Rises P first n (if_zero v x y)
+pub either_by_zero : {A : Type 0} {P : Bool → ℤ → A → Type 0} {first : Bool} {n : ℤ} (v : ℤ) {x y : Interaction A} → Rises P first n x
+    → Rises P first n y → Rises P first n (if_zero v x y)
 either_by_zero (pos zero) s t = s
 either_by_zero (pos (suc m)) s t = t
 either_by_zero (negsuc m) s t = t
@@ -70,15 +72,19 @@ enters_no_zero : (kind : StageKind) → kind_of_stage kind ≢ Zero
 enters_no_zero kinds.Wait = λ e. cc (e)
 enters_no_zero kinds.Continue = λ e. cc (e)
 
-rises-go_to_stage : (stages : ℕ) (kind : StageKind) (here : StagePosition) (first : Bool) (n m : ℤ) → here.number ≡ n → Rises IsPosition first n (go_to_stage stages kind here m)
+rises-go_to_stage : (stages : ℕ) (kind : StageKind) (here : StagePosition) (first : Bool) (n m : ℤ) → here.number ≡ n
+    → Rises IsPosition first n (go_to_stage stages kind here m)
 rises-go_to_stage stages kind here first n m at =
     either (int_lt here.number m) (λ above. either (nat_lt here.count stages)
     (λ room. RisesStage (enters_no_zero kind) (rw (← at) (let t = above in grind (arith, ints))) (RisesReturn refl)) (RisesRaise _)) (RisesRaise _)
 
-rises-go_to_next_stage : (stages : ℕ) (kind : StageKind) (here : StagePosition) (first : Bool) (n : ℤ) → here.number ≡ n → Rises IsPosition first n (go_to_next_stage stages kind here)
-rises-go_to_next_stage stages kind here first n at = straight-then (straight-fitting (here.number +ℤ pos 1)) (λ m h. rises-go_to_stage stages kind here first n m at)
+rises-go_to_next_stage : (stages : ℕ) (kind : StageKind) (here : StagePosition) (first : Bool) (n : ℤ) → here.number ≡ n
+    → Rises IsPosition first n (go_to_next_stage stages kind here)
+rises-go_to_next_stage stages kind here first n at =
+    straight-then (straight-fitting (here.number +ℤ pos 1)) (λ m h. rises-go_to_stage stages kind here first n m at)
 
-rises-assign : (env : Environment) (o : Option ℤ) (range : Option CellRange) (x : List ℕ) (v : ℤ) (first : Bool) (n : ℤ) → env.stage.number ≡ n → Rises KnowsStage first n (assign env o range x v)
+rises-assign : (env : Environment) (o : Option ℤ) (range : Option CellRange) (x : List ℕ) (v : ℤ) (first : Bool) (n : ℤ) → env.stage.number ≡ n
+    → Rises KnowsStage first n (assign env o range x v)
 rises-assign env (Some old) range x v first n at = RisesReturn at
 rises-assign env None (Some range) x v first n at = RisesSet _ _ (RisesReturn at)
 rises-assign env None None x v first n at = RisesRaise _
@@ -97,7 +103,8 @@ rises-turns (suc turns) test body env first n straight rises at =
 
 mutual
   -- statements continue at rising numbers
-  pub rises-execute : (setting : Setting) (s : Statement) (env : Environment) (first : Bool) (n : ℤ) → env.stage.number ≡ n → Rises KnowsStage first n (execute setting s env)
+  pub rises-execute : (setting : Setting) (s : Statement) (env : Environment) (first : Bool) (n : ℤ) → env.stage.number ≡ n
+      → Rises KnowsStage first n (execute setting s env)
   rises-execute setting (Let x e) env first n at = straight-then (straight-evaluate setting env.locals e) (λ v h. RisesStep (RisesReturn at))
   rises-execute setting (Assign x e) env first n at =
       straight-then (straight-evaluate setting env.locals e) (λ v h. RisesStep (rises-assign env (local_value env.locals x) (setting.cells x) x v first n at))
@@ -110,13 +117,16 @@ mutual
       straight-then (straight-evaluate setting env.locals e) (λ v h. RisesStep (rises-bind
       (either_by_zero v (rises-execute_all setting b env first n at) (rises-execute_all setting a env first n at)) (λ f m after known. RisesReturn known)))
   rises-execute setting (While e a) env first n at =
-      rises-turns setting.turns (λ now. evaluate setting now.locals e) (execute_all setting a) env first n (λ now. straight-evaluate setting now.locals e) (λ now f m known. rises-execute_all setting a now f m known) at
+      rises-turns setting.turns (λ now. evaluate setting now.locals e) (execute_all setting a) env first n
+          (λ now. straight-evaluate setting now.locals e) (λ now f m known. rises-execute_all setting a now f m known) at
   rises-execute setting (syntax.Stage kind e) env first n at =
-      straight-then (straight-evaluate setting env.locals e) (λ v h. RisesStep (rises-bind (rises-go_to_stage setting.world.stages kind env.stage first n v at) (λ f m stage known. RisesReturn known)))
+      straight-then (straight-evaluate setting env.locals e) (λ v h. RisesStep
+          (rises-bind (rises-go_to_stage setting.world.stages kind env.stage first n v at) (λ f m stage known. RisesReturn known)))
   rises-execute setting (NextStage kind) env first n at =
       RisesStep (rises-bind (rises-go_to_next_stage setting.world.stages kind env.stage first n at) (λ f m stage known. RisesReturn known))
 
-  pub rises-execute_all : (setting : Setting) (ss : Statements) (env : Environment) (first : Bool) (n : ℤ) → env.stage.number ≡ n → Rises KnowsStage first n (execute_all setting ss env)
+  pub rises-execute_all : (setting : Setting) (ss : Statements) (env : Environment) (first : Bool) (n : ℤ) → env.stage.number ≡ n
+      → Rises KnowsStage first n (execute_all setting ss env)
   rises-execute_all setting Empty env first n at = RisesReturn at
   rises-execute_all setting (Then s ss) env first n at =
       rises-bind (rises-execute setting s env first n at) (λ f m after known. rises-execute_all setting ss after f m known)
@@ -126,7 +136,8 @@ abbrev pub EndsRightly : Bool → ℤ → ColumnEnd → Type 0
 EndsRightly first n e = e ≡ ends.Closed → first ≡ true
 
 -- the budget does not change the stages
-pub legal-with_budget : {first : Bool} {n : ℤ} {d : Interaction ColumnEnd} (budget left : ℕ) → Rises EndsRightly first n d → HasLegalStages first n (with_budget budget left d)
+pub legal-with_budget : {first : Bool} {n : ℤ} {d : Interaction ColumnEnd} (budget left : ℕ) → Rises EndsRightly first n d
+    → HasLegalStages first n (with_budget budget left d)
 legal-with_budget budget left (RisesReturn p) = p
 legal-with_budget budget left (RisesRaise t) = λ e. cc (e)
 legal-with_budget budget zero (RisesStep r) = λ e. cc (e)

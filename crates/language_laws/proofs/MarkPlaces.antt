@@ -20,10 +20,12 @@ broken_here None rest n many mark rule following h = let within = following h in
 broken_among : (n mark : ℕ) (marks : List Mark) (rule : CheckingRule) → first_fault n marks ≡ Some (Broken rule mark) → mark < n + length marks
 broken_among n mark [] rule h = cc (h)
 broken_among n mark (m ∷ marks) rule h =
-    let within = broken_here (broken_at m) (first_fault (n + 1) marks) n (length marks) mark rule (broken_among (n + 1) mark marks rule) h in omega (arith, within)
+    let within = broken_here (broken_at m) (first_fault (n + 1) marks) n (length marks) mark rule (broken_among (n + 1) mark marks rule) h in
+        omega (arith, within)
 
 -- if a rule is broken, no limit is out of its range
-after_limits : (o : Option ℕ) (rest : Option Fault) (rule : CheckingRule) (mark : ℕ) → limit_fault_or o rest ≡ Some (Broken rule mark) → rest ≡ Some (Broken rule mark)
+after_limits : (o : Option ℕ) (rest : Option Fault) (rule : CheckingRule) (mark : ℕ) → limit_fault_or o rest ≡ Some (Broken rule mark)
+    → rest ≡ Some (Broken rule mark)
 after_limits None rest rule mark h = h
 after_limits (Some which) rest rule mark h = cc (h)
 
@@ -52,7 +54,8 @@ place_of_mark [] mark h = absurd (omega (arith, h))
 place_of_mark (token ∷ tokens) mark h = one_more_place (is_mark token.kind) token.place (mark_places tokens) mark (place_of_mark tokens) h
 
 -- the mark at which a program breaks a rule has an offset in the source
-pub place_of_broken : (source : List ℕ) (tree : SyntaxTree) (s : SourceSpells source tree) (rule : CheckingRule) (mark : ℕ) → fault_of tree ≡ Some (Broken rule mark)
+pub place_of_broken : (source : List ℕ) (tree : SyntaxTree) (s : SourceSpells source tree) (rule : CheckingRule) (mark : ℕ)
+    → fault_of tree ≡ Some (Broken rule mark)
     → (place : ℕ) × (slice_get (mark_places s.tokens) mark ≡ Some (pos place))
 place_of_broken source tree s rule mark h =
     let within = broken_within tree rule mark h in

@@ -130,7 +130,8 @@ mutual
   measured_block : {ps : List Piece} {ss : Statements} → DerivesBlock ps ss → Measured ps (expressions_of_statements ss) (statement_counts ss)
   measured_block (BlockIs d) = plain _ (closed _ (measured_statements d))
 
-  measured_part : {word : ℕ} {ps : List Piece} {ss : Statements} → DerivesPart (symbols.Word word) ps ss → Measured ps (expressions_of_statements ss) (statement_counts ss)
+  measured_part : {word : ℕ} {ps : List Piece} {ss : Statements} → DerivesPart (symbols.Word word) ps ss
+      → Measured ps (expressions_of_statements ss) (statement_counts ss)
   measured_part NoPart = nothing
   measured_part (PartIs d) = plain _ (measured_block d)
 

@@ -17,7 +17,8 @@ use Rattle.language_laws.proofs.Straight.{IsStraight, Returns, Raises, Steps, Ge
 use Rattle.language_laws.proofs.Straight.{either_by_zero as straight_by_zero}
 
 -- one of two trees after the test, if both rise
-rises_either : (first : Bool) (n : ℤ) (b : Bool) (x y : Interaction ColumnEnd) → Rises EndsRightly first n x → Rises EndsRightly first n y → Rises EndsRightly first n (if b then x else y)
+rises_either : (first : Bool) (n : ℤ) (b : Bool) (x y : Interaction ColumnEnd) → Rises EndsRightly first n x → Rises EndsRightly first n y
+    → Rises EndsRightly first n (if b then x else y)
 rises_either first n true x y s t = s
 rises_either first n false x y s t = t
 
@@ -42,10 +43,12 @@ closes-with_budget budget left (Gets c s) = λ v. closes-with_budget budget left
 closes-with_budget budget left (Sets c v s) = closes-with_budget budget left s
 
 -- the iteration after the last allowed one names no stage and closes the loop
-closes-run_iteration : (setting : Setting) (test : Expression) (body : Statements) → pos setting.world.iteration ≡ setting.world.iterations → IsStraight IsClosing (run_iteration setting test body)
+closes-run_iteration : (setting : Setting) (test : Expression) (body : Statements) → pos setting.world.iteration ≡ setting.world.iterations
+    → IsStraight IsClosing (run_iteration setting test body)
 closes-run_iteration setting test body last =
     straight-bind (straight-evaluate setting [] test) (λ v h. Steps (straight_by_zero IsClosing v _ _ (Returns refl)
-    (let t : int_eq (pos setting.world.iteration) setting.world.iterations ≡ true = (Decides-int_eq (pos setting.world.iteration) setting.world.iterations).1 last in
+    (let t : int_eq (pos setting.world.iteration) setting.world.iterations ≡ true =
+        (Decides-int_eq (pos setting.world.iteration) setting.world.iterations).1 last in
     rw t (Raises traps.IterLimit))))
 
 -- a number between 1 and 65536 equals its natural number

@@ -13,23 +13,27 @@ abbrev NoLonger : List ℕ → OpRow → OpRow → Type 0
 NoLonger bytes row other = StartsWith (text_of other) bytes → length (text_of other) ≤ length (text_of row)
 
 -- a row whose symbol begins the bytes and is longer than that of the best row so far is the best
-pub takes : (rows : List OpRow) (bytes : List ℕ) (best : Option OpRow) (row : OpRow) → IsBest rows bytes best → StartsWith (text_of row) bytes → Outdoes row best
+pub takes : (rows : List OpRow) (bytes : List ℕ) (best : Option OpRow) (row : OpRow) → IsBest rows bytes best → StartsWith (text_of row) bytes
+    → Outdoes row best
     → IsBest (rows ++ row ∷ []) bytes (Some row)
 takes rows bytes None row b f o = record {
   among = last_stands rows row;
   front = f;
-  longest = All-push (NoLonger bytes row) rows row (All-weaker (λ other. StartsWith (text_of other) bytes → ⊥) (NoLonger bytes row) (λ other none front. absurd (none front)) rows b)
+  longest = All-push (NoLonger bytes row) rows row (All-weaker (λ other. StartsWith (text_of other) bytes → ⊥) (NoLonger bytes row)
+      (λ other none front. absurd (none front)) rows b)
       (λ front. omega arith);
 }
 takes rows bytes (Some best) row b f o = record {
   among = last_stands rows row;
   front = f;
-  longest = All-push (NoLonger bytes row) rows row (All-weaker (NoLonger bytes best) (NoLonger bytes row) (λ other shorter front. let h = shorter front in omega (arith, h, o)) rows b.longest)
+  longest = All-push (NoLonger bytes row) rows row (All-weaker (NoLonger bytes best) (NoLonger bytes row)
+      (λ other shorter front. let h = shorter front in omega (arith, h, o)) rows b.longest)
       (λ front. omega arith);
 }
 
 -- otherwise the best row so far stays the best
-pub keeps : (rows : List OpRow) (bytes : List ℕ) (best : Option OpRow) (row : OpRow) → IsBest rows bytes best → (StartsWith (text_of row) bytes → Outdoes row best → ⊥)
+pub keeps : (rows : List OpRow) (bytes : List ℕ) (best : Option OpRow) (row : OpRow) → IsBest rows bytes best
+    → (StartsWith (text_of row) bytes → Outdoes row best → ⊥)
     → IsBest (rows ++ row ∷ []) bytes best
 keeps rows bytes None row b n = All-push (λ other. StartsWith (text_of other) bytes → ⊥) rows row b (λ front. n front tt)
 keeps rows bytes (Some best) row b n = record {

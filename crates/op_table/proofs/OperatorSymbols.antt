@@ -12,7 +12,8 @@ use Rattle.op_table.specs.Tables.{text_of}
 use Rattle.op_table.proofs.TableRules.{obeys}
 
 -- functions with equal results on all rows have equal results at each index
-at_place : {A : Type 0} (f g : OpRow → A) (rows : List OpRow) → map f rows ≡ map g rows → (k : ℕ) (d : OpRow) → k < length rows → f (get_or rows k d) ≡ g (get_or rows k d)
+at_place : {A : Type 0} (f g : OpRow → A) (rows : List OpRow) → map f rows ≡ map g rows → (k : ℕ) (d : OpRow) → k < length rows
+    → f (get_or rows k d) ≡ g (get_or rows k d)
 at_place f g [] e k d within = absurd (omega arith)
 at_place f g (row ∷ rows) e zero d within = let first : f row ∷ map f rows ≡ g row ∷ map g rows = e in cc (first)
 at_place f g (row ∷ rows) e (suc k) d within =

@@ -8,22 +8,27 @@ use Rattle.pipe_model.specs.Language.SyntaxTree.{Expression, And, Or, Binary, bi
 
 -- whichever of the three forms the expression has
 marks_either : (scope : Scope) (code : ℕ) (a b : Expression) (first second : Bool)
-    → marks_of_expression scope (if first then Or a b else (if second then And a b else Binary code a b)) ≡ marks_of_expression scope a ++ marks_of_expression scope b
+    → marks_of_expression scope (if first then Or a b else (if second then And a b else Binary code a b)) ≡ marks_of_expression scope
+    a ++ marks_of_expression scope b
 marks_either scope code a b true second = refl
 marks_either scope code a b false true = refl
 marks_either scope code a b false false = refl
 
-pub marks_joined : (scope : Scope) (code : ℕ) (a b : Expression) → marks_of_expression scope (binary_expression code a b) ≡ marks_of_expression scope a ++ marks_of_expression scope b
+pub marks_joined : (scope : Scope) (code : ℕ) (a b : Expression)
+    → marks_of_expression scope (binary_expression code a b) ≡ marks_of_expression scope a ++ marks_of_expression scope b
 marks_joined scope code a b = marks_either scope code a b (code == 1) (code == 2)
 
 -- the left side has a fault
 pub left_refused : (scope : Scope) (code n : ℕ) (a b whole : Expression) (refusal : CheckFault) → whole ≡ binary_expression code a b
     → PassesMarks (Err refusal) n (marks_of_expression scope a) → PassesMarks (Err refusal) n (marks_of_expression scope whole)
 left_refused scope code n a b whole refusal is h =
-    subst (λ marks. PassesMarks (Err refusal) n marks) (sym (marks_joined scope code a b) ∙ ap (marks_of_expression scope) (sym is)) (fails_first refusal n (marks_of_expression scope a) (marks_of_expression scope b) h)
+    subst (λ marks. PassesMarks (Err refusal) n marks) (sym (marks_joined scope code a b) ∙ ap (marks_of_expression scope) (sym is))
+        (fails_first refusal n (marks_of_expression scope a) (marks_of_expression scope b) h)
 
 -- the left side passes, and the right side decides
 pub right_decides : (scope : Scope) (code n k : ℕ) (a b whole : Expression) (answer : Result ℕ CheckFault) → whole ≡ binary_expression code a b
-    → PassesMarks (Ok k) n (marks_of_expression scope a) → PassesMarks answer k (marks_of_expression scope b) → PassesMarks answer n (marks_of_expression scope whole)
+    → PassesMarks (Ok k) n (marks_of_expression scope a) → PassesMarks answer k (marks_of_expression scope b)
+    → PassesMarks answer n (marks_of_expression scope whole)
 right_decides scope code n k a b whole answer is h g =
-    subst (λ marks. PassesMarks answer n marks) (sym (marks_joined scope code a b) ∙ ap (marks_of_expression scope) (sym is)) (passes_then answer n k (marks_of_expression scope a) (marks_of_expression scope b) h g)
+    subst (λ marks. PassesMarks answer n marks) (sym (marks_joined scope code a b) ∙ ap (marks_of_expression scope) (sym is))
+        (passes_then answer n k (marks_of_expression scope a) (marks_of_expression scope b) h g)

@@ -35,7 +35,8 @@ first_after n (mark ∷ a) b h =
     none.skips (first_fault (n + 1) (a ++ b)) ∙ first_after (n + 1) a b none.follows ∙ ap (λ k. first_fault k b) (omega arith)
 
 -- an error that reports the fault of x reports that of y, if y has the same fault
-pub tells_more : (refusal : CheckFault) (x y : Option Fault) → ((fault : Fault) → x ≡ Some fault → y ≡ Some fault) → IsFirstFaultOf refusal x → IsFirstFaultOf refusal y
+pub tells_more : (refusal : CheckFault) (x y : Option Fault) → ((fault : Fault) → x ≡ Some fault → y ≡ Some fault) → IsFirstFaultOf refusal x
+    → IsFirstFaultOf refusal y
 tells_more (faults.Unknown n) x y f h = f _ h
 tells_more (faults.Twice n) x y f h = f _ h
 tells_more (faults.LimitOut n) x y f h = f _ h

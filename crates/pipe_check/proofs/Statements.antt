@@ -12,7 +12,8 @@ use Rattle.pipe_model.specs.Language.SpellablePrograms.{statement_count, stateme
 use Rattle.pipe_model.specs.Language.SyntaxTree.{Expression, If, While, Statement, Statements, Empty, Then, statement_of, statements_of}
 
 -- from index i of the list on there is one statement, and then the others
-statements_from : (ss : List Stmt) (i : ℕ) (s : Stmt) → i < length ss → s ≡ get_or ss i s → statements_of (drop i ss) ≡ Then (statement_of s) (statements_of (drop (i + 1) ss))
+statements_from : (ss : List Stmt) (i : ℕ) (s : Stmt) → i < length ss → s ≡ get_or ss i s
+    → statements_of (drop i ss) ≡ Then (statement_of s) (statements_of (drop (i + 1) ss))
 statements_from ss i s h e = at_drop_more statements_of ss i s h ∙ ap (λ x. Then (statement_of x) (statements_of (drop (i + 1) ss))) (sym e)
 
 -- after the end of the list there is nothing
@@ -31,8 +32,10 @@ block_refused scope ss i n s refusal whole h e is p =
 
 -- the statement at index i passes, and the others have the faults, the last number and the final scope of the statements from there on
 pub record IsStep (scope next_scope : Scope) (ss : List Stmt) (i n next : ℕ) : Type 0 where
-  pub faults : first_fault next (marks_of_statements next_scope (statements_of (drop (i + 1) ss))) ≡ first_fault n (marks_of_statements scope (statements_of (drop i ss)))
-  pub numbers : next + length (marks_of_statements next_scope (statements_of (drop (i + 1) ss))) ≡ n + length (marks_of_statements scope (statements_of (drop i ss)))
+  pub faults : first_fault next (marks_of_statements next_scope (statements_of (drop (i + 1) ss))) ≡ first_fault n
+      (marks_of_statements scope (statements_of (drop i ss)))
+  pub numbers : next + length (marks_of_statements next_scope (statements_of (drop (i + 1) ss))) ≡ n + length
+      (marks_of_statements scope (statements_of (drop i ss)))
   pub scope_after : after_statements next_scope (statements_of (drop (i + 1) ss)) ≡ after_statements scope (statements_of (drop i ss))
 
 -- the numbers of the statement at index i are within the bound
@@ -45,7 +48,8 @@ statement_fits scope ss i n all s h e is few =
     omega (arith, is, few, from, length-append (marks_of_statement scope (statement_of s)) (marks_of_statements (after_statement scope (statement_of s)) rest))
 
 -- a statement of a list counts at most as much as the list
-pub one_counts : (ss : List Stmt) (i : ℕ) (s : Stmt) → i < length ss → s ≡ get_or ss i s → statement_count (statement_of s) ≤ statement_counts (statements_of ss)
+pub one_counts : (ss : List Stmt) (i : ℕ) (s : Stmt) → i < length ss → s ≡ get_or ss i s
+    → statement_count (statement_of s) ≤ statement_counts (statements_of ss)
 one_counts [] i s h e = absurd (omega (arith, h))
 one_counts (x ∷ ss) zero s h e = let same = ap (λ y. statement_count (statement_of y)) e in omega (arith, same)
 one_counts (x ∷ ss) (suc i) s h e = let others = one_counts ss i s (omega (arith, h)) e in omega (arith, others)
@@ -81,7 +85,9 @@ pub block_left : (outer inner : Scope) (ss : Statements) → inner ≡ after_sta
     → record { region = inner.region; cells = inner.cells; visible = take (length outer.visible) inner.visible; lets = inner.lets } ≡ after_block outer ss
 block_left outer inner ss is =
     let cut : Scope → Scope = λ x. record { region = x.region; cells = x.cells; visible = take (length outer.visible) x.visible; lets = x.lets } in
-    let with_visible : List (List ℕ) → Scope = λ names. record { region = (after_statements outer ss).region; cells = (after_statements outer ss).cells; visible = names; lets = (after_statements outer ss).lets } in
+    let with_visible : List (List ℕ) → Scope = λ names.
+        record { region = (after_statements outer ss).region; cells = (after_statements outer ss).cells; visible = names; lets =
+        (after_statements outer ss).lets } in
     ap cut is ∙ ap with_visible (first_visible outer ss)
 
 -- ---- branches and loops, by their plain data
@@ -95,18 +101,21 @@ test_refused scope n e a b whole refusal is p =
 
 -- the first block decides if it has a fault
 pub first_refused : (scope : Scope) (n k : ℕ) (e : Expression) (a b : Statements) (whole : Statement) (refusal : CheckFault) → whole ≡ If e a b
-    → PassesMarks (Ok k) n (marks_of_expression scope e) → PassesMarks (Err refusal) k (marks_of_statements scope a) → PassesMarks (Err refusal) n (marks_of_statement scope whole)
+    → PassesMarks (Ok k) n (marks_of_expression scope e) → PassesMarks (Err refusal) k (marks_of_statements scope a)
+    → PassesMarks (Err refusal) n (marks_of_statement scope whole)
 first_refused scope n k e a b whole refusal is p q =
     let blocks = fails_first refusal k (marks_of_statements scope a) (marks_of_statements (after_block scope a) b) q in
     subst (λ s. PassesMarks (Err refusal) n (marks_of_statement scope s)) (sym is)
     (passes_then (Err refusal) n k (marks_of_expression scope e) (marks_of_statements scope a ++ marks_of_statements (after_block scope a) b) p blocks)
 
 -- otherwise the second one decides
-pub second_decides : (scope between : Scope) (n k j : ℕ) (e : Expression) (a b : Statements) (whole : Statement) (answer : Result ℕ CheckFault) → whole ≡ If e a b
+pub second_decides : (scope between : Scope) (n k j : ℕ) (e : Expression) (a b : Statements) (whole : Statement) (answer : Result ℕ CheckFault)
+    → whole ≡ If e a b
     → between ≡ after_block scope a → PassesMarks (Ok k) n (marks_of_expression scope e) → PassesMarks (Ok j) k (marks_of_statements scope a)
     → PassesMarks answer j (marks_of_statements between b) → PassesMarks answer n (marks_of_statement scope whole)
 second_decides scope between n k j e a b whole answer is scope_after p q r =
-    let second : PassesMarks answer j (marks_of_statements (after_block scope a) b) = subst (λ x. PassesMarks answer j (marks_of_statements x b)) scope_after r in
+    let second : PassesMarks answer j (marks_of_statements (after_block scope a) b) =
+        subst (λ x. PassesMarks answer j (marks_of_statements x b)) scope_after r in
     let blocks = passes_then answer k j (marks_of_statements scope a) (marks_of_statements (after_block scope a) b) q second in
     subst (λ s. PassesMarks answer n (marks_of_statement scope s)) (sym is)
     (passes_then answer n k (marks_of_expression scope e) (marks_of_statements scope a ++ marks_of_statements (after_block scope a) b) p blocks)
@@ -125,7 +134,8 @@ pub second_fits : (scope between : Scope) (n k j : ℕ) (e : Expression) (a b : 
 second_fits scope between n k j e a b whole is scope_after h p q =
     let whole_fits : Fits n (marks_of_statement scope (If e a b)) = subst (λ s. Fits n (marks_of_statement scope s)) is h in
     let blocks = fits_then n k (marks_of_expression scope e) (marks_of_statements scope a ++ marks_of_statements (after_block scope a) b) whole_fits p in
-    subst (λ x. Fits j (marks_of_statements x b)) (sym scope_after) (fits_then k j (marks_of_statements scope a) (marks_of_statements (after_block scope a) b) blocks q)
+    subst (λ x. Fits j (marks_of_statements x b)) (sym scope_after) (fits_then k j (marks_of_statements scope a)
+        (marks_of_statements (after_block scope a) b) blocks q)
 
 -- the scope after both blocks
 pub branch_left : (scope between after : Scope) (e : Expression) (a b : Statements) (whole : Statement) → whole ≡ If e a b → between ≡ after_block scope a
@@ -141,9 +151,11 @@ loop_refused scope n e a whole refusal is p =
 
 -- otherwise the body decides
 pub body_decides : (scope : Scope) (n k : ℕ) (e : Expression) (a : Statements) (whole : Statement) (answer : Result ℕ CheckFault) → whole ≡ While e a
-    → PassesMarks (Ok k) n (marks_of_expression scope e) → PassesMarks answer k (marks_of_statements scope a) → PassesMarks answer n (marks_of_statement scope whole)
+    → PassesMarks (Ok k) n (marks_of_expression scope e) → PassesMarks answer k (marks_of_statements scope a)
+    → PassesMarks answer n (marks_of_statement scope whole)
 body_decides scope n k e a whole answer is p q =
-    subst (λ s. PassesMarks answer n (marks_of_statement scope s)) (sym is) (passes_then answer n k (marks_of_expression scope e) (marks_of_statements scope a) p q)
+    subst (λ s. PassesMarks answer n (marks_of_statement scope s)) (sym is)
+        (passes_then answer n k (marks_of_expression scope e) (marks_of_statements scope a) p q)
 
 pub body_fits : (scope : Scope) (n k : ℕ) (e : Expression) (a : Statements) (whole : Statement) → whole ≡ While e a
     → Fits n (marks_of_statement scope whole) → PassesMarks (Ok k) n (marks_of_expression scope e) → Fits k (marks_of_statements scope a)

@@ -40,10 +40,12 @@ front_or_not text bytes = by_test (bytes_eq (take (length text) bytes) text) ref
 -- the row outdoes the best one so far, or it does not
 outdoes_or_not : (row : OpRow) (best : Option OpRow) → Outdoes row best ⊎ (Outdoes row best → ⊥)
 outdoes_or_not row None = inl tt
-outdoes_or_not row (Some other) = elim (cases_lt (length (text_of other)) (length (text_of row))) [ inl h ↦ inl h | inr h ↦ inr (λ less. omega (arith, h, less)) ]
+outdoes_or_not row (Some other) = elim (cases_lt (length (text_of other)) (length (text_of row)))
+    [ inl h ↦ inl h | inr h ↦ inr (λ less. omega (arith, h, less)) ]
 
 -- the best row after one more row
-one_more_row : (seen : List OpRow) (bytes : List ℕ) (best : Option OpRow) (row : OpRow) → IsBest seen bytes best → (other : Option OpRow) × IsBest (seen ++ row ∷ []) bytes other
+one_more_row : (seen : List OpRow) (bytes : List ℕ) (best : Option OpRow) (row : OpRow) → IsBest seen bytes best
+    → (other : Option OpRow) × IsBest (seen ++ row ∷ []) bytes other
 one_more_row seen bytes best row h = by_both (front_or_not (text_of row) bytes) (outdoes_or_not row best)
   where
     by_both : StartsWith (text_of row) bytes ⊎ (StartsWith (text_of row) bytes → ⊥) → Outdoes row best ⊎ (Outdoes row best → ⊥)
@@ -84,7 +86,8 @@ word_or_flaw : (bytes following : List ℕ) (b : ℕ) → bytes ≡ b ∷ follow
 word_or_flaw bytes following b e letter = by_place (word_place (take (1 + prefix_len is_name_byte following) bytes)) refl
   where
     by_length : word_place (take (1 + prefix_len is_name_byte following) bytes) ≡ None
-        → (64 < length (take (1 + prefix_len is_name_byte following) bytes)) ⊎ (length (take (1 + prefix_len is_name_byte following) bytes) ≤ 64) → PieceOrFlaw bytes
+        → (64 < length (take (1 + prefix_len is_name_byte following) bytes)) ⊎ (length (take (1 + prefix_len is_name_byte following) bytes) ≤ 64)
+        → PieceOrFlaw bytes
     by_length h (inl long) = inr (_, name_flaw bytes following _ b _ e letter refl refl h long)
     by_length h (inr short) = inl (_, name_piece bytes following _ b _ e letter refl refl h short)
 
@@ -96,7 +99,8 @@ word_or_flaw bytes following b e letter = by_place (word_place (take (1 + prefix
 number_or_flaw : (bytes following : List ℕ) (b : ℕ) → bytes ≡ b ∷ following → is_letter b ≡ false → is_digit b ≡ true → PieceOrFlaw bytes
 number_or_flaw bytes following b e letter digit = by_value (cases_lt (number_of (take (1 + prefix_len is_digit following) bytes)) (2 ^ 63))
   where
-    by_value : (number_of (take (1 + prefix_len is_digit following) bytes) < 2 ^ 63) ⊎ (2 ^ 63 ≤ number_of (take (1 + prefix_len is_digit following) bytes)) → PieceOrFlaw bytes
+    by_value : (number_of (take (1 + prefix_len is_digit following) bytes) < 2 ^ 63)
+        ⊎ (2 ^ 63 ≤ number_of (take (1 + prefix_len is_digit following) bytes)) → PieceOrFlaw bytes
     by_value (inl fits) = inl (_, number_piece bytes following _ b _ _ e letter digit refl refl refl (omega (arith, ints, fits)))
     by_value (inr wide) = inr (_, number_flaw bytes following _ b _ e letter digit refl refl wide)
 

@@ -24,7 +24,8 @@ pub rest_fails : (p : ℕ → Bool) (xs : List ℕ) (c : ℕ) (more : List ℕ) 
 rest_fails p [] c more e = cc (e)
 rest_fails p (x ∷ xs) c more e = by_first (p x) refl (rest_fails p xs c more) e
   where
-    by_first : (b : Bool) → p x ≡ b → (drop (prefix_len p xs) xs ≡ c ∷ more → p c ≡ false) → drop (cond (p x) (1 + prefix_len p xs) 0) (x ∷ xs) ≡ c ∷ more → p c ≡ false
+    by_first : (b : Bool) → p x ≡ b → (drop (prefix_len p xs) xs ≡ c ∷ more → p c ≡ false)
+        → drop (cond (p x) (1 + prefix_len p xs) 0) (x ∷ xs) ≡ c ∷ more → p c ≡ false
     by_first true t ih h = let s : 1 + prefix_len p xs ≡ suc (prefix_len p xs) = omega arith in ih (rw (t, s) at h)
     by_first false f ih h = let g : x ∷ xs ≡ c ∷ more = rw f at h in let same : x ≡ c = cc (g) in ap p (sym same) ∙ f
 
@@ -36,7 +37,8 @@ longer_fails p xs c more after e = rw (list_all-append p (take (prefix_len p xs)
 -- ---- words and names
 
 -- the letters, digits and `_` from a letter on are a word or a name
-pub word_is : (b : ℕ) (bs : List ℕ) → is_letter b ≡ true → symbol_of (b ∷ take (prefix_len is_name_byte bs) bs) ≡ Some (word_symbol (b ∷ take (prefix_len is_name_byte bs) bs))
+pub word_is : (b : ℕ) (bs : List ℕ) → is_letter b ≡ true
+    → symbol_of (b ∷ take (prefix_len is_name_byte bs) bs) ≡ Some (word_symbol (b ∷ take (prefix_len is_name_byte bs) bs))
 word_is b bs letter = rw (letter, front_passes is_name_byte bs) refl
 
 -- and no longer prefix is one
@@ -56,7 +58,8 @@ pub number_is : (b : ℕ) (bs : List ℕ) → is_letter b ≡ false → is_digit
 number_is b bs letter digit = rw (letter, digit, front_passes is_digit bs) refl
 
 -- and no longer prefix is one
-pub number_is_longest : (b : ℕ) (bs : List ℕ) → is_letter b ≡ false → is_digit b ≡ true → IsLongest (b ∷ take (prefix_len is_digit bs) bs) (drop (prefix_len is_digit bs) bs)
+pub number_is_longest : (b : ℕ) (bs : List ℕ) → is_letter b ≡ false → is_digit b ≡ true
+    → IsLongest (b ∷ take (prefix_len is_digit bs) bs) (drop (prefix_len is_digit bs) bs)
 number_is_longest b bs letter digit = record { longest = no_longer }
   where
     no_longer : (more after : List ℕ) (s : Symbol) → drop (prefix_len is_digit bs) bs ≡ more ++ after → more ≢ []

@@ -58,7 +58,8 @@ comment_piece (a ∷ b ∷ bs) n h e =
 -- ---- tokens
 
 -- the first byte and m more are a token
-is_token : (b : ℕ) (bs : List ℕ) (m : ℕ) (s : Symbol) → symbol_of (b ∷ take m bs) ≡ Some s → IsLongest (b ∷ take m bs) (drop m bs) → begins_comment (b ∷ bs) ≡ false
+is_token : (b : ℕ) (bs : List ℕ) (m : ℕ) (s : Symbol) → symbol_of (b ∷ take m bs) ≡ Some s → IsLongest (b ∷ take m bs) (drop m bs)
+    → begins_comment (b ∷ bs) ≡ false
     → IsToken (b ∷ take m bs) (drop m bs) s
 is_token b bs m s symbol longest none =
     record { symbol = symbol; longest = longest; no_comment = ap (λ x. begins_comment (b ∷ x)) (take-append-drop m bs) ∙ none }
@@ -89,7 +90,8 @@ digit_no_comment b (c ∷ bs) h = grind (arith, nat_tests)
 -- ---- words and names
 
 -- the letters, digits and `_` from a letter on are the reserved word at the given index, or a name if there is no index
-as_word : (b : ℕ) (following text : List ℕ) (o : Option ℕ) → is_letter b ≡ true → text ≡ b ∷ take (prefix_len is_name_byte following) following → word_place text ≡ o
+as_word : (b : ℕ) (following text : List ℕ) (o : Option ℕ) → is_letter b ≡ true → text ≡ b ∷ take (prefix_len is_name_byte following) following
+    → word_place text ≡ o
     → symbol_of (b ∷ take (prefix_len is_name_byte following) following) ≡ Some (word_or_name o text)
 as_word b following text o letter t place = word_is b following letter ∙ ap (λ x. Some (word_symbol x)) (sym t) ∙ ap (λ p. Some (word_or_name p text)) place
 
@@ -99,45 +101,56 @@ front_length bytes following text b m e within t =
     ap length t ∙ length-take-le (1 + m) bytes (omega (arith, ap length e, within))
 
 -- a reserved word
-pub word_piece : (bytes following text : List ℕ) (b m k : ℕ) → bytes ≡ b ∷ following → is_letter b ≡ true → m ≡ prefix_len is_name_byte following → text ≡ take (1 + m) bytes
+pub word_piece : (bytes following text : List ℕ) (b m k : ℕ) → bytes ≡ b ∷ following → is_letter b ≡ true → m ≡ prefix_len is_name_byte following
+    → text ≡ take (1 + m) bytes
     → word_place text ≡ Some k → IsPiece bytes (pieces.Taken (kinds.Word k) (1 + m))
 word_piece bytes following text b m k e letter counted t place =
     rw (e, counted) (token_piece b following _ (symbols.Word k) (prefix_len-le-length is_name_byte following)
-    (as_word b following text (Some k) letter (rw (← counted) (t ∙ front_is bytes following b m e)) place) (word_is_longest b following letter) (letter_no_comment b following letter) tt)
+    (as_word b following text (Some k) letter (rw (← counted) (t ∙ front_is bytes following b m e)) place) (word_is_longest b following letter)
+        (letter_no_comment b following letter) tt)
 
 -- a name within its bound
-pub name_piece : (bytes following text : List ℕ) (b m : ℕ) → bytes ≡ b ∷ following → is_letter b ≡ true → m ≡ prefix_len is_name_byte following → text ≡ take (1 + m) bytes
+pub name_piece : (bytes following text : List ℕ) (b m : ℕ) → bytes ≡ b ∷ following → is_letter b ≡ true → m ≡ prefix_len is_name_byte following
+    → text ≡ take (1 + m) bytes
     → word_place text ≡ None → length text ≤ 64 → IsPiece bytes (pieces.Taken kinds.Name (1 + m))
 name_piece bytes following text b m e letter counted t place short =
     let within : m ≤ length following = rw counted (prefix_len-le-length is_name_byte following) in
     let bounded : 1 + prefix_len is_name_byte following ≤ 64 = rw (← counted) (omega (arith, front_length bytes following text b m e within t, short)) in
     rw (e, counted) (token_piece b following _ (symbols.Name text) (prefix_len-le-length is_name_byte following)
-    (as_word b following text None letter (rw (← counted) (t ∙ front_is bytes following b m e)) place) (word_is_longest b following letter) (letter_no_comment b following letter) bounded)
+    (as_word b following text None letter (rw (← counted) (t ∙ front_is bytes following b m e)) place) (word_is_longest b following letter)
+        (letter_no_comment b following letter) bounded)
 
 -- a longer name
-pub name_flaw : (bytes following text : List ℕ) (b m : ℕ) → bytes ≡ b ∷ following → is_letter b ≡ true → m ≡ prefix_len is_name_byte following → text ≡ take (1 + m) bytes
+pub name_flaw : (bytes following text : List ℕ) (b m : ℕ) → bytes ≡ b ∷ following → is_letter b ≡ true → m ≡ prefix_len is_name_byte following
+    → text ≡ take (1 + m) bytes
     → word_place text ≡ None → 64 < length text → IsFlaw bytes flaws.NameTooLong
 name_flaw bytes following text b m e letter counted t place long =
     rw e (NameIsLong text (begins_with b following _ (symbols.Name text)
-    (as_word b following text None letter (rw (← counted) (t ∙ front_is bytes following b m e)) place) (word_is_longest b following letter) (letter_no_comment b following letter)) long)
+    (as_word b following text None letter (rw (← counted) (t ∙ front_is bytes following b m e)) place) (word_is_longest b following letter)
+        (letter_no_comment b following letter)) long)
 
 -- ---- numbers
 
 -- the digits with which the bytes begin are this number
-number_as : (bytes following text : List ℕ) (b m : ℕ) → bytes ≡ b ∷ following → is_letter b ≡ false → is_digit b ≡ true → m ≡ prefix_len is_digit following → text ≡ take (1 + m) bytes
+number_as : (bytes following text : List ℕ) (b m : ℕ) → bytes ≡ b ∷ following → is_letter b ≡ false → is_digit b ≡ true
+    → m ≡ prefix_len is_digit following → text ≡ take (1 + m) bytes
     → symbol_of (b ∷ take (prefix_len is_digit following) following) ≡ Some (symbols.Number (pos (number_of text)))
 number_as bytes following text b m e letter digit counted t =
-    number_is b following letter digit ∙ rw (← (let s : text ≡ b ∷ take (prefix_len is_digit following) following = rw (← counted) (t ∙ front_is bytes following b m e) in s)) refl
+    number_is b following letter digit ∙ rw (← (let s : text ≡ b ∷ take (prefix_len is_digit following) following = rw (← counted)
+        (t ∙ front_is bytes following b m e) in s)) refl
 
 -- a number that is an `i64`
-pub number_piece : (bytes following text : List ℕ) (b m : ℕ) (v : ℤ) → bytes ≡ b ∷ following → is_letter b ≡ false → is_digit b ≡ true → m ≡ prefix_len is_digit following
+pub number_piece : (bytes following text : List ℕ) (b m : ℕ) (v : ℤ) → bytes ≡ b ∷ following → is_letter b ≡ false → is_digit b ≡ true
+    → m ≡ prefix_len is_digit following
     → text ≡ take (1 + m) bytes → v ≡ pos (number_of text) → v ≤ℤ pos (2 ^ 63 - 1) → IsPiece bytes (pieces.Taken (kinds.Number v) (1 + m))
 number_piece bytes following text b m v e letter digit counted t value fits =
     rw (e, counted) (token_piece b following _ (symbols.Number v) (prefix_len-le-length is_digit following)
-    (rw value (number_as bytes following text b m e letter digit counted t)) (number_is_longest b following letter digit) (digit_no_comment b following digit) fits)
+    (rw value (number_as bytes following text b m e letter digit counted t)) (number_is_longest b following letter digit)
+        (digit_no_comment b following digit) fits)
 
 -- a wider number
-pub number_flaw : (bytes following text : List ℕ) (b m : ℕ) → bytes ≡ b ∷ following → is_letter b ≡ false → is_digit b ≡ true → m ≡ prefix_len is_digit following
+pub number_flaw : (bytes following text : List ℕ) (b m : ℕ) → bytes ≡ b ∷ following → is_letter b ≡ false → is_digit b ≡ true
+    → m ≡ prefix_len is_digit following
     → text ≡ take (1 + m) bytes → 2 ^ 63 ≤ number_of text → IsFlaw bytes flaws.TooWide
 number_flaw bytes following text b m e letter digit counted t wide =
     rw e (NumberIsWide (number_of text) (begins_with b following _ (symbols.Number (pos (number_of text)))

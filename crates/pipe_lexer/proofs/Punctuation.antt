@@ -57,7 +57,8 @@ front_is_punctuation bytes (b ∷ text) rest first s begins e t =
     sym (as_punctuation b text (rw same at begins.no_letter) (rw same at begins.no_digit)) ∙ t
 
 -- and each prefix that is punctuation is a symbol
-punctuation_at_front : (bytes text rest : List ℕ) (first : ℕ) (s : Symbol) → BeginsPunctuation first bytes → bytes ≡ text ++ rest → text ≢ [] → punctuation_symbol text ≡ Some s
+punctuation_at_front : (bytes text rest : List ℕ) (first : ℕ) (s : Symbol) → BeginsPunctuation first bytes → bytes ≡ text ++ rest → text ≢ []
+    → punctuation_symbol text ≡ Some s
     → symbol_of text ≡ Some s
 punctuation_at_front bytes [] rest first s begins e some t = absurd (some refl)
 punctuation_at_front bytes (b ∷ text) rest first s begins e some t =
@@ -89,10 +90,12 @@ no_front rows bytes row h among front = All-contains (λ other. StartsWith (text
 -- the text of an operator of the table is not empty
 operator_is_some : (row : OpRow) → Contains OPS.rows row → text_of row ≢ []
 operator_is_some row among e =
-    let here : punctuation_symbol [] ≡ Some (symbols.Operator row.code) = rw e at (row_symbol row among) in let none : None ≡ Some (symbols.Operator row.code) = here in cc (none)
+    let here : punctuation_symbol [] ≡ Some (symbols.Operator row.code) = rw e at (row_symbol row among) in
+        let none : None ≡ Some (symbols.Operator row.code) = here in cc (none)
 
 -- and no longer prefix is a symbol
-operator_is_longest : (bytes : List ℕ) (first code : ℕ) → BeginsPunctuation first bytes → (h : HasLongest OPS.rows bytes code) → IsLongest (text_of h.row) h.longest.front.0
+operator_is_longest : (bytes : List ℕ) (first code : ℕ) → BeginsPunctuation first bytes → (h : HasLongest OPS.rows bytes code)
+    → IsLongest (text_of h.row) h.longest.front.0
 operator_is_longest bytes first code begins h = record { longest = no_longer }
   where
     no_longer : (more after : List ℕ) (s : Symbol) → h.longest.front.0 ≡ more ++ after → more ≢ [] → symbol_of (text_of h.row ++ more) ≡ Some s → ⊥
@@ -118,7 +121,8 @@ operator_piece bytes first code begins h =
     let among = h.longest.among in
     let parts : bytes ≡ text ++ rest = h.longest.front.1 in
     let some : text ≢ [] = operator_is_some h.row among in
-    let n : operator_length code ≡ length text = ap operator_length (sym h.same) ∙ at_row (λ row. operator_length row.code) (λ row. length (text_of row)) h.row refl among in
+    let n : operator_length code ≡ length text = ap operator_length (sym h.same)
+        ∙ at_row (λ row. operator_length row.code) (λ row. length (text_of row)) h.row refl among in
     let front : take (operator_length code) bytes ≡ text = ap (λ x. take x bytes) n ∙ ap (λ x. take (length text) x) parts ∙ take-append_seam text rest in
     let following : drop (operator_length code) bytes ≡ rest = ap (λ x. drop x bytes) n ∙ ap (λ x. drop (length text) x) parts ∙ drop-append_seam text rest in
     let symbol : symbol_of text ≡ Some (symbols.Operator code) =
@@ -131,7 +135,8 @@ operator_piece bytes first code begins h =
 -- ---- signs
 
 -- if the bytes begin with no operator, each prefix that is a symbol is a sign
-only_sign : (bytes text rest : List ℕ) (first : ℕ) (s : Symbol) → BeginsPunctuation first bytes → HasNoSymbol OPS.rows bytes → bytes ≡ text ++ rest → symbol_of text ≡ Some s
+only_sign : (bytes text rest : List ℕ) (first : ℕ) (s : Symbol) → BeginsPunctuation first bytes → HasNoSymbol OPS.rows bytes
+    → bytes ≡ text ++ rest → symbol_of text ≡ Some s
     → (text ≡ first ∷ []) × (is_sign first ≡ true)
 only_sign bytes text rest first s begins none e t = elim (punctuation_is text s (front_is_punctuation bytes text rest first s begins e t)) [
   | inl o ↦ absurd (no_front OPS.rows bytes o.1.row none o.1.among (rest, rw o.1.same_text e))
@@ -147,8 +152,10 @@ sign_symbol : (bytes : List ℕ) (first : ℕ) → BeginsPunctuation first bytes
 sign_symbol bytes first begins none sign =
     as_punctuation first [] begins.no_letter begins.no_digit ∙ by_place (position (λ operator. bytes_eq operator (first ∷ [])) operators) refl
   where
-    by_place : (o : Option ℕ) → position (λ operator. bytes_eq operator (first ∷ [])) operators ≡ o → operator_or_sign o (first ∷ []) ≡ Some (symbols.Sign first)
-    by_place (Some k) h = absurd (let r = operator_row (first ∷ []) k h in no_front OPS.rows bytes r.row none r.among (begins.following, rw r.same_text begins.parts))
+    by_place : (o : Option ℕ) → position (λ operator. bytes_eq operator (first ∷ [])) operators ≡ o
+        → operator_or_sign o (first ∷ []) ≡ Some (symbols.Sign first)
+    by_place (Some k) h = absurd (let r = operator_row (first ∷ []) k h in
+        no_front OPS.rows bytes r.row none r.among (begins.following, rw r.same_text begins.parts))
     by_place None h = rw sign refl
 
 -- a sign is the token with which the bytes begin if no operator is
@@ -161,7 +168,8 @@ sign_piece bytes first begins none sign =
       symbol = sign_symbol bytes first begins none sign;
       longest = record {
         longest = λ more after s e some t.
-            let only = only_sign bytes ((first ∷ []) ++ more) after first s begins none (longer_front bytes (first ∷ []) begins.following more after begins.parts e) t in
+            let only = only_sign bytes ((first ∷ []) ++ more) after first s begins none
+                (longer_front bytes (first ∷ []) begins.following more after begins.parts e) t in
             omega (arith, ap length only.0, some_more more some);
       };
       no_comment = ap begins_comment (sym begins.parts) ∙ begins.no_comment;
@@ -169,7 +177,8 @@ sign_piece bytes first begins none sign =
     AToken (symbols.Sign first) 1 (omega arith) (omega (arith, ap length begins.parts)) (rw (front, following) token) tt
 
 -- otherwise no token begins there
-pub nothing_stands : (bytes : List ℕ) (first : ℕ) → BeginsPunctuation first bytes → HasNoSymbol OPS.rows bytes → is_sign first ≡ false → IsFlaw bytes flaws.BadByte
+pub nothing_stands : (bytes : List ℕ) (first : ℕ) → BeginsPunctuation first bytes → HasNoSymbol OPS.rows bytes → is_sign first ≡ false
+    → IsFlaw bytes flaws.BadByte
 nothing_stands bytes first begins none sign = NothingStands (rw begins.parts (
   begins.no_blank,
   rw begins.parts at begins.no_comment,

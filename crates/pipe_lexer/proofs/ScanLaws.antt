@@ -40,7 +40,8 @@ scans_past {bytes} place others end (AComment n some within h) d =
     subst (λ x. Scans place x others end) (take-append-drop n bytes) (Comment (take n bytes) h (rw n_is d))
 scans_past {bytes} place others end (AToken s n some within t w) d =
     let n_is : length (take n bytes) ≡ n = length-take-le n bytes within in
-    let token : token_at place (take n bytes) s ≡ record { kind = kind_of s; place = place; length = n } = ap (λ x. record { kind = kind_of s; place = place; length = x }) n_is in
+    let token : token_at place (take n bytes) s ≡ record { kind = kind_of s; place = place; length = n } =
+        ap (λ x. record { kind = kind_of s; place = place; length = x }) n_is in
     subst (λ x. Scans place x (record { kind = kind_of s; place = place; length = n } ∷ others) end) (take-append-drop n bytes)
     (rw (← token) (Taken {place = place} {bytes = drop n bytes} {rest = end} {tokens = others} (take n bytes) s t (rw n_is d)))
 
@@ -62,7 +63,8 @@ past_piece source found rest piece place r p e =
       place = r.place + n;
       within = omega (arith, r.within, length-drop n rest, (piece_within p).1);
       here = sym (drop-drop n r.place source) ∙ ap (λ x. drop n x) r.here;
-      keeps = λ others end d. rw (append_assoc found (tokens_of piece r.place) others) (r.keeps (tokens_of piece r.place ++ others) end (scans_past r.place others end p d));
+      keeps = λ others end d. rw (append_assoc found (tokens_of piece r.place) others)
+          (r.keeps (tokens_of piece r.place ++ others) end (scans_past r.place others end p d));
       bounded = piece_bounded r.place found p r.bounded;
     })
 

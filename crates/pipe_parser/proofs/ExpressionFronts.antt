@@ -23,12 +23,14 @@ fault_after wants others ts us h (faults.TooLong left) x = x
 fault_after wants others ts us h (faults.Unexpected left) x = record { stuck = λ below. h below ∙ x.stuck below }
 
 -- a fault of what may follow an expression of a level
-pub fault_chained : (level : ℕ) (a : Expression) (ts mid : List Symbol) → 1 ≤ level → Reads level ts a mid → (f : SyntaxFault) → ExpressionStops (Tail ∷ []) mid f
+pub fault_chained : (level : ℕ) (a : Expression) (ts mid : List Symbol) → 1 ≤ level → Reads level ts a mid → (f : SyntaxFault)
+    → ExpressionStops (Tail ∷ []) mid f
     → ExpressionStops whole ts f
 fault_chained level a ts mid l r = fault_after whole (Tail ∷ []) ts mid (λ below. passes level r l below)
 
 -- a fault of the sign that closes an expression
-pub fault_closed : (sign : ℕ) (e : Expression) (ts mid : List Symbol) → Reads any_expression ts e mid → (f : SyntaxFault) → ExpressionStops (Sign sign ∷ []) mid f
+pub fault_closed : (sign : ℕ) (e : Expression) (ts mid : List Symbol) → Reads any_expression ts e mid → (f : SyntaxFault)
+    → ExpressionStops (Sign sign ∷ []) mid f
     → ExpressionStops (closed sign) ts f
 fault_closed sign e ts mid r = fault_after (closed sign) (Sign sign ∷ []) ts mid (λ below. passes_expression r (Sign sign ∷ below))
 
@@ -41,7 +43,8 @@ pub joins : (level code : ℕ) (a b e : Expression) (ts following mid rest : Lis
 joins level code a b e ts following mid rest h i r g = rw h (Joins code i r g)
 
 -- the machine passes them
-pub passes_join : (level code : ℕ) (b : Expression) (ts following mid : List Symbol) → 1 ≤ level → ts ≡ symbols.Operator code ∷ following → level_of code ≡ level
+pub passes_join : (level code : ℕ) (b : Expression) (ts following mid : List Symbol) → 1 ≤ level → ts ≡ symbols.Operator code ∷ following
+    → level_of code ≡ level
     → Reads (suc level) following b mid → (below : List Want) → ending ts (Tail ∷ below) ≡ ending mid (Tail ∷ below)
 passes_join level code b ts following mid l h i r below =
     ap (λ x. ending x (Tail ∷ below)) h ∙ tail_joins code following below (is_op code level i l) ∙ passes (suc level) r (omega (arith, l)) below

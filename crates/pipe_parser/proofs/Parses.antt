@@ -43,7 +43,8 @@ at_place {ts} {rule} h f = subst (FirstFault ts rule) h f
 
 -- ---- symbols that never open too many brackets
 -- what the machine does not expect, a symbol or the end, is the first fault
-pub shallow_unexpected : (ts : List Symbol) (n : ℕ) → judge 256 ts (Outside program) ≡ Unexpected n → IsShallow ts → FirstFault ts spelling.Unexpected (length ts - n)
+pub shallow_unexpected : (ts : List Symbol) (n : ℕ) → judge 256 ts (Outside program) ≡ Unexpected n → IsShallow ts
+    → FirstFault ts spelling.Unexpected (length ts - n)
 shallow_unexpected ts n v h = by_left n refl
   where
     by_left : (m : ℕ) → n ≡ m → FirstFault ts spelling.Unexpected (length ts - n)

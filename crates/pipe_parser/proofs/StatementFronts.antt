@@ -72,7 +72,8 @@ pub fault_full : (others : List Want) (e : Expression) (ts mid : List Symbol) �
 fault_full others e ts mid r = fault_after (FullExpression ∷ others) others ts mid (λ below. passes_full r (others ++ below))
 
 -- a fault of the sign after an index
-pub fault_index : (index : Expression) (ts mid : List Symbol) → ReadsFull 256 ts index (symbols.Sign 93 ∷ mid) → (f : SyntaxFault) → SyntaxStops (Sign 61 ∷ []) mid f
+pub fault_index : (index : Expression) (ts mid : List Symbol) → ReadsFull 256 ts index (symbols.Sign 93 ∷ mid) → (f : SyntaxFault)
+    → SyntaxStops (Sign 61 ∷ []) mid f
     → SyntaxStops element ts f
 fault_index index ts mid r f x =
     fault_after element (Sign 61 ∷ FullExpression ∷ Sign 59 ∷ []) ts mid (λ below. passes_full r (Sign 93 ∷ Sign 61 ∷ FullExpression ∷ Sign 59 ∷ below)) f
@@ -128,7 +129,8 @@ fault_else e a ts mid following t b =
 
 -- ---- readings
 -- a `let`
-pub let_read : (name : List ℕ) (e : Expression) (ts following inside rest : List Symbol) → ts ≡ symbols.Name name ∷ following → following ≡ symbols.Sign 61 ∷ inside
+pub let_read : (name : List ℕ) (e : Expression) (ts following inside rest : List Symbol) → ts ≡ symbols.Name name ∷ following
+    → following ≡ symbols.Sign 61 ∷ inside
     → ReadsFull 256 inside e (symbols.Sign 59 ∷ rest)
     → ReadsStatement 256 (symbols.Word 12 ∷ ts) (Let name e) rest
 let_read name e ts following inside rest h i r = rw (h, i) (ReadsLet name r)

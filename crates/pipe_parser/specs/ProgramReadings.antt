@@ -19,7 +19,8 @@ limit word sign = Word word ∷ AnyNumber ∷ Sign sign ∷ []
 -- the line of limits
 abbrev pub limits : List Want
 limits =
-    Word words.LIMITS ∷ Word words.ITERATIONS ∷ AnyNumber ∷ Sign signs.COMMA ∷ Word words.STAGES ∷ AnyNumber ∷ Sign signs.COMMA ∷ Word words.STEPS ∷ AnyNumber ∷ Sign signs.COMMA ∷ Word words.EMITS ∷ AnyNumber ∷ Sign signs.SEMICOLON ∷ []
+    Word words.LIMITS ∷ Word words.ITERATIONS ∷ AnyNumber ∷ Sign signs.COMMA ∷ Word words.STAGES ∷ AnyNumber ∷ Sign signs.COMMA ∷ Word
+        words.STEPS ∷ AnyNumber ∷ Sign signs.COMMA ∷ Word words.EMITS ∷ AnyNumber ∷ Sign signs.SEMICOLON ∷ []
 
 -- the declaration of a cell, after its word
 abbrev pub cell : List Want
@@ -27,7 +28,8 @@ cell = AnyName ∷ Size ∷ Sign signs.EQUALS ∷ Value ∷ Sign signs.SEMICOLON
 
 -- the loop: its word, its test and its body
 abbrev pub loop : List Want
-loop = Word words.PIPE_WHILE ∷ Sign signs.OPEN_ROUND ∷ FullExpression ∷ Sign signs.CLOSE_ROUND ∷ Sign signs.OPEN_BRACE ∷ Statements ∷ Sign signs.CLOSE_BRACE ∷ []
+loop = Word words.PIPE_WHILE ∷ Sign signs.OPEN_ROUND ∷ FullExpression ∷ Sign signs.CLOSE_ROUND ∷ Sign signs.OPEN_BRACE ∷ Statements ∷ Sign
+    signs.CLOSE_BRACE ∷ []
 
 -- the symbols begin with the line of limits
 abbrev pub HasLimits : List Symbol → Limits → List Symbol → Type 0

@@ -61,7 +61,8 @@ fn read_let<'a>(alloc: Global, symbols: &Symbols<'a>) -> Read<'a, Stmt>
 
 // Reads an assignment to an element, after its opening bracket.
 fn read_element<'a>(alloc: Global, name: &[u8], symbols: &Symbols<'a>) -> Read<'a, Stmt>
-    ensures ok { IfOk result (λ r. ReadsStatement bounds.LONGEST_EXPRESSION (terminals.Name name.now ∷ terminals.Sign signs.OPEN_SQUARE ∷ symbols.now) (statement_of r.0) r.1) }
+    ensures ok { IfOk result (λ r. ReadsStatement bounds.LONGEST_EXPRESSION
+        (terminals.Name name.now ∷ terminals.Sign signs.OPEN_SQUARE ∷ symbols.now) (statement_of r.0) r.1) }
     ensures err { IfErr result (λ fault. SyntaxStops element symbols.now fault) }
     ensures shorter { IfOk result (λ r. length r.1 < length symbols.now) }
 {

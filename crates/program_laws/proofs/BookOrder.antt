@@ -115,7 +115,8 @@ module _ (bs : List BookEntry) (b : BookEntry) where
   end_is i k t e = subst (λ l. ticket_at l k ≡ Some t) (end_tickets-append i bs (b ∷ [])) e
 
   -- an instance that has ended has a smaller ticket than the last entry
-  ended_first : ((x : BookEntry) → Among x bs → x.ticket < b.ticket) → (i k : ℕ) → k < length (end_tickets i bs) → (t : ℕ) × (end_ticket_of (bs ++ b ∷ []) i k ≡ Some t) × (t < b.ticket)
+  ended_first : ((x : BookEntry) → Among x bs → x.ticket < b.ticket) → (i k : ℕ) → k < length (end_tickets i bs)
+      → (t : ℕ) × (end_ticket_of (bs ++ b ∷ []) i k ≡ Some t) × (t < b.ticket)
   ended_first last i k l =
       let h = ticket_left (end_tickets i bs) (end_tickets i (b ∷ [])) k l in
       let m = end_has i bs h.0 h.2 in
@@ -123,7 +124,8 @@ module _ (bs : List BookEntry) (b : BookEntry) where
       let e = m.is in
       (h.0, subst (λ l. ticket_at l k ≡ Some h.0) (sym (end_tickets-append i bs (b ∷ []))) h.1, omega (arith, w, e))
 
-  started_first : ((x : BookEntry) → Among x bs → x.ticket < b.ticket) → (i k : ℕ) → k < length (start_tickets i bs) → (t : ℕ) × (start_ticket_of (bs ++ b ∷ []) i k ≡ Some t) × (t < b.ticket)
+  started_first : ((x : BookEntry) → Among x bs → x.ticket < b.ticket) → (i k : ℕ) → k < length (start_tickets i bs)
+      → (t : ℕ) × (start_ticket_of (bs ++ b ∷ []) i k ≡ Some t) × (t < b.ticket)
   started_first last i k l =
       let h = ticket_left (start_tickets i bs) (start_tickets i (b ∷ [])) k l in
       let m = start_has i bs h.0 h.2 in
@@ -132,7 +134,8 @@ module _ (bs : List BookEntry) (b : BookEntry) where
       (h.0, subst (λ l. ticket_at l k ≡ Some h.0) (sym (start_tickets-append i bs (b ∷ []))) h.1, omega (arith, w, e))
 
   -- an instance that starts with the last entry starts after each instance that had ended
-  starts_last : ((x : BookEntry) → Among x bs → x.ticket < b.ticket) → (h j i k t : ℕ) → start_ticket_of (bs ++ b ∷ []) i k ≡ Some t → t ≡ b.ticket → j < length (end_tickets h bs)
+  starts_last : ((x : BookEntry) → Among x bs → x.ticket < b.ticket) → (h j i k t : ℕ) → start_ticket_of (bs ++ b ∷ []) i k ≡ Some t
+      → t ≡ b.ticket → j < length (end_tickets h bs)
       → StartsAfterEnd (bs ++ b ∷ []) h j i k
   starts_last last h j i k t e new l =
       let r = ended_first last h j l in
@@ -195,7 +198,8 @@ module _ (limit : ℕ) (bs : List BookEntry) (ticket : ℕ) (d : State) (starts 
   entry e = record { ticket = ticket; event = e }
 
   -- an instance that had started keeps its parents
-  old_left : (e : Event) → ((c k : ℕ) → k < length (nodes_at (own_columns d) c) → left_parent (own_columns (next_state d e)) c k ≡ left_parent (own_columns d) c k)
+  old_left : (e : Event) → ((c k : ℕ) → k < length (nodes_at (own_columns d) c)
+      → left_parent (own_columns (next_state d e)) c k ≡ left_parent (own_columns d) c k)
       → (i j k start : ℕ) → left_parent (own_columns (next_state d e)) (suc i) k ≡ Some j → start_ticket_of bs (suc i) k ≡ Some start
       → StartsAfterEnd (bs ++ entry e ∷ []) i j (suc i) k
   old_left e stays i j k start parent is =
@@ -239,7 +243,8 @@ module _ (limit : ℕ) (bs : List BookEntry) (ticket : ℕ) (d : State) (starts 
   starts_one : (e : Event) (j : ℕ) → ((i t : ℕ) → start_ticket i e t ≡ if_ticket (j == i) t) → ((i t : ℕ) → end_ticket i e t ≡ [])
       → ((c k : ℕ) → k < length (nodes_at (own_columns d) c) → left_parent (own_columns (next_state d e)) c k ≡ left_parent (own_columns d) c k)
       → ((k : ℕ) → k + 1 ≡ started_in (frame_at d.frames j) → k < ended_in (frame_at d.frames j))
-      → ((i h : ℕ) → j ≡ suc i → left_parent (own_columns (next_state d e)) (suc i) (started_in (frame_at d.frames (suc i))) ≡ Some h → h < ended_in (frame_at d.frames i))
+      → ((i h : ℕ) → j ≡ suc i → left_parent (own_columns (next_state d e)) (suc i) (started_in (frame_at d.frames (suc i))) ≡ Some h
+      → h < ended_in (frame_at d.frames i))
       → OrdersInstances (bs ++ entry e ∷ []) (next_state d e)
   starts_one e j starts_is no_end stays above left_of = record {
     from_start_to_end = λ i k end q. (
@@ -272,7 +277,8 @@ module _ (limit : ℕ) (bs : List BookEntry) (ticket : ℕ) (d : State) (starts 
     ];
   }
     where
-      split : (i k start : ℕ) → start_ticket_of (bs ++ entry e ∷ []) i k ≡ Some start → ticket_at (start_tickets i bs ++ (if_ticket (j == i) ticket ++ [])) k ≡ Some start
+      split : (i k start : ℕ) → start_ticket_of (bs ++ entry e ∷ []) i k ≡ Some start
+          → ticket_at (start_tickets i bs ++ (if_ticket (j == i) ticket ++ [])) k ≡ Some start
       split i k start q =
           subst (λ l. ticket_at (start_tickets i bs ++ (l ++ [])) k ≡ Some start) (starts_is i ticket) (start_is bs (entry e) i k start q)
 
@@ -329,7 +335,8 @@ module _ (limit : ℕ) (bs : List BookEntry) (ticket : ℕ) (d : State) (starts 
       let apart : i ≢ j = λ e. omega (arith, e, here) in
       let left : nodes_at columns i ≡ g.0.nodes = nodes_at_other d.frames j i u apart ∙ nodes_at_frame d.frames i g.0 g.1 in
       let found : last_up_to g.0.nodes may.number ≡ Some h =
-      ap (λ (x : Node). last_up_to g.0.nodes x.number) (sym new) ∙ ap (λ ns. last_up_to ns (node_at (nodes_at columns (i + 1)) (suc m)).number) (sym left) ∙ w.1 in
+      ap (λ (x : Node). last_up_to g.0.nodes x.number) (sym new)
+          ∙ ap (λ ns. last_up_to ns (node_at (nodes_at columns (i + 1)) (suc m)).number) (sym left) ∙ w.1 in
       let it = (last_up_to_found g.0.nodes may.number).some h found in
       let passed : LeftHasPassed d.frames (suc i) may.number = subst (λ n. LeftHasPassed d.frames n may.number) here (may.free kind) in
       subst (λ o. h < ended_in o) (sym g.1) (passed_ended g.0.status g.0.nodes may.number h (passed g.0 g.1) it)
@@ -344,11 +351,13 @@ module _ (limit : ℕ) (bs : List BookEntry) (ticket : ℕ) (d : State) (starts 
       (begin_left j may)
   step (Access j a) free may = absurd (cc)
   step (Advance j k n) free may =
-      ends_one (Advance j k n) j may.running.frame may.running.is may.running.runs (λ i t. refl) (λ i t. refl) (columns-action d.frames j (Staged k n) (Pending k n))
+      ends_one (Advance j k n) j may.running.frame may.running.is may.running.runs (λ i t. refl) (λ i t. refl)
+          (columns-action d.frames j (Staged k n) (Pending k n))
   step (Enter j) free may =
       starts_one (Enter j) j (λ i t. refl) (λ i t. refl) (grew_enter d j starts may sound).lefts
       (λ k full. (
-      let ended : ended_in (frame_at d.frames j) ≡ length may.frame.nodes = ap ended_in may.is ∙ ap (λ w. ended_by_status w (length may.frame.nodes)) may.named in
+      let ended : ended_in (frame_at d.frames j) ≡ length may.frame.nodes = ap ended_in may.is
+          ∙ ap (λ w. ended_by_status w (length may.frame.nodes)) may.named in
       let all : started_in (frame_at d.frames j) ≡ length may.frame.nodes = ap started_in may.is in
       omega (arith, full, ended, all)))
       (enter_left j may)
@@ -364,7 +373,8 @@ record IsOrdered (book : List BookEntry) (c : State) : Type 0 where
   sound : IsStartSound c.frames starts
   ordered : OrdersInstances book c
 
-ordered_book : {limit : ℕ} {es : List Event} {c : State} → ControlRun limit es c → (book : List BookEntry) → map (λ b. b.event) book ≡ es → Rise book → IsOrdered book c
+ordered_book : {limit : ℕ} {es : List Event} {c : State} → ControlRun limit es c → (book : List BookEntry) → map (λ b. b.event) book ≡ es
+    → Rise book → IsOrdered book c
 ordered_book EmptyControlRun [] same rise = record {
   starts = [];
   sound = record {
@@ -399,7 +409,8 @@ ordered_book {limit} (ControlRunThen {events = es} {c = d} r e free going h) boo
         record {
           starts = k.starts ++ started_by d e;
           sound = sound_step limit d e k.starts h k.sound;
-          ordered = subst (λ x. OrdersInstances (bs ++ (let y : BookEntry = record { ticket = b.ticket; event = x } in y) ∷ []) (next_state d e)) both.1 ordered;
+          ordered = subst (λ x. OrdersInstances (bs ++ (let y : BookEntry = record { ticket = b.ticket; event = x } in y) ∷ []) (next_state d e))
+              both.1 ordered;
         }
 
 pub books_order_instances : BooksOrderInstances

@@ -46,7 +46,8 @@ frugal_more (FrugalSet c v s) zero le = absurd (omega (arith, le))
 frugal_more (FrugalSet c v s) (suc more) le = FrugalSet c v (frugal_more s more (omega (arith, le)))
 
 -- one tree after another, if the second makes no access before its first step
-frugal-bind : {A B : Type 0} {credit : ℕ} {d : Interaction A} {f : A → Interaction B} → IsFrugal credit d → ((a : A) → IsFrugal 0 (f a)) → IsFrugal credit (bind d f)
+frugal-bind : {A B : Type 0} {credit : ℕ} {d : Interaction A} {f : A → Interaction B} → IsFrugal credit d → ((a : A) → IsFrugal 0 (f a))
+    → IsFrugal credit (bind d f)
 frugal-bind (FrugalReturn {credit} a) h = frugal_more (h a) credit (omega arith)
 frugal-bind (FrugalRaise t) h = FrugalRaise t
 frugal-bind (FrugalStep s) h = FrugalStep (frugal-bind s h)
@@ -77,18 +78,21 @@ frugal-operate credit code a b =
     (frugal_if (code == 13) _ _ (frugal-divided credit a b (int_rem a b)) (FrugalReturn _)))))))))))
 
 frugal-operate_one : (credit code : ℕ) (a : ℤ) → IsFrugal credit (operate_one code a)
-frugal-operate_one credit code a = frugal_if (code == 1) _ _ (frugal-fitting credit (neg_ℤ a)) (frugal_if (code == 2) _ _ (FrugalReturn (if_zero a (pos 1) (pos 0))) (FrugalReturn _))
+frugal-operate_one credit code a = frugal_if (code == 1) _ _ (frugal-fitting credit (neg_ℤ a))
+    (frugal_if (code == 2) _ _ (FrugalReturn (if_zero a (pos 1) (pos 0))) (FrugalReturn _))
 
 frugal-named_value : (o : Option ℤ) (range : Option CellRange) → IsFrugal 2 (named_value o range)
 frugal-named_value (Some v) range = FrugalReturn v
 frugal-named_value None (Some range) = FrugalGet _ (λ v. FrugalReturn v)
 frugal-named_value None None = FrugalRaise _
 
-frugal-in : {B : Type 0} (credit : ℕ) (b : Bool) (c : ℕ) (t : Trap) (f : ℕ → Interaction B) → ((cell : ℕ) → IsFrugal credit (f cell)) → IsFrugal credit (bind (if b then Return c else Raise t) f)
+frugal-in : {B : Type 0} (credit : ℕ) (b : Bool) (c : ℕ) (t : Trap) (f : ℕ → Interaction B) → ((cell : ℕ) → IsFrugal credit (f cell))
+    → IsFrugal credit (bind (if b then Return c else Raise t) f)
 frugal-in credit true c t f h = h c
 frugal-in credit false c t f h = FrugalRaise t
 
-frugal-element_of : {B : Type 0} (credit : ℕ) (range : Option CellRange) (i : ℤ) (f : ℕ → Interaction B) → ((cell : ℕ) → IsFrugal credit (f cell)) → IsFrugal credit (bind (element_of range i) f)
+frugal-element_of : {B : Type 0} (credit : ℕ) (range : Option CellRange) (i : ℤ) (f : ℕ → Interaction B)
+    → ((cell : ℕ) → IsFrugal credit (f cell)) → IsFrugal credit (bind (element_of range i) f)
 frugal-element_of credit None i f h = FrugalRaise _
 frugal-element_of credit (Some range) (pos i) f h = frugal-in credit (nat_lt i range.size) (range.first + i) traps.Index f h
 frugal-element_of credit (Some range) (negsuc i) f h = FrugalRaise _
@@ -101,11 +105,14 @@ pub frugal-evaluate : (setting : Setting) (locals : List Local) (e : Expression)
 frugal-evaluate setting locals (Number n) = FrugalStep (FrugalReturn n)
 frugal-evaluate setting locals (Name x) = FrugalStep (frugal-named_value (local_value locals x) (setting.cells x))
 frugal-evaluate setting locals (Element x i) =
-    frugal-bind (frugal-evaluate setting locals i) (λ v. FrugalStep (frugal-element_of 2 (setting.cells x) v (λ c. Get c Return) (λ c. FrugalGet c (λ r. FrugalReturn r))))
+    frugal-bind (frugal-evaluate setting locals i) (λ v. FrugalStep
+        (frugal-element_of 2 (setting.cells x) v (λ c. Get c Return) (λ c. FrugalGet c (λ r. FrugalReturn r))))
 frugal-evaluate setting locals (And a b) =
-    frugal-bind (frugal-evaluate setting locals a) (λ x. FrugalStep (frugal_by_zero x _ _ (FrugalReturn _) (frugal_more (frugal-bind (frugal-evaluate setting locals b) (λ y. FrugalReturn _)) 2 (omega arith))))
+    frugal-bind (frugal-evaluate setting locals a) (λ x. FrugalStep
+        (frugal_by_zero x _ _ (FrugalReturn _) (frugal_more (frugal-bind (frugal-evaluate setting locals b) (λ y. FrugalReturn _)) 2 (omega arith))))
 frugal-evaluate setting locals (Or a b) =
-    frugal-bind (frugal-evaluate setting locals a) (λ x. FrugalStep (frugal_by_zero x _ _ (frugal_more (frugal-bind (frugal-evaluate setting locals b) (λ y. FrugalReturn _)) 2 (omega arith)) (FrugalReturn _)))
+    frugal-bind (frugal-evaluate setting locals a) (λ x. FrugalStep
+        (frugal_by_zero x _ _ (frugal_more (frugal-bind (frugal-evaluate setting locals b) (λ y. FrugalReturn _)) 2 (omega arith)) (FrugalReturn _)))
 frugal-evaluate setting locals (Binary code a b) =
     frugal-bind (frugal-evaluate setting locals a) (λ x. frugal-bind (frugal-evaluate setting locals b) (λ y. FrugalStep (frugal-operate 2 code x y)))
 frugal-evaluate setting locals (Unary code a) = frugal-bind (frugal-evaluate setting locals a) (λ x. FrugalStep (frugal-operate_one 2 code x))
@@ -124,7 +131,8 @@ pub data IsBounded {A : Type 0} (P : ℕ → A → Type 0) : ℕ → ℕ → Int
   BoundSet : {credit room : ℕ} {d : Interaction A} (c : ℕ) (v : ℤ) → IsBounded P credit room d → IsBounded P (suc credit) room (Set c v d)
   BoundStage : {credit room : ℕ} {d : Interaction A} (k : Kind) (n : ℤ) → IsBounded P 0 room d → IsBounded P credit (suc room) (Stage k n d)
 
-bounded_more : {A : Type 0} {P : ℕ → A → Type 0} {credit room : ℕ} {d : Interaction A} → IsBounded P credit room d → (more : ℕ) → credit ≤ more → IsBounded P more room d
+bounded_more : {A : Type 0} {P : ℕ → A → Type 0} {credit room : ℕ} {d : Interaction A} → IsBounded P credit room d → (more : ℕ) → credit ≤ more
+    → IsBounded P more room d
 bounded_more (BoundReturn p) more le = BoundReturn p
 bounded_more (BoundRaise t) more le = BoundRaise t
 bounded_more (BoundStep s) more le = BoundStep s
@@ -206,36 +214,43 @@ bounded-turns : (stages turns : ℕ) (test : Environment → Interaction ℤ) (b
 bounded-turns stages zero test body env room frugal bounded has = BoundRaise _
 bounded-turns stages (suc turns) test body env room frugal bounded has =
     frugal-then room (frugal env) (λ v. BoundStep (bounded_by_zero v (BoundReturn has)
-    (bounded_more (bounded-bind (bounded env room has) (λ r after has2. bounded-turns stages turns test body (leave_block env after) r frugal bounded has2)) 2 (omega arith))))
+    (bounded_more (bounded-bind (bounded env room has) (λ r after has2. bounded-turns stages turns test body (leave_block env after) r frugal
+        bounded has2)) 2 (omega arith))))
 
 mutual
   pub bounded-execute : (setting : Setting) (s : Statement) (env : Environment) (room : ℕ) → setting.world.stages ≤ env.stage.count + room
       → IsBounded (FitsIn setting.world.stages) 0 room (execute setting s env)
   bounded-execute setting (Let x e) env room has = frugal-then room (frugal-evaluate setting env.locals e) (λ v. BoundStep (BoundReturn has))
   bounded-execute setting (Assign x e) env room has =
-      frugal-then room (frugal-evaluate setting env.locals e) (λ v. BoundStep (bounded-assign setting.world.stages room env (local_value env.locals x) (setting.cells x) x v has))
+      frugal-then room (frugal-evaluate setting env.locals e) (λ v. BoundStep
+          (bounded-assign setting.world.stages room env (local_value env.locals x) (setting.cells x) x v has))
   bounded-execute setting (AssignElement x i e) env room has =
-      frugal-then room (frugal-evaluate setting env.locals i) (λ j. frugal-then room (frugal-evaluate setting env.locals e) (λ v. BoundStep (bounded-write setting.world.stages room env (setting.cells x) j v has)))
+      frugal-then room (frugal-evaluate setting env.locals i) (λ j. frugal-then room (frugal-evaluate setting env.locals e)
+          (λ v. BoundStep (bounded-write setting.world.stages room env (setting.cells x) j v has)))
   bounded-execute setting (Emit e) env room has =
       frugal-then room (frugal-evaluate setting env.locals e) (λ v. BoundStep (frugal-then room (frugal-emit setting.world.emits v) (λ done. BoundReturn has)))
   bounded-execute setting (If e a b) env room has =
       frugal-then room (frugal-evaluate setting env.locals e) (λ v. BoundStep (bounded-bind
-      (bounded_by_zero v (bounded_more (bounded-execute_all setting b env room has) 2 (omega arith)) (bounded_more (bounded-execute_all setting a env room has) 2 (omega arith)))
+      (bounded_by_zero v (bounded_more (bounded-execute_all setting b env room has) 2 (omega arith))
+          (bounded_more (bounded-execute_all setting a env room has) 2 (omega arith)))
       (λ r after has2. BoundReturn has2)))
   bounded-execute setting (While e a) env room has =
-      bounded-turns setting.world.stages setting.turns (λ now. evaluate setting now.locals e) (execute_all setting a) env room (λ now. frugal-evaluate setting now.locals e)
+      bounded-turns setting.world.stages setting.turns (λ now. evaluate setting now.locals e) (execute_all setting a) env room
+          (λ now. frugal-evaluate setting now.locals e)
       (λ now r has2. bounded-execute_all setting a now r has2) has
   bounded-execute setting (syntax.Stage kind e) env room has =
       frugal-then room (frugal-evaluate setting env.locals e) (λ n. BoundStep (bounded-bind
       (bounded_more (bounded-go_to_stage setting.world.stages room kind env.stage n has) 2 (omega arith)) (λ r stage has2. BoundReturn has2)))
   bounded-execute setting (NextStage kind) env room has =
-      BoundStep (bounded-bind (frugal-then room (frugal-fitting 2 (env.stage.number +ℤ pos 1)) (λ n. bounded-go_to_stage setting.world.stages room kind env.stage n has))
+      BoundStep (bounded-bind (frugal-then room (frugal-fitting 2 (env.stage.number +ℤ pos 1))
+          (λ n. bounded-go_to_stage setting.world.stages room kind env.stage n has))
       (λ r stage has2. BoundReturn has2))
 
   pub bounded-execute_all : (setting : Setting) (ss : Statements) (env : Environment) (room : ℕ) → setting.world.stages ≤ env.stage.count + room
       → IsBounded (FitsIn setting.world.stages) 0 room (execute_all setting ss env)
   bounded-execute_all setting Empty env room has = BoundReturn has
-  bounded-execute_all setting (Then s ss) env room has = bounded-bind (bounded-execute setting s env room has) (λ r after has2. bounded-execute_all setting ss after r has2)
+  bounded-execute_all setting (Then s ss) env room has =
+      bounded-bind (bounded-execute setting s env room has) (λ r after has2. bounded-execute_all setting ss after r has2)
 
 abbrev AnyEnd : ℕ → ColumnEnd → Type 0
 AnyEnd room e = Unit {0}

@@ -94,11 +94,13 @@ without_accesses-push (x ∷ es) e = by_test (is_access x) refl (without_accesse
 control_after_one : (p : Pipeline) (limit : ℕ) (events : List Event) (s : State) (e : Event) → Allowed p limit s e → HasControlRun limit events s
     → (b : Bool) → is_access e ≡ b → HasControlRun limit (events ++ e ∷ []) (next_state s e)
 control_after_one p limit events s (Access i a) h k true t =
-    let log : without_accesses (events ++ Access i a ∷ []) ≡ without_accesses events = without_accesses-push events (Access i a) ∙ append-nil (without_accesses events) in
+    let log : without_accesses (events ++ Access i a ∷ []) ≡ without_accesses events = without_accesses-push events (Access i a)
+        ∙ append-nil (without_accesses events) in
     let state : control_after (events ++ Access i a ∷ []) ≡ control_after events = control_from-push initial_state events (Access i a) in
     record {
       run = rw (log, state) k.run;
-      same = rw state (of_same (next_state s (Access i a)) (control_after events) (access_same s (control_after events) i a (to_same s (control_after events) k.same) h.control));
+      same = rw state (of_same (next_state s (Access i a)) (control_after events)
+          (access_same s (control_after events) i a (to_same s (control_after events) k.same) h.control));
     }
 control_after_one p limit events s (Access i a) h k false t = absurd (cc)
 control_after_one p limit events s (Begin i) h k true t = absurd (cc)

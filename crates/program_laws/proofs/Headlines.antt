@@ -18,7 +18,8 @@ use Rattle.program_laws.specs.ProgramRunLaws.{MeetsElision}
 use Rattle.program_laws.proofs.ProgramElisions.{accepted_programs_meet_the_elision}
 
 -- a report names a race
-named_race : (columns : List (List Node)) (accesses : List NodeAccess) (r : Report) (n : NamesRace columns accesses r) → IsDeterminacyRace columns accesses n.earlier n.later
+named_race : (columns : List (List Node)) (accesses : List NodeAccess) (r : Report) (n : NamesRace columns accesses r)
+    → IsDeterminacyRace columns accesses n.earlier n.later
 named_race columns accesses r n = record {
   first = subst (λ l. Among n.earlier l) (sym n.stands) (among_right n.earlier n.front (n.earlier ∷ (n.between ++ n.later ∷ n.rest)) Here);
   second = subst (λ l. Among n.later l) (sym n.stands) (among_right n.later n.front (n.earlier ∷ (n.between ++ n.later ∷ n.rest))
@@ -32,7 +33,8 @@ no_report : (columns : List (List Node)) (accesses : List NodeAccess) → AreRig
 no_report columns accesses right a b race = let h = right.all a b race in none_among h.0 h.1
 
 -- with a report there is one
-some_report : (columns : List (List Node)) (accesses : List NodeAccess) (r : Report) (rs : List Report) → AreRight columns accesses (r ∷ rs) → IsRaceFree columns accesses → ⊥
+some_report : (columns : List (List Node)) (accesses : List NodeAccess) (r : Report) (rs : List Report) → AreRight columns accesses (r ∷ rs)
+    → IsRaceFree columns accesses → ⊥
 some_report columns accesses r rs right free =
     let n = right.name r Here in
     free n.earlier n.later (named_race columns accesses r n)

@@ -135,7 +135,8 @@ mutual
       straight-bind (straight-evaluate setting env.locals e) (λ v h. Steps (straight-bind
       (either_by_zero Anything v _ _ (straight-execute_all setting b env k.1) (straight-execute_all setting a env k.0)) (λ after h'. Returns tt)))
   straight-execute setting (While e a) env k =
-      straight-turns setting.turns (λ now. evaluate setting now.locals e) (execute_all setting a) env (λ now. straight-evaluate setting now.locals e) (λ now. straight-execute_all setting a now k)
+      straight-turns setting.turns (λ now. evaluate setting now.locals e) (execute_all setting a) env
+          (λ now. straight-evaluate setting now.locals e) (λ now. straight-execute_all setting a now k)
   straight-execute setting (syntax.Stage kind e) env k = absurd k
   straight-execute setting (NextStage kind) env k = absurd k
 
@@ -170,6 +171,7 @@ parts_are_one_instance source tree input a =
     let parts = unbroken_right (marks_of_cells [] tree.cells) (init ++ (test ++ (body ++ last))) all in
     let later = unbroken_right init (test ++ (body ++ last)) parts in
     let end = unbroken_right body last (unbroken_right test (body ++ last) later) in (
-      one_instance tree input tree.init (unbroken_name_none (opening regions.Init tree.cells) tree.init refl (unbroken_left init (test ++ (body ++ last)) parts)),
+      one_instance tree input tree.init (unbroken_name_none (opening regions.Init tree.cells) tree.init refl
+          (unbroken_left init (test ++ (body ++ last)) parts)),
       one_instance tree input tree.last (unbroken_name_none (opening regions.Last tree.cells) tree.last refl end),
     )

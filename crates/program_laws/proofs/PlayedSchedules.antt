@@ -167,6 +167,7 @@ schedules_finish source tree input limit workers choices turns a one busy le =
     let h = schedules_play_runs p limit workers choices turns well one busy in
     elim (cases_lt (length (played p limit workers choices turns)) turns) [
       | inl short ↦ h.ended short
-      | inr long ↦ long_is_finished source tree input limit workers (played p limit workers choices turns) (state_after (played p limit workers choices turns)) a one busy h.run
+      | inr long ↦ long_is_finished source tree input limit workers (played p limit workers choices turns)
+          (state_after (played p limit workers choices turns)) a one busy h.run
           (omega (arith, long, le))
     ]

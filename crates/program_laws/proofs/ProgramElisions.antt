@@ -85,13 +85,15 @@ empty_part tree input p statements e = ap (λ ss. serial_trace p.store (part_of 
 
 pub no_init_no_accesses : NoInitNoAccesses
 no_init_no_accesses tree input e =
-    ap (λ l. (let p : Pipeline = record (pipeline_of tree input) { preamble = accesses_in l } in p)) (empty_part tree input (pipeline_of tree input) tree.init e)
+    ap (λ l. (let p : Pipeline = record (pipeline_of tree input) { preamble = accesses_in l } in p))
+        (empty_part tree input (pipeline_of tree input) tree.init e)
 
 abbrev bare : SyntaxTree → SyntaxTree
 bare tree = record tree { init = Empty; last = Empty }
 
 abbrev IsLoopAlone : SyntaxTree → List ℤ → Type 0
-IsLoopAlone tree input = (program_output (whole_of tree input) ≡ serial_output (pipeline_of tree input)) × (program_trap (whole_of tree input) ≡ serial_trap (pipeline_of tree input))
+IsLoopAlone tree input = (program_output (whole_of tree input) ≡ serial_output (pipeline_of tree input))
+    × (program_trap (whole_of tree input) ≡ serial_trap (pipeline_of tree input))
 
 no_access_or_none : (b : Bool) → accesses_in (unless b (Ended ends.End ∷ [])) ≡ []
 no_access_or_none true = refl
@@ -109,7 +111,8 @@ bare_is_loop : (tree : SyntaxTree) (input : List ℤ) → IsLoopAlone (bare tree
 bare_is_loop tree input =
     let p = pipeline_of (bare tree) input in
     let t = is_some (serial_trap p) in (
-      ap (λ l. output_of p.store (accesses_of (serial_accesses p) ++ l)) (no_access_or_none t) ∙ ap (λ l. output_of p.store l) (append-nil (accesses_of (serial_accesses p))),
+      ap (λ l. output_of p.store (accesses_of (serial_accesses p) ++ l)) (no_access_or_none t)
+          ∙ ap (λ l. output_of p.store l) (append-nil (accesses_of (serial_accesses p))),
       ap (λ o. first_of_both (serial_trap p) o) (no_trap_or_none t) ∙ first_alone (serial_trap p),
     )
 

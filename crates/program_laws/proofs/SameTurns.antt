@@ -32,9 +32,11 @@ pub data SameWithin (budget : ℕ) {A : Type 0} (P : ℕ → ℕ → A → Type 
   SameRaise : {left room : ℕ} (t : Trap) → SameWithin budget P left room (Raise t) (Raise t)
   SameStop : {room : ℕ} {d e : Interaction A} → SameWithin budget P zero room (Step d) (Step e)
   SameStep : {left room : ℕ} {d e : Interaction A} → SameWithin budget P left room d e → SameWithin budget P (suc left) room (Step d) (Step e)
-  SameGet : {left room : ℕ} {go goes : ℤ → Interaction A} (c : ℕ) → ((v : ℤ) → SameWithin budget P left room (go v) (goes v)) → SameWithin budget P left room (Get c go) (Get c goes)
+  SameGet : {left room : ℕ} {go goes : ℤ → Interaction A} (c : ℕ) → ((v : ℤ) → SameWithin budget P left room (go v) (goes v))
+      → SameWithin budget P left room (Get c go) (Get c goes)
   SameSet : {left room : ℕ} {d e : Interaction A} (c : ℕ) (v : ℤ) → SameWithin budget P left room d e → SameWithin budget P left room (Set c v d) (Set c v e)
-  SameStage : {left room : ℕ} {d e : Interaction A} (k : Kind) (n : ℤ) → SameWithin budget P budget room d e → SameWithin budget P left (suc room) (Stage k n d) (Stage k n e)
+  SameStage : {left room : ℕ} {d e : Interaction A} (k : Kind) (n : ℤ) → SameWithin budget P budget room d e
+      → SameWithin budget P left (suc room) (Stage k n d) (Stage k n e)
 
 -- they have the same behaviour
 pub same_behaviour : {budget : ℕ} {P : ℕ → ℕ → ColumnEnd → Type 0} {left room : ℕ} {d e : Interaction ColumnEnd} → SameWithin budget P left room d e
@@ -87,7 +89,8 @@ same_by_zero (pos (suc n)) s t = t
 same_by_zero (negsuc n) s t = t
 
 -- an expression makes no turns of loops
-pub evaluate-with_turns : (setting : Setting) (turns : ℕ) (locals : List Local) (e : Expression) → evaluate (with_turns turns setting) locals e ≡ evaluate setting locals e
+pub evaluate-with_turns : (setting : Setting) (turns : ℕ) (locals : List Local) (e : Expression)
+    → evaluate (with_turns turns setting) locals e ≡ evaluate setting locals e
 evaluate-with_turns setting turns locals (Number n) = refl
 evaluate-with_turns setting turns locals (Name x) = refl
 evaluate-with_turns setting turns locals (Element x i) = rw (evaluate-with_turns setting turns locals i)
@@ -113,7 +116,8 @@ same-stage budget stages left zero kind here n has l = absurd (omega (arith, has
 same-stage budget stages left (suc room) kind here n has l = SameStage kind n (SameReturn (omega (arith, has)))
 
 same_if : {A : Type 0} {P : ℕ → ℕ → A → Type 0} {budget left room : ℕ} (b : Bool) (x y : Interaction A)
-    → (b ≡ true → SameWithin budget P left room x x) → SameWithin budget P left room y y → SameWithin budget P left room (if b then x else y) (if b then x else y)
+    → (b ≡ true → SameWithin budget P left room x x) → SameWithin budget P left room y y
+    → SameWithin budget P left room (if b then x else y) (if b then x else y)
 same_if true x y s t = s refl
 same_if false x y s t = t
 
@@ -121,7 +125,8 @@ same-go_to_stage : (budget stages left room : ℕ) (kind : StageKind) (here : St
     → SameWithin budget (HasRoomAt stages) left room (go_to_stage stages kind here n) (go_to_stage stages kind here n)
 same-go_to_stage budget stages left room kind here n has =
     same_if (int_lt here.number n) _ _ (λ above. same_if (nat_lt here.count stages) _ _
-    (λ free. same-stage budget stages left room (kind_of_stage kind) here n has (ltb-true here.count stages free)) (SameRaise traps.StageLimit)) (SameRaise traps.StageOrder)
+    (λ free. same-stage budget stages left room (kind_of_stage kind) here n has (ltb-true here.count stages free)) (SameRaise traps.StageLimit))
+        (SameRaise traps.StageOrder)
 
 -- the environment has the stage of the one before
 abbrev KeepsStage : Environment → Environment → Type 0
@@ -146,9 +151,11 @@ same_straight budget left room (Gets c s) h = SameGet c (λ v. same_straight bud
 same_straight budget left room (Sets c v s) h = SameSet c v (same_straight budget left room s h)
 
 -- two bounds on turns that are above all steps that are left
-same-turns : (budget stages n m : ℕ) (test tests : Environment → Interaction ℤ) (body other : Environment → Interaction Environment) (env : Environment) (left room : ℕ)
+same-turns : (budget stages n m : ℕ) (test tests : Environment → Interaction ℤ) (body other : Environment → Interaction Environment)
+    (env : Environment) (left room : ℕ)
     → ((now : Environment) → IsStraight Anything (test now)) → ((now : Environment) → tests now ≡ test now)
-    → ((now : Environment) (l r : ℕ) → l + budget * r ≤ left + budget * room → stages ≤ now.stage.count + r → SameWithin budget (HasRoom stages) l r (body now) (other now))
+    → ((now : Environment) (l r : ℕ) → l + budget * r ≤ left + budget * room → stages ≤ now.stage.count + r
+    → SameWithin budget (HasRoom stages) l r (body now) (other now))
     → stages ≤ env.stage.count + room → left + budget * room < n → left + budget * room < m
     → SameWithin budget (HasRoom stages) left room (loop_turns n test body env) (loop_turns m tests other env)
 same-turns budget stages zero m test tests body other env left room straight agree bodies has ln lm = absurd (omega (arith, ln))
@@ -161,7 +168,8 @@ same-turns budget stages (suc n) (suc m) test tests body other env left room str
 
 mutual
   -- a statement does the same with two bounds that are above all steps that are left
-  pub same-execute : (budget : ℕ) (setting : Setting) (n m : ℕ) (s : Statement) (env : Environment) (left room : ℕ) → setting.world.stages ≤ env.stage.count + room
+  pub same-execute : (budget : ℕ) (setting : Setting) (n m : ℕ) (s : Statement) (env : Environment) (left room : ℕ)
+      → setting.world.stages ≤ env.stage.count + room
       → left + budget * room < n → left + budget * room < m
       → SameWithin budget (HasRoom setting.world.stages) left room (execute (with_turns n setting) s env) (execute (with_turns m setting) s env)
   same-execute budget setting n m (Let x e) env left room has ln lm =
@@ -173,9 +181,12 @@ mutual
       same_straight budget k room (straight-assign env (local_value env.locals x) (setting.cells x) x v)
       (λ l2 after kept. (let c = ap (λ (h : StagePosition). h.count) kept in omega (arith, c, has))))))
   same-execute budget setting n m (AssignElement x i e) env left room has ln lm =
-      rw (evaluate-with_turns setting n env.locals i, evaluate-with_turns setting m env.locals i, evaluate-with_turns setting n env.locals e, evaluate-with_turns setting m env.locals e)
-      (straight-same budget left room (straight-evaluate setting env.locals i) (λ l j le any. straight-same budget l room (straight-evaluate setting env.locals e) (λ l2 v le2 any2.
-      step_or_stop budget l2 room _ _ (λ k lk. straight-same budget k room (straight-element_of (setting.cells x) j) (λ l3 c le3 any3. SameSet c v (SameReturn has))))))
+      rw (evaluate-with_turns setting n env.locals i, evaluate-with_turns setting m env.locals i, evaluate-with_turns setting n env.locals e,
+          evaluate-with_turns setting m env.locals e)
+      (straight-same budget left room (straight-evaluate setting env.locals i)
+          (λ l j le any. straight-same budget l room (straight-evaluate setting env.locals e) (λ l2 v le2 any2.
+      step_or_stop budget l2 room _ _ (λ k lk. straight-same budget k room (straight-element_of (setting.cells x) j)
+          (λ l3 c le3 any3. SameSet c v (SameReturn has))))))
   same-execute budget setting n m (Emit e) env left room has ln lm =
       rw (evaluate-with_turns setting n env.locals e, evaluate-with_turns setting m env.locals e)
       (straight-same budget left room (straight-evaluate setting env.locals e) (λ l v le any. step_or_stop budget l room _ _ (λ k lk.
@@ -198,11 +209,13 @@ mutual
       same-bind budget (same-go_to_stage budget setting.world.stages k room kind env.stage v has) (λ l2 r2 stage le2 has2. SameReturn has2))))
   same-execute budget setting n m (NextStage kind) env left room has ln lm =
       step_or_stop budget left room _ _ (λ k lk. same-bind budget
-      (straight-same budget k room (straight-fitting (env.stage.number +ℤ pos 1)) (λ l v le any. same-go_to_stage budget setting.world.stages l room kind env.stage v has))
+      (straight-same budget k room (straight-fitting (env.stage.number +ℤ pos 1))
+          (λ l v le any. same-go_to_stage budget setting.world.stages l room kind env.stage v has))
       (λ l2 r2 stage le2 has2. SameReturn has2))
 
   -- the same for statements in order
-  pub same-execute_all : (budget : ℕ) (setting : Setting) (n m : ℕ) (ss : Statements) (env : Environment) (left room : ℕ) → setting.world.stages ≤ env.stage.count + room
+  pub same-execute_all : (budget : ℕ) (setting : Setting) (n m : ℕ) (ss : Statements) (env : Environment) (left room : ℕ)
+      → setting.world.stages ≤ env.stage.count + room
       → left + budget * room < n → left + budget * room < m
       → SameWithin budget (HasRoom setting.world.stages) left room (execute_all (with_turns n setting) ss env) (execute_all (with_turns m setting) ss env)
   same-execute_all budget setting n m Empty env left room has ln lm = SameReturn has

@@ -37,7 +37,8 @@ module _ (columns : List (List Node)) (book : List BookEntry) (shards : ℕ → 
   ]
 
   -- an instance that starts after the end of one starts after the ends of those above it
-  starts_after : TicketsAreInOrder columns book shards made → (i j l m n start end : ℕ) → start_ticket_of book m n ≡ Some start → end_ticket_of book i l ≡ Some end → end < start → j ≤ l
+  starts_after : TicketsAreInOrder columns book shards made → (i j l m n start end : ℕ) → start_ticket_of book m n ≡ Some start
+      → end_ticket_of book i l ≡ Some end → end < start → j ≤ l
       → StartsAfterEnd book i j m n
   starts_after h i j l m n start end starts ends later le =
       let r = ended_before h i l end ends j le in
@@ -85,7 +86,8 @@ module _ (columns : List (List Node)) (book : List BookEntry) (shards : ℕ → 
           }
 
   -- along an edge
-  edge_ended : AreColumns columns → TicketsAreInOrder columns book shards made → (x y : NodeId) (start : ℕ) → Edge columns x y → start_ticket_of book y.iteration y.index ≡ Some start
+  edge_ended : AreColumns columns → TicketsAreInOrder columns book shards made → (x y : NodeId) (start : ℕ) → Edge columns x y
+      → start_ticket_of book y.iteration y.index ≡ Some start
       → StartsAfterEnd book x.iteration x.index y.iteration y.index
   edge_ended ok h x y start (DownEdge i k l) is = h.instances.up i k start is
   edge_ended ok h x y start (AcrossEdge i j k c) is =
@@ -98,7 +100,8 @@ module _ (columns : List (List Node)) (book : List BookEntry) (shards : ℕ → 
       (left_ended h i k start (subst (λ m. start_ticket_of book m k ≡ Some start) n is) j (omega (arith, near, r)))
 
   -- along a path
-  path_ended : AreColumns columns → TicketsAreInOrder columns book shards made → (x y : NodeId) (start : ℕ) → Precedes columns x y → start_ticket_of book y.iteration y.index ≡ Some start
+  path_ended : AreColumns columns → TicketsAreInOrder columns book shards made → (x y : NodeId) (start : ℕ) → Precedes columns x y
+      → start_ticket_of book y.iteration y.index ≡ Some start
       → StartsAfterEnd book x.iteration x.index y.iteration y.index
   path_ended ok h x y start (ByEdge e) is = edge_ended ok h x y start e is
   path_ended ok h x y start (ByPath {y = m} p e) is =

@@ -18,7 +18,8 @@ exact value = record {
   cells = plain_cell n (pos 0) ∷ [];
   init = Empty;
   test = less (Name n) (number 2);
-  body = count_up n (Then (Let t (Name n)) (Then (Stage stage_kinds.Wait (number 1)) (Then (Emit (Name t)) (Then (If (equal (Name t) (number 1)) (Then (Let k value) Empty) Empty) Empty))));
+  body = count_up n (Then (Let t (Name n)) (Then (Stage stage_kinds.Wait (number 1))
+      (Then (Emit (Name t)) (Then (If (equal (Name t) (number 1)) (Then (Let k value) Empty) Empty) Empty))));
   last = Empty;
 }
 

@@ -20,7 +20,8 @@ abbrev pub HasNoProgramRace : WholeProgram → Type 0
 HasNoProgramRace w = IsRaceFree (map column_of (loop_traces w)) (loop_accesses w)
 
 -- the log, the reports, the status and the text of a call that has run the program under the throttling limit; `races` is the text of the reports
-pub record MeetsProgramHeadline (w : WholeProgram) (limit : ℕ) (log : RunLog) (reports : List Report) (races : List ℕ) (status : ℕ) (text : List ℕ) : Type 0 where
+pub record MeetsProgramHeadline (w : WholeProgram) (limit : ℕ) (log : RunLog) (reports : List Report) (races : List ℕ) (status : ℕ)
+    (text : List ℕ) : Type 0 where
   pub run : IsFinishedProgramRun w limit log
   pub reported : AreRight (columns_after log.events) (accesses_after log.events) reports
   pub silent : (reports ≡ []) ↔ HasNoProgramRace w

@@ -74,7 +74,8 @@ NoInitNoAccesses = (tree : SyntaxTree) (input : List ℤ) → tree.init ≡ Empt
 abbrev pub LoopsAlone : Type 0
 LoopsAlone =
     (tree : SyntaxTree) (input : List ℤ) → tree.init ≡ Empty → tree.last ≡ Empty
-    → (program_output (whole_of tree input) ≡ serial_output (pipeline_of tree input)) × (program_trap (whole_of tree input) ≡ serial_trap (pipeline_of tree input))
+    → (program_output (whole_of tree input) ≡ serial_output (pipeline_of tree input))
+    × (program_trap (whole_of tree input) ≡ serial_trap (pipeline_of tree input))
 
 -- if `final` ran, `played_output` and `played_trap` are the output and the trap of the run
 abbrev pub PlayedWhereFinalRan : Type 0

@@ -82,16 +82,19 @@ StagesAreNamed =
     HasOutputAndTrap each_stage [] (pos 6 ∷ pos 7 ∷ []) None
     × (program_columns (whole_of each_stage [])
     ≡ record {
-      nodes = node_of kinds.Zero (pos 0) ∷ node_of kinds.Wait (pos 2) ∷ node_of kinds.Wait (pos 3) ∷ node_of kinds.Continue (pos 7) ∷ node_of kinds.Continue (pos 8) ∷ [];
+      nodes = node_of kinds.Zero (pos 0) ∷ node_of kinds.Wait (pos 2) ∷ node_of kinds.Wait (pos 3) ∷ node_of kinds.Continue (pos 7) ∷ node_of
+          kinds.Continue (pos 8) ∷ [];
       end = Some End;
     } ∷ record { nodes = node_of kinds.Zero (pos 0) ∷ []; end = Some Closed } ∷ [])
 
 -- a number that is not above the current one, one instance too many, and an implied number that is no i64
 abbrev pub StagesTrap : Type 0
 StagesTrap =
-    HasOutputAndTrap (staged 3 (Then (Stage stage_kinds.Wait (number 1)) (Then (Stage stage_kinds.Continue (number 1)) Empty))) [] [] (Some (trap_at traps.StageOrder 0 1 (pos 1)))
+    HasOutputAndTrap (staged 3 (Then (Stage stage_kinds.Wait (number 1)) (Then (Stage stage_kinds.Continue (number 1)) Empty))) [] []
+        (Some (trap_at traps.StageOrder 0 1 (pos 1)))
     × HasOutputAndTrap (staged 3 (Then (Stage stage_kinds.Wait (number 0)) Empty)) [] [] (Some (trap_at traps.StageOrder 0 0 (pos 0)))
-    × HasOutputAndTrap (staged 2 (Then (Stage stage_kinds.Wait (number 1)) (Then (NextStage stage_kinds.Continue) Empty))) [] [] (Some (trap_at traps.StageLimit 0 1 (pos 1)))
+    × HasOutputAndTrap (staged 2 (Then (Stage stage_kinds.Wait (number 1)) (Then (NextStage stage_kinds.Continue) Empty))) [] []
+        (Some (trap_at traps.StageLimit 0 1 (pos 1)))
     × HasOutputAndTrap (staged 3 (Then (Stage stage_kinds.Wait (number 9223372036854775807)) (Then (NextStage stage_kinds.Wait) Empty))) [] []
     (Some (trap_at traps.Overflow 0 1 (pos 9223372036854775807)))
 
@@ -127,5 +130,6 @@ waiting other = record {
 -- waits with redundant edges: { pipe_wait(5); pipe_wait(6); pipe_wait(7); emit c; }, and a wait for an earlier stage: { pipe_wait(6); emit c; }
 abbrev pub WaitsEmit : Type 0
 WaitsEmit =
-    HasOutputAndTrap (waiting (Then (Stage stage_kinds.Wait (number 5)) (Then (Stage stage_kinds.Wait (number 6)) (Then (Stage stage_kinds.Wait (number 7)) (Then (Emit (Name c)) Empty))))) [] (pos 7 ∷ []) None
+    HasOutputAndTrap (waiting (Then (Stage stage_kinds.Wait (number 5)) (Then (Stage stage_kinds.Wait (number 6))
+        (Then (Stage stage_kinds.Wait (number 7)) (Then (Emit (Name c)) Empty))))) [] (pos 7 ∷ []) None
     × HasOutputAndTrap (waiting (Then (Stage stage_kinds.Wait (number 6)) (Then (Emit (Name c)) Empty))) [] (pos 7 ∷ []) None

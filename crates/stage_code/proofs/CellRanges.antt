@@ -24,7 +24,8 @@ found_before n (e ∷ ds) d x h =
     ap (λ o. if bytes_eq e.name x then Some (record { first = n; size = declared_size e.size }) else o) (found_before (n + declared_size e.size) ds d x h)
 
 -- if the first is passed over, the others decide
-passed_over : (b : Bool) (size : Option ℤ) (o : Option (Option ℤ)) (first : CellRange) (rest last : Option CellRange) → is_some (if b then Some size else o) ≡ false
+passed_over : (b : Bool) (size : Option ℤ) (o : Option (Option ℤ)) (first : CellRange) (rest last : Option CellRange)
+    → is_some (if b then Some size else o) ≡ false
     → (is_some o ≡ false → rest ≡ last) → (if b then Some first else rest) ≡ last
 passed_over true size o first rest last h f = absurd (let e : true ≡ false = h in cc (e))
 passed_over false size o first rest last h f = f h
@@ -38,7 +39,8 @@ found_last n (e ∷ ds) d x h new =
     (λ rest. found_last (n + declared_size e.size) ds d x h rest ∙ ap (λ (k : ℕ). Some (record { first = k; size = declared_size d.size })) (omega arith))
 
 -- a name is found in the table with the new one
-found_by : (ds : List Declaration) (d : Declaration) (x : List ℕ) (range : DeclaredRange) (o : Option DeclaredRange) (b : Bool) → bytes_eq d.name x ≡ b → is_cell ds d.name ≡ false
+found_by : (ds : List Declaration) (d : Declaration) (x : List ℕ) (range : DeclaredRange) (o : Option DeclaredRange) (b : Bool)
+    → bytes_eq d.name x ≡ b → is_cell ds d.name ≡ false
     → range_in (Some range) ≡ Some (record { first = 2 + cell_total ds; size = declared_size d.size }) → range_in o ≡ range_of 2 ds x
     → range_in (cond b (Some range) o) ≡ range_of 2 (ds ++ d ∷ []) x
 found_by ds d x range o true h new is before =
@@ -46,13 +48,15 @@ found_by ds d x range o true h new is before =
 found_by ds d x range o false h new is before = before ∙ sym (found_before 2 ds d x h)
 
 placed_more : (ranges grown : BTreeMap (Bor (List ℕ)) DeclaredRange) (ds : List Declaration) (d : Declaration) (key : Bor (List ℕ)) (range : DeclaredRange)
-    → HasRanges ranges ds → key.now ≡ d.name → is_cell ds d.name ≡ false → range_in (Some range) ≡ Some (record { first = 2 + cell_total ds; size = declared_size d.size })
+    → HasRanges ranges ds → key.now ≡ d.name → is_cell ds d.name ≡ false
+    → range_in (Some range) ≡ Some (record { first = 2 + cell_total ds; size = declared_size d.size })
     → ((x : Bor (List ℕ)) → get (λ a b. slice_cmp nat_cmp a.now b.now) grown x
     ≡ cond (is_eq (slice_cmp nat_cmp key.now x.now)) (Some range) (get (λ a b. slice_cmp nat_cmp a.now b.now) ranges x))
     → HasRanges grown (ds ++ d ∷ [])
 placed_more ranges grown ds d key range table named new is updates = λ x.
     ap range_in (updates x)
-    ∙ ap (λ b. range_in (cond b (Some range) (get (λ a b. slice_cmp nat_cmp a.now b.now) ranges x))) (is_eq-slice_cmp key.now x.now ∙ ap (λ name. bytes_eq name x.now) named)
+    ∙ ap (λ b. range_in (cond b (Some range) (get (λ a b. slice_cmp nat_cmp a.now b.now) ranges x)))
+        (is_eq-slice_cmp key.now x.now ∙ ap (λ name. bytes_eq name x.now) named)
     ∙ found_by ds d x.now range (get (λ a b. slice_cmp nat_cmp a.now b.now) ranges x) (bytes_eq d.name x.now) refl new is (table x)
 
 -- what is left to declare
@@ -76,7 +80,8 @@ pub record IsHalf (ranges : BTreeMap (Bor (List ℕ)) DeclaredRange) (next i : �
   pub left : next + cell_total (drop i cells) ≡ 2 + cell_total cells
   pub new : AreNew (take i cells) (drop i cells)
 
-pub half_more : (ranges grown : BTreeMap (Bor (List ℕ)) DeclaredRange) (next i size : ℕ) (cells : List Declaration) (d : Declaration) (key : Bor (List ℕ)) (range : DeclaredRange)
+pub half_more : (ranges grown : BTreeMap (Bor (List ℕ)) DeclaredRange) (next i size : ℕ) (cells : List Declaration) (d : Declaration)
+    (key : Bor (List ℕ)) (range : DeclaredRange)
     → IsHalf ranges next i cells → i < length cells → d ≡ get_or cells i d → key.now ≡ d.name → size ≡ declared_size d.size
     → range ≡ record { first = record { 0 = next }; size = size }
     → ((x : Bor (List ℕ)) → get (λ a b. slice_cmp nat_cmp a.now b.now) grown x
@@ -89,7 +94,8 @@ half_more ranges grown next i size cells d key range half h e named sized is upd
     let rest = left_total cells i d h e in
     let shown : range_in (Some range) ≡ Some (record { first = 2 + cell_total (take i cells); size = declared_size d.size }) =
     ap (λ (r : DeclaredRange). Some (record { first = r.first.0; size = r.size })) is
-    ∙ ap (λ (k : ℕ). Some (record { first = k; size = size })) half.counted ∙ ap (λ (k : ℕ). Some (record { first = 2 + cell_total (take i cells); size = k })) sized in
+    ∙ ap (λ (k : ℕ). Some (record { first = k; size = size })) half.counted
+        ∙ ap (λ (k : ℕ). Some (record { first = 2 + cell_total (take i cells); size = k })) sized in
     record {
       table = subst (λ (ds : List Declaration). HasRanges grown ds) (sym (take_next cells i d h e))
           (placed_more ranges grown (take i cells) d key range half.table named fresh.0 shown updates);
@@ -109,7 +115,8 @@ one_total [] i d h e = absurd (omega (arith, h))
 one_total (x ∷ cells) zero d h e = let same = ap (λ (y : Declaration). declared_size y.size) e in omega (arith, same)
 one_total (x ∷ cells) (suc i) d h e = let others = one_total cells i d (omega (arith, h)) e in omega (arith, others)
 
-pub size_fits : (cells : List Declaration) (i : ℕ) (d : Declaration) → i < length cells → d ≡ get_or cells i d → All (λ (c : Declaration). HasNoNegativeSize c.size) cells
+pub size_fits : (cells : List Declaration) (i : ℕ) (d : Declaration) → i < length cells → d ≡ get_or cells i d
+    → All (λ (c : Declaration). HasNoNegativeSize c.size) cells
     → cell_total cells ≤ MOST_CELLS → HasSize d.size
 size_fits cells i d h e sizes few =
     let one = one_total cells i d h e in

@@ -22,7 +22,8 @@ new_names before (d ∷ ds) o =
     let rest = marks_of_cells (before ++ d ∷ []) ds in
     (all_first Obeys mark rest o 1 Unknown (omega arith), new_names (before ++ d ∷ []) ds (all_rest Obeys mark rest o))
 
-pub few_cells : (before ds : List Declaration) → Obey (marks_of_cells before ds) → cell_total before ≤ MOST_CELLS → cell_total before + cell_total ds ≤ MOST_CELLS
+pub few_cells : (before ds : List Declaration) → Obey (marks_of_cells before ds) → cell_total before ≤ MOST_CELLS
+    → cell_total before + cell_total ds ≤ MOST_CELLS
 few_cells before [] o few = omega (arith, few)
 few_cells before (d ∷ ds) o few =
     let mark = mark_at (opening regions.Cells before) (DeclaredCell d.name d.size) in

@@ -53,7 +53,8 @@ if_low e a b whole is few =
     let three = greater_second (height_of e) (greater (height_of_statements a) (height_of_statements b)) in
     (omega (arith, all, one, three, few), omega (arith, all, two, three, few))
 
-pub while_low : (e : Expression) (a : Statements) (whole : Statement) → whole ≡ While e a → height_of_statement whole ≤ HIGHEST_STACK → height_of_statements a ≤ HIGHEST_STACK
+pub while_low : (e : Expression) (a : Statements) (whole : Statement) → whole ≡ While e a → height_of_statement whole ≤ HIGHEST_STACK
+    → height_of_statements a ≤ HIGHEST_STACK
 while_low e a whole is few =
     let all : height_of_statement whole ≡ greater (height_of e) (height_of_statements a) = ap height_of_statement is in
     let one = greater_second (height_of e) (height_of_statements a) in

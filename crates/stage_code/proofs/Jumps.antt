@@ -57,13 +57,17 @@ next_stage_leads code at stage_kinds.Wait = tt
 next_stage_leads code at stage_kinds.Continue = tt
 
 -- an expression has no jump that takes no step
-expression_leads : (code : List Instr) (cells : List ℕ → Option CellRange) (scope : List (List ℕ)) (e : Expression) (at n : ℕ) → LeadOn code at (expression_code cells scope n e)
+expression_leads : (code : List Instr) (cells : List ℕ → Option CellRange) (scope : List (List ℕ)) (e : Expression) (at n : ℕ)
+    → LeadOn code at (expression_code cells scope n e)
 expression_leads code cells scope (Number v) at n = (tt, tt)
 expression_leads code cells scope (Name x) at n = (name_leads code at (slot_of scope x) (cells x), tt)
 expression_leads code cells scope (Element x i) at n = lead_then code at _ _ (expression_leads code cells scope i at n) (element_leads code _ (cells x), tt)
-expression_leads code cells scope (And a b) at n = lead_then code at _ _ (expression_leads code cells scope a at n) (tt, lead_then code _ _ _ (expression_leads code cells scope b _ _) (tt, tt))
-expression_leads code cells scope (Or a b) at n = lead_then code at _ _ (expression_leads code cells scope a at n) (tt, lead_then code _ _ _ (expression_leads code cells scope b _ _) (tt, tt))
-expression_leads code cells scope (Binary op a b) at n = lead_then code at _ _ (expression_leads code cells scope a at n) (lead_then code _ _ _ (expression_leads code cells scope b _ _) (tt, tt))
+expression_leads code cells scope (And a b) at n = lead_then code at _ _ (expression_leads code cells scope a at n)
+    (tt, lead_then code _ _ _ (expression_leads code cells scope b _ _) (tt, tt))
+expression_leads code cells scope (Or a b) at n = lead_then code at _ _ (expression_leads code cells scope a at n)
+    (tt, lead_then code _ _ _ (expression_leads code cells scope b _ _) (tt, tt))
+expression_leads code cells scope (Binary op a b) at n =
+    lead_then code at _ _ (expression_leads code cells scope a at n) (lead_then code _ _ _ (expression_leads code cells scope b _ _) (tt, tt))
 expression_leads code cells scope (Unary op a) at n = lead_then code at _ _ (expression_leads code cells scope a at n) (tt, tt)
 expression_leads code cells scope More at n = (tt, tt)
 expression_leads code cells scope Take at n = (tt, tt)
@@ -75,7 +79,8 @@ name_steps (Some slot) range = refl
 name_steps None (Some range) = refl
 name_steps None None = refl
 
-expression_begins : (code : List Instr) (at : ℕ) (cells : List ℕ → Option CellRange) (scope : List (List ℕ)) (n : ℕ) (e : Expression) → HasAt code at (expression_code cells scope n e)
+expression_begins : (code : List Instr) (at : ℕ) (cells : List ℕ → Option CellRange) (scope : List (List ℕ)) (n : ℕ) (e : Expression)
+    → HasAt code at (expression_code cells scope n e)
     → steps_at (slice_get code at) ≡ true
 expression_begins code at cells scope n (Number v) h = ap steps_at h.0
 expression_begins code at cells scope n (Name x) h = ap steps_at h.0 ∙ name_steps (slot_of scope x) (cells x)
@@ -89,12 +94,15 @@ expression_begins code at cells scope n Take h = ap steps_at h.0
 expression_begins code at cells scope n Iter h = ap steps_at h.0
 
 mutual
-  statement_leads : (code : List Instr) (cells : List ℕ → Option CellRange) (scope : List (List ℕ)) (at : ℕ) (s : Statement) → HasAt code at (statement_code cells scope at s)
+  statement_leads : (code : List Instr) (cells : List ℕ → Option CellRange) (scope : List (List ℕ)) (at : ℕ) (s : Statement)
+      → HasAt code at (statement_code cells scope at s)
       → LeadOn code at (statement_code cells scope at s)
   statement_leads code cells scope at (Let x e) h = lead_then code at _ _ (expression_leads code cells scope e at at) (tt, tt)
-  statement_leads code cells scope at (Assign x e) h = lead_then code at _ _ (expression_leads code cells scope e at at) (assign_leads code _ (slot_of scope x) (cells x), tt)
+  statement_leads code cells scope at (Assign x e) h =
+      lead_then code at _ _ (expression_leads code cells scope e at at) (assign_leads code _ (slot_of scope x) (cells x), tt)
   statement_leads code cells scope at (AssignElement x i e) h =
-      lead_then code at _ _ (expression_leads code cells scope i at at) (lead_then code _ _ _ (expression_leads code cells scope e _ _) (assign_element_leads code _ (cells x), tt))
+      lead_then code at _ _ (expression_leads code cells scope i at at) (lead_then code _ _ _ (expression_leads code cells scope e _ _)
+          (assign_element_leads code _ (cells x), tt))
   statement_leads code cells scope at (Emit e) h = lead_then code at _ _ (expression_leads code cells scope e at at) (tt, tt)
   statement_leads code cells scope at (If e a b) h =
       let test = expression_code cells scope at e in
@@ -119,7 +127,8 @@ mutual
   statement_leads code cells scope at (Stage kind e) h = lead_then code at _ _ (expression_leads code cells scope e at at) (stage_leads code _ kind, tt)
   statement_leads code cells scope at (NextStage kind) h = (next_stage_leads code at kind, tt)
 
-  statements_leads : (code : List Instr) (cells : List ℕ → Option CellRange) (scope : List (List ℕ)) (at : ℕ) (ss : Statements) → HasAt code at (statements_code cells scope at ss)
+  statements_leads : (code : List Instr) (cells : List ℕ → Option CellRange) (scope : List (List ℕ)) (at : ℕ) (ss : Statements)
+      → HasAt code at (statements_code cells scope at ss)
       → LeadOn code at (statements_code cells scope at ss)
   statements_leads code cells scope at Empty h = tt
   statements_leads code cells scope at (Then s ss) h =
@@ -127,11 +136,13 @@ mutual
       lead_then code at _ _ (statement_leads code cells scope at s (first_at code at first _ h))
       (statements_leads code cells (locals_after scope s) (at + length first) ss (rest_at code at first _ h))
 
-part_leads : (code : List Instr) (cells : List ℕ → Option CellRange) (at : ℕ) (ss : Statements) → HasAt code at (part_code cells at ss) → LeadOn code at (part_code cells at ss)
+part_leads : (code : List Instr) (cells : List ℕ → Option CellRange) (at : ℕ) (ss : Statements) → HasAt code at (part_code cells at ss)
+    → LeadOn code at (part_code cells at ss)
 part_leads code cells at ss h =
     lead_then code at _ _ (statements_leads code cells [] at ss (first_at code at (statements_code cells [] at ss) _ h)) (tt, tt)
 
-iteration_leads : (code : List Instr) (cells : List ℕ → Option CellRange) (at : ℕ) (test : Expression) (body : Statements) → HasAt code at (iteration_code cells at test body)
+iteration_leads : (code : List Instr) (cells : List ℕ → Option CellRange) (at : ℕ) (test : Expression) (body : Statements)
+    → HasAt code at (iteration_code cells at test body)
     → LeadOn code at (iteration_code cells at test body)
 iteration_leads code cells at test body h =
     let first = expression_code cells [] at test in
@@ -141,7 +152,8 @@ iteration_leads code cells at test body h =
     (tt, lead_then code _ _ _ (statements_leads code cells [] (at + length first + 1) body (first_at code _ rest _ after_it.1)) (tt, tt))
 
 -- if the instructions from a place on lead on, so does each of them
-lead_at : (code : List Instr) (at : ℕ) (is : List Instr) → LeadOn code at is → (k to : ℕ) → slice_get is k ≡ Some (instrs.Jump to) → to ≤ at + k → steps_at (slice_get code to) ≡ true
+lead_at : (code : List Instr) (at : ℕ) (is : List Instr) → LeadOn code at is → (k to : ℕ) → slice_get is k ≡ Some (instrs.Jump to) → to ≤ at + k
+    → steps_at (slice_get code to) ≡ true
 lead_at code at [] h k to e back = absurd (let d : None ≡ Some (instrs.Jump to) = e in cc (d))
 lead_at code at (i ∷ is) h zero to e back =
     let d : i ≡ instrs.Jump to = cc (e) in (subst (λ j. LeadsOn code at j) d h.0) (omega (arith, back))

@@ -59,26 +59,31 @@ ready tree spellable obeys =
 
 -- ---- places
 
-pub init_fits : (tree : SyntaxTree) (cells : List ℕ → Option CellRange) (c0 : List Instr) → size_of tree ≤ LARGEST_PROGRAM → c0 ≡ [] → CodeFits c0 (part_code cells (length c0) tree.init)
+pub init_fits : (tree : SyntaxTree) (cells : List ℕ → Option CellRange) (c0 : List Instr) → size_of tree ≤ LARGEST_PROGRAM → c0 ≡ []
+    → CodeFits c0 (part_code cells (length c0) tree.init)
 init_fits tree cells c0 few e0 =
     let short = parts_short tree cells 0 0 in
     subst (λ l. CodeFits l (part_code cells (length l) tree.init)) (sym e0) (omega (arith, few, short.all))
 
 -- the code of the first part
-init_is : (tree : SyntaxTree) (cells : List ℕ → Option CellRange) (c0 c1 : List Instr) → c0 ≡ [] → c1 ≡ c0 ++ part_code cells (length c0) tree.init → c1 ≡ part_code cells 0 tree.init
+init_is : (tree : SyntaxTree) (cells : List ℕ → Option CellRange) (c0 c1 : List Instr) → c0 ≡ []
+    → c1 ≡ c0 ++ part_code cells (length c0) tree.init → c1 ≡ part_code cells 0 tree.init
 init_is tree cells c0 c1 e0 e1 = e1 ∙ ap (λ l. l ++ part_code cells (length l) tree.init) e0
 
-pub pipe_fits : (tree : SyntaxTree) (cells : List ℕ → Option CellRange) (c0 c1 : List Instr) → size_of tree ≤ LARGEST_PROGRAM → c0 ≡ [] → c1 ≡ c0 ++ part_code cells (length c0) tree.init
+pub pipe_fits : (tree : SyntaxTree) (cells : List ℕ → Option CellRange) (c0 c1 : List Instr) → size_of tree ≤ LARGEST_PROGRAM → c0 ≡ []
+    → c1 ≡ c0 ++ part_code cells (length c0) tree.init
     → CodeFits c1 (iteration_code cells (length c1) tree.test tree.body)
 pipe_fits tree cells c0 c1 few e0 e1 =
     let short = parts_short tree cells (length c1) 0 in
     omega (arith, few, short.all, ap length (init_is tree cells c0 c1 e0 e1))
 
-pub last_fits : (tree : SyntaxTree) (cells : List ℕ → Option CellRange) (c0 c1 c2 : List Instr) → size_of tree ≤ LARGEST_PROGRAM → c0 ≡ [] → c1 ≡ c0 ++ part_code cells (length c0) tree.init
+pub last_fits : (tree : SyntaxTree) (cells : List ℕ → Option CellRange) (c0 c1 c2 : List Instr) → size_of tree ≤ LARGEST_PROGRAM → c0 ≡ []
+    → c1 ≡ c0 ++ part_code cells (length c0) tree.init
     → c2 ≡ c1 ++ iteration_code cells (length c1) tree.test tree.body → CodeFits c2 (part_code cells (length c2) tree.last)
 last_fits tree cells c0 c1 c2 few e0 e1 e2 =
     let short = parts_short tree cells (length c1) (length c2) in
-    omega (arith, few, short.all, ap length (init_is tree cells c0 c1 e0 e1), ap length e2, length-append c1 (iteration_code cells (length c1) tree.test tree.body))
+    omega (arith, few, short.all, ap length (init_is tree cells c0 c1 e0 e1), ap length e2, length-append c1
+        (iteration_code cells (length c1) tree.test tree.body))
 
 -- ---- the whole
 

@@ -11,7 +11,8 @@ use Rattle.stage_code.proofs.CodeParts.{parts_are_in}
 use Rattle.stage_code.proofs.ProgramsInBounds.{ProgramStaysInBounds, program_in_bounds}
 use Rattle.stage_code.proofs.StatementRuns.{iteration_runs, part_runs}
 
-in_bounds : (tree : SyntaxTree) (bounds : Bounds) (slots : List ℤ) → fault_of tree ≡ None → HasRoomToRun tree (flat_code tree) bounds slots → ProgramStaysInBounds bounds tree
+in_bounds : (tree : SyntaxTree) (bounds : Bounds) (slots : List ℤ) → fault_of tree ≡ None → HasRoomToRun tree (flat_code tree) bounds slots
+    → ProgramStaysInBounds bounds tree
 in_bounds tree bounds slots obeys room = program_in_bounds tree bounds obeys room.stack (omega (arith, room.cells))
 
 pub flat_runs : (tree : SyntaxTree) → fault_of tree ≡ None → RunsProgram tree (flat_code tree)
@@ -22,10 +23,13 @@ flat_runs tree obeys =
     let turns = (setting_of tree [] 0).turns in
     record {
       init = λ input bounds slots n room few.
-          GoesOn _ (part_runs (setting_of_code code bounds input 0) cells turns n code.init slots tree.init few room.locals (in_bounds tree bounds slots obeys room).init parts.init);
+          GoesOn _ (part_runs (setting_of_code code bounds input 0) cells turns n code.init slots tree.init few room.locals
+              (in_bounds tree bounds slots obeys room).init parts.init);
       pipe = λ input i bounds slots n room few.
-          GoesOn _ (iteration_runs (setting_of_code code bounds input i) cells turns n code.pipe slots tree.test tree.body few room.locals (in_bounds tree bounds slots obeys room).test
+          GoesOn _ (iteration_runs (setting_of_code code bounds input i) cells turns n code.pipe slots tree.test tree.body few room.locals
+              (in_bounds tree bounds slots obeys room).test
           (in_bounds tree bounds slots obeys room).body parts.pipe);
       last = λ input bounds slots n room few.
-          GoesOn _ (part_runs (setting_of_code code bounds input 0) cells turns n code.last slots tree.last few room.locals (in_bounds tree bounds slots obeys room).last parts.last);
+          GoesOn _ (part_runs (setting_of_code code bounds input 0) cells turns n code.last slots tree.last few room.locals
+              (in_bounds tree bounds slots obeys room).last parts.last);
     }

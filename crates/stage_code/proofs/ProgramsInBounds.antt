@@ -42,12 +42,14 @@ agree_first : (bounds : Bounds) (size : Option ℤ) (first : ℕ) → first + de
 agree_first bounds None first served = served
 agree_first bounds (Some n) first served = served
 
-agree : (bounds : Bounds) (next : ℕ) (ds : List Declaration) (x : List ℕ) → next + cell_total ds ≤ bounds.cells → Agree bounds (size_in ds x) (range_of next ds x)
+agree : (bounds : Bounds) (next : ℕ) (ds : List Declaration) (x : List ℕ) → next + cell_total ds ≤ bounds.cells
+    → Agree bounds (size_in ds x) (range_of next ds x)
 agree bounds next [] x served = tt
 agree bounds next (d ∷ ds) x served = by (bytes_eq d.name x) (agree bounds (next + declared_size d.size) ds x (omega (arith, served)))
   where
     by : (b : Bool) → Agree bounds (size_in ds x) (range_of (next + declared_size d.size) ds x)
-        → Agree bounds (if b then Some d.size else size_in ds x) (if b then Some (record { first = next; size = declared_size d.size }) else range_of (next + declared_size d.size) ds x)
+        → Agree bounds (if b then Some d.size else size_in ds x) (if b then Some (record { first = next; size = declared_size d.size })
+        else range_of (next + declared_size d.size) ds x)
     by true h = agree_first bounds d.size next (omega (arith, served))
     by false h = h
 
@@ -64,7 +66,8 @@ among_slot (name ∷ names) x = by (bytes_eq name x) (among_slot names x)
     by false h = h ∙ later (slot_of names x)
 
 known_by : (bounds : Bounds) (slot : Option ℕ) (size : Option (Option ℤ)) (range : Option CellRange) → Agree bounds size range
-    → is_nothing (if is_some slot then Local else cell_meaning size) ≡ false → is_array (if is_some slot then Local else cell_meaning size) ≡ false → IsKnown bounds slot range
+    → is_nothing (if is_some slot then Local else cell_meaning size) ≡ false
+    → is_array (if is_some slot then Local else cell_meaning size) ≡ false → IsKnown bounds slot range
 known_by bounds (Some j) size range a some plain = tt
 known_by bounds None None None a some plain = absurd (let d : true ≡ false = some in cc (d))
 known_by bounds None None (Some range) a some plain = elim a [ ]
@@ -73,7 +76,8 @@ known_by bounds None (Some None) (Some range) a some plain = a
 known_by bounds None (Some (Some n)) range a some plain = absurd (let d : true ≡ false = plain in cc (d))
 
 cells_by : (bounds : Bounds) (slot : Option ℕ) (size : Option (Option ℤ)) (range : Option CellRange) → Agree bounds size range
-    → is_nothing (if is_some slot then Local else cell_meaning size) ≡ false → is_single (if is_some slot then Local else cell_meaning size) ≡ false → HasCells bounds range
+    → is_nothing (if is_some slot then Local else cell_meaning size) ≡ false
+    → is_single (if is_some slot then Local else cell_meaning size) ≡ false → HasCells bounds range
 cells_by bounds (Some j) size range a some many = absurd (let d : true ≡ false = many in cc (d))
 cells_by bounds None None range a some many = absurd (let d : true ≡ false = some in cc (d))
 cells_by bounds None (Some None) range a some many = absurd (let d : true ≡ false = many in cc (d))
@@ -92,7 +96,8 @@ pub record IsScope (cells : List Declaration) (bounds : Bounds) (scope : Scope) 
   pub covered : length scope.visible ≤ length scope.lets
   pub few : length scope.lets ≤ MOST_LOCALS
 
-pub first_scope : (cells : List Declaration) (bounds : Bounds) (region : Region) → 2 + cell_total cells ≤ bounds.cells → IsScope cells bounds (opening region cells)
+pub first_scope : (cells : List Declaration) (bounds : Bounds) (region : Region) → 2 + cell_total cells ≤ bounds.cells
+    → IsScope cells bounds (opening region cells)
 first_scope cells bounds region served = record { cells_are = refl; served = served; covered = omega arith; few = omega arith }
 
 known : (cells : List Declaration) (bounds : Bounds) (scope : Scope) (x : List ℕ) → IsScope cells bounds scope → Obeys (mark_at scope (Plain x))
@@ -105,7 +110,8 @@ known cells bounds scope x s h =
     (known_by bounds (slot_of scope.visible x) (size_in scope.cells x) (range_of 2 scope.cells x) (agree bounds 2 scope.cells x served)
     (ap is_nothing (sym (meaning_is scope x)) ∙ some) (ap is_array (sym (meaning_is scope x)) ∙ plain))
 
-has_cells : (cells : List Declaration) (bounds : Bounds) (scope : Scope) (x : List ℕ) → IsScope cells bounds scope → Obeys (mark_at scope (Indexed x)) → HasCells bounds (range_of 2 cells x)
+has_cells : (cells : List Declaration) (bounds : Bounds) (scope : Scope) (x : List ℕ) → IsScope cells bounds scope
+    → Obeys (mark_at scope (Indexed x)) → HasCells bounds (range_of 2 cells x)
 has_cells cells bounds scope x s h =
     let served : 2 + cell_total scope.cells ≤ bounds.cells = subst (λ (ds : List Declaration). 2 + cell_total ds ≤ bounds.cells) (sym s.cells_are) s.served in
     let some : is_nothing (meaning_at scope x) ≡ false = h 0 Unknown (omega arith) in
@@ -173,7 +179,8 @@ less_by : (n : ℕ) → nat_le MOST_LOCALS n ≡ false → n < MOST_LOCALS
 less_by n h = grind (arith, h)
 
 -- a part has at most 64 `let` statements
-let_room : (cells : List Declaration) (bounds : Bounds) (scope : Scope) (x : List ℕ) → IsScope cells bounds scope → Obeys (mark_at scope (DeclaredLocal x)) → length scope.lets < MOST_LOCALS
+let_room : (cells : List Declaration) (bounds : Bounds) (scope : Scope) (x : List ℕ) → IsScope cells bounds scope
+    → Obeys (mark_at scope (DeclaredLocal x)) → length scope.lets < MOST_LOCALS
 let_room cells bounds scope x s h = less_by (length scope.lets) (h 4 Unknown (omega arith))
 
 -- a scope further on in the part
@@ -185,13 +192,15 @@ stays : (cells : List Declaration) (bounds : Bounds) (scope : Scope) → IsScope
 stays cells bounds scope s = record { is_scope = s; more = omega arith }
 
 -- after a block
-leaves : (cells : List Declaration) (bounds : Bounds) (scope inner : Scope) → IsScope cells bounds scope → Continues cells bounds scope inner → Continues cells bounds scope (leave scope inner)
+leaves : (cells : List Declaration) (bounds : Bounds) (scope inner : Scope) → IsScope cells bounds scope → Continues cells bounds scope inner
+    → Continues cells bounds scope (leave scope inner)
 leaves cells bounds scope inner s f = record {
   is_scope = record { cells_are = f.is_scope.cells_are; served = s.served; covered = omega (arith, s.covered, f.more); few = f.is_scope.few };
   more = f.more;
 }
 
-then_continues : (cells : List Declaration) (bounds : Bounds) (a b c : Scope) → Continues cells bounds a b → Continues cells bounds b c → Continues cells bounds a c
+then_continues : (cells : List Declaration) (bounds : Bounds) (a b c : Scope) → Continues cells bounds a b → Continues cells bounds b c
+    → Continues cells bounds a c
 then_continues cells bounds a b c f g = record { is_scope = g.is_scope; more = omega (arith, f.more, g.more) }
 
 mutual
@@ -215,14 +224,16 @@ mutual
       let blocks = all_back Obeys es (ma ++ mb) o in
       let first = leaves cells bounds scope (after_statements scope a) s (continue_all cells bounds a scope s (all_front Obeys ma mb blocks)) in
       let second = continue_all cells bounds b (after_block scope a) first.is_scope (all_back Obeys ma mb blocks) in
-      leaves cells bounds scope (after_statements (after_block scope a) b) s (then_continues cells bounds scope (after_block scope a) (after_statements (after_block scope a) b) first second)
+      leaves cells bounds scope (after_statements (after_block scope a) b) s
+          (then_continues cells bounds scope (after_block scope a) (after_statements (after_block scope a) b) first second)
   continues cells bounds (While e a) scope s o =
       let es = marks_of_expression scope e in
       leaves cells bounds scope (after_statements scope a) s (continue_all cells bounds a scope s (all_back Obeys es (marks_of_statements scope a) o))
   continues cells bounds (Stage kind e) scope s o = stays cells bounds scope s
   continues cells bounds (NextStage kind) scope s o = stays cells bounds scope s
 
-  continue_all : (cells : List Declaration) (bounds : Bounds) (ss : Statements) (scope : Scope) → IsScope cells bounds scope → Obey (marks_of_statements scope ss)
+  continue_all : (cells : List Declaration) (bounds : Bounds) (ss : Statements) (scope : Scope) → IsScope cells bounds scope
+      → Obey (marks_of_statements scope ss)
       → Continues cells bounds scope (after_statements scope ss)
   continue_all cells bounds Empty scope s o = stays cells bounds scope s
   continue_all cells bounds (Then t ss) scope s o =
@@ -243,15 +254,18 @@ visible_after scope (Stage kind e) = refl
 visible_after scope (NextStage kind) = refl
 
 mutual
-  statement_in_bounds : (cells : List Declaration) (bounds : Bounds) (t : Statement) (scope : Scope) → IsScope cells bounds scope → Obey (marks_of_statement scope t)
+  statement_in_bounds : (cells : List Declaration) (bounds : Bounds) (t : Statement) (scope : Scope) → IsScope cells bounds scope
+      → Obey (marks_of_statement scope t)
       → height_of_statement t ≤ bounds.depth → StatementStaysInBounds bounds (range_of 2 cells) scope.visible t
   statement_in_bounds cells bounds (Let x e) scope s o low =
       let es = marks_of_expression scope e in
       let room = let_room cells bounds scope x s (all_first Obeys (mark_at scope (DeclaredLocal x)) es o) in
-      (expression_in_bounds cells bounds scope s e 0 (all_rest Obeys (mark_at scope (DeclaredLocal x)) es o) (omega (arith, low)), omega (arith, room, s.covered))
+      (expression_in_bounds cells bounds scope s e 0 (all_rest Obeys (mark_at scope (DeclaredLocal x)) es o) (omega (arith, low)), omega
+          (arith, room, s.covered))
   statement_in_bounds cells bounds (Assign x e) scope s o low =
       let es = marks_of_expression scope e in
-      (expression_in_bounds cells bounds scope s e 0 (all_rest Obeys (mark_at scope (Plain x)) es o) (omega (arith, low)), known cells bounds scope x s (all_first Obeys (mark_at scope (Plain x)) es o))
+      (expression_in_bounds cells bounds scope s e 0 (all_rest Obeys (mark_at scope (Plain x)) es o) (omega (arith, low)), known cells bounds
+          scope x s (all_first Obeys (mark_at scope (Plain x)) es o))
   statement_in_bounds cells bounds (AssignElement x i e) scope s o low =
       let is = marks_of_expression scope i in
       let es = marks_of_expression scope e in
@@ -290,7 +304,8 @@ mutual
       expression_in_bounds cells bounds scope s e 0 (all_rest Obeys (mark_at scope StageWord) (marks_of_expression scope e) o) (omega (arith, low))
   statement_in_bounds cells bounds (NextStage kind) scope s o low = tt
 
-  statements_in_bounds : (cells : List Declaration) (bounds : Bounds) (ss : Statements) (scope : Scope) → IsScope cells bounds scope → Obey (marks_of_statements scope ss)
+  statements_in_bounds : (cells : List Declaration) (bounds : Bounds) (ss : Statements) (scope : Scope) → IsScope cells bounds scope
+      → Obey (marks_of_statements scope ss)
       → height_of_statements ss ≤ bounds.depth → StatementsStayInBounds bounds (range_of 2 cells) scope.visible ss
   statements_in_bounds cells bounds Empty scope s o low = tt
   statements_in_bounds cells bounds (Then t ss) scope s o low =
@@ -307,7 +322,8 @@ mutual
 -- ---- slots
 
 mutual
-  slots_of : (bounds : Bounds) (cells : List ℕ → Option CellRange) (scope : List (List ℕ)) (t : Statement) → StatementStaysInBounds bounds cells scope t → HasSlots scope t
+  slots_of : (bounds : Bounds) (cells : List ℕ → Option CellRange) (scope : List (List ℕ)) (t : Statement)
+      → StatementStaysInBounds bounds cells scope t → HasSlots scope t
   slots_of bounds cells scope (Let x e) g = g.1
   slots_of bounds cells scope (Assign x e) g = tt
   slots_of bounds cells scope (AssignElement x i e) g = tt
@@ -317,7 +333,8 @@ mutual
   slots_of bounds cells scope (Stage kind e) g = tt
   slots_of bounds cells scope (NextStage kind) g = tt
 
-  pub slots_of_all : (bounds : Bounds) (cells : List ℕ → Option CellRange) (scope : List (List ℕ)) (ss : Statements) → StatementsStayInBounds bounds cells scope ss → HaveSlots scope ss
+  pub slots_of_all : (bounds : Bounds) (cells : List ℕ → Option CellRange) (scope : List (List ℕ)) (ss : Statements)
+      → StatementsStayInBounds bounds cells scope ss → HaveSlots scope ss
   slots_of_all bounds cells scope Empty g = tt
   slots_of_all bounds cells scope (Then t ss) g = (slots_of bounds cells scope t g.0, slots_of_all bounds cells (locals_after scope t) ss g.1)
 
@@ -329,7 +346,8 @@ pub record ProgramStaysInBounds (bounds : Bounds) (tree : SyntaxTree) : Type 0 w
   pub body : StatementsStayInBounds bounds (range_of 2 tree.cells) [] tree.body
   pub last : StatementsStayInBounds bounds (range_of 2 tree.cells) [] tree.last
 
-pub program_in_bounds : (tree : SyntaxTree) (bounds : Bounds) → fault_of tree ≡ None → greatest_height tree ≤ bounds.depth → 2 + cell_total tree.cells ≤ bounds.cells
+pub program_in_bounds : (tree : SyntaxTree) (bounds : Bounds) → fault_of tree ≡ None → greatest_height tree ≤ bounds.depth
+    → 2 + cell_total tree.cells ≤ bounds.cells
     → ProgramStaysInBounds bounds tree
 program_in_bounds tree bounds obeys high served =
     let cells = tree.cells in
@@ -351,12 +369,16 @@ program_in_bounds tree bounds obeys high served =
     let h5 = greater_first (height_of_statements tree.body) (height_of_statements tree.last) in
     let h6 = greater_second (height_of_statements tree.body) (height_of_statements tree.last) in
     record {
-      init = statements_in_bounds cells bounds tree.init (opening regions.Init cells) (first_scope cells bounds regions.Init served) (all_front Obeys is (ts ++ (mb ++ ls)) after_cells)
+      init = statements_in_bounds cells bounds tree.init (opening regions.Init cells) (first_scope cells bounds regions.Init served)
+          (all_front Obeys is (ts ++ (mb ++ ls)) after_cells)
           (omega (arith, high, h1));
-      test = expression_in_bounds cells bounds (opening regions.Test cells) (first_scope cells bounds regions.Test served) tree.test 0 (all_front Obeys ts (mb ++ ls) after_init)
+      test = expression_in_bounds cells bounds (opening regions.Test cells) (first_scope cells bounds regions.Test served) tree.test 0
+          (all_front Obeys ts (mb ++ ls) after_init)
           (omega (arith, high, h2, h3));
-      body = statements_in_bounds cells bounds tree.body (opening regions.Body cells) (first_scope cells bounds regions.Body served) (all_front Obeys mb ls past_test)
+      body = statements_in_bounds cells bounds tree.body (opening regions.Body cells) (first_scope cells bounds regions.Body served)
+          (all_front Obeys mb ls past_test)
           (omega (arith, high, h2, h4, h5));
-      last = statements_in_bounds cells bounds tree.last (opening regions.Last cells) (first_scope cells bounds regions.Last served) (all_back Obeys mb ls past_test)
+      last = statements_in_bounds cells bounds tree.last (opening regions.Last cells) (first_scope cells bounds regions.Last served)
+          (all_back Obeys mb ls past_test)
           (omega (arith, high, h2, h4, h6));
     }

@@ -14,10 +14,12 @@ use Rattle.stage_code.specs.declared.instr.Instr.{Instr}
 use Rattle.stage_code.specs.declared.instr.Instr.TheVariants as instrs
 
 -- from a place of the list on there is one statement, and then the others
-statements_from : (ss : List Stmt) (i : ℕ) (s : Stmt) → i < length ss → s ≡ get_or ss i s → statements_of (drop i ss) ≡ Then (statement_of s) (statements_of (drop (i + 1) ss))
+statements_from : (ss : List Stmt) (i : ℕ) (s : Stmt) → i < length ss → s ≡ get_or ss i s
+    → statements_of (drop i ss) ≡ Then (statement_of s) (statements_of (drop (i + 1) ss))
 statements_from ss i s h e = at_drop_more statements_of ss i s h ∙ ap (λ x. Then (statement_of x) (statements_of (drop (i + 1) ss))) (sym e)
 
-pub statement_fits : (cells : List ℕ → Option CellRange) (scope first_scope : List (List ℕ)) (ss : List Stmt) (i : ℕ) (now old : List Instr) (all : Statements) (s : Stmt) → i < length ss → s ≡ get_or ss i s
+pub statement_fits : (cells : List ℕ → Option CellRange) (scope first_scope : List (List ℕ)) (ss : List Stmt) (i : ℕ) (now old : List Instr)
+    (all : Statements) (s : Stmt) → i < length ss → s ≡ get_or ss i s
     → now ++ statements_code cells scope (length now) (statements_of (drop i ss)) ≡ old ++ statements_code cells first_scope (length old) all
     → CodeFits old (statements_code cells first_scope (length old) all) → CodeFits now (statement_code cells scope (length now) (statement_of s))
 statement_fits cells scope first_scope ss i now old all s h e is few =
@@ -27,7 +29,8 @@ statement_fits cells scope first_scope ss i now old all s h e is few =
     ap (λ t. length (now ++ statements_code cells scope (length now) t)) (sym (statements_from ss i s h e)) ∙ ap length is in
     omega (arith, from, few, length-append now (code ++ rest), length-append code rest, length-append old (statements_code cells first_scope (length old) all))
 
-pub statement_slots : (scope : List (List ℕ)) (ss : List Stmt) (i : ℕ) (s : Stmt) → i < length ss → s ≡ get_or ss i s → HaveSlots scope (statements_of (drop i ss))
+pub statement_slots : (scope : List (List ℕ)) (ss : List Stmt) (i : ℕ) (s : Stmt) → i < length ss → s ≡ get_or ss i s
+    → HaveSlots scope (statements_of (drop i ss))
     → HasSlots scope (statement_of s)
 statement_slots scope ss i s h e slots = (subst (λ t. HaveSlots scope t) (statements_from ss i s h e) slots).0
 
@@ -68,21 +71,26 @@ block_left first_scope scope ss i all h is =
 
 -- ---- branches and loops
 
-if_fits : (cells : List ℕ → Option CellRange) (scope : List (List ℕ)) (e : Expression) (a b : Statements) (whole : Statement) (base : List Instr) (test body other : List Instr) → whole ≡ If e a b
-    → CodeFits base (statement_code cells scope (length base) whole) → test ≡ expression_code cells scope (length base) e → body ≡ statements_code cells scope (length base + length test + 1) a
-    → other ≡ statements_code cells scope (length base + length test + 1 + length body + 1) b → length base + length test + 1 + length body + 1 + length other ≤ LONGEST_CODE
+if_fits : (cells : List ℕ → Option CellRange) (scope : List (List ℕ)) (e : Expression) (a b : Statements) (whole : Statement) (base : List Instr)
+    (test body other : List Instr) → whole ≡ If e a b
+    → CodeFits base (statement_code cells scope (length base) whole) → test ≡ expression_code cells scope (length base) e
+    → body ≡ statements_code cells scope (length base + length test + 1) a
+    → other ≡ statements_code cells scope (length base + length test + 1 + length body + 1) b
+    → length base + length test + 1 + length body + 1 + length other ≤ LONGEST_CODE
 if_fits cells scope e a b whole base test body other is few e1 e2 e3 =
     let at = length base in
     let test' = expression_code cells scope at e in
     let body' = statements_code cells scope (at + length test' + 1) a in
     let other_at = at + length test' + 1 + length body' + 1 in
     let other' = statements_code cells scope other_at b in
-    let all : length (statement_code cells scope at whole) ≡ length (test' ++ instrs.Branch other_at ∷ (body' ++ instrs.Jump (other_at + length other') ∷ other')) = ap (λ s. length (statement_code cells scope at s)) is in
+    let all : length (statement_code cells scope at whole) ≡ length (test' ++ instrs.Branch other_at
+        ∷ (body' ++ instrs.Jump (other_at + length other') ∷ other')) = ap (λ s. length (statement_code cells scope at s)) is in
     let l1 : length test ≡ length test' = ap length e1 in
     let l2 : length body ≡ length body' = ap length e2 ∙ ap (λ n. length (statements_code cells scope (at + n + 1) a)) l1 in
     let at2 : at + length test + 1 + length body + 1 ≡ other_at = omega (arith, l1, l2) in
     let l3 : length other ≡ length other' = ap length e3 ∙ ap (λ n. length (statements_code cells scope n b)) at2 in
-    omega (arith, few, all, l1, l2, l3, length-append test' (instrs.Branch other_at ∷ (body' ++ instrs.Jump (other_at + length other') ∷ other')), length-append body' (instrs.Jump (other_at + length other') ∷ other'))
+    omega (arith, few, all, l1, l2, l3, length-append test' (instrs.Branch other_at
+        ∷ (body' ++ instrs.Jump (other_at + length other') ∷ other')), length-append body' (instrs.Jump (other_at + length other') ∷ other'))
 
 -- how long the code is after each step of an `if`
 pub record IfFits (cells : List ℕ → Option CellRange) (scope : List (List ℕ)) (a b : Statements) (at first second : ℕ) : Type 0 where
@@ -90,7 +98,8 @@ pub record IfFits (cells : List ℕ → Option CellRange) (scope : List (List �
   pub second_is : second ≡ first + length (statements_code cells scope first a) + 1
   pub other : second + length (statements_code cells scope second b) ≤ LONGEST_CODE
 
-pub if_parts : (cells : List ℕ → Option CellRange) (scope : List (List ℕ)) (e : Expression) (a b : Statements) (whole : Statement) (base c1 c2 : List Instr) (x : Instr) → whole ≡ If e a b
+pub if_parts : (cells : List ℕ → Option CellRange) (scope : List (List ℕ)) (e : Expression) (a b : Statements) (whole : Statement)
+    (base c1 c2 : List Instr) (x : Instr) → whole ≡ If e a b
     → CodeFits base (statement_code cells scope (length base) whole) → c1 ≡ base ++ expression_code cells scope (length base) e → c2 ≡ c1 ++ x ∷ []
     → IfFits cells scope a b (length base) (length c2) (length c2 + length (statements_code cells scope (length c2) a) + 1)
 if_parts cells scope e a b whole base c1 c2 x is few e1 e2 =
@@ -105,13 +114,15 @@ if_parts cells scope e a b whole base c1 c2 x is few e1 e2 =
     subst (λ n. IfFits cells scope a b at n (n + length (statements_code cells scope n a) + 1)) (sym l2)
     (record { body = omega (arith, all); second_is = refl; other = all })
 
-pub first_fits : (cells : List ℕ → Option CellRange) (scope : List (List ℕ)) (e : Expression) (a b : Statements) (whole : Statement) (base c1 c2 : List Instr) (x : Instr) → whole ≡ If e a b
+pub first_fits : (cells : List ℕ → Option CellRange) (scope : List (List ℕ)) (e : Expression) (a b : Statements) (whole : Statement)
+    (base c1 c2 : List Instr) (x : Instr) → whole ≡ If e a b
     → CodeFits base (statement_code cells scope (length base) whole) → c1 ≡ base ++ expression_code cells scope (length base) e → c2 ≡ c1 ++ x ∷ []
     → CodeFits c2 (statements_code cells scope (length c2) a)
 first_fits cells scope e a b whole base c1 c2 x is few e1 e2 = (if_parts cells scope e a b whole base c1 c2 x is few e1 e2).body
 
 -- the place after the first block
-pub between_fits : (cells : List ℕ → Option CellRange) (scope : List (List ℕ)) (e : Expression) (a b : Statements) (whole : Statement) (base c1 c2 c3 c4 : List Instr) (x y : Instr) → whole ≡ If e a b
+pub between_fits : (cells : List ℕ → Option CellRange) (scope : List (List ℕ)) (e : Expression) (a b : Statements) (whole : Statement)
+    (base c1 c2 c3 c4 : List Instr) (x y : Instr) → whole ≡ If e a b
     → CodeFits base (statement_code cells scope (length base) whole) → c1 ≡ base ++ expression_code cells scope (length base) e → c2 ≡ c1 ++ x ∷ []
     → c3 ≡ c2 ++ statements_code cells scope (length c2) a → c4 ≡ c3 ++ y ∷ [] → CodeFits c4 (statements_code cells scope (length c4) b)
 between_fits cells scope e a b whole base c1 c2 c3 c4 x y is few e1 e2 e3 e4 =
@@ -120,20 +131,23 @@ between_fits cells scope e a b whole base c1 c2 c3 c4 x y is few e1 e2 e3 e4 =
     subst (λ n. n + length (statements_code cells scope n b) ≤ LONGEST_CODE) (sym l4) (if_parts cells scope e a b whole base c1 c2 x is few e1 e2).other
 
 -- the second block
-pub second_fits : (cells : List ℕ → Option CellRange) (scope between : List (List ℕ)) (b : Statements) (c4 : List Instr) (hole : ℕ) (i : Instr) → between ≡ scope
+pub second_fits : (cells : List ℕ → Option CellRange) (scope between : List (List ℕ)) (b : Statements) (c4 : List Instr) (hole : ℕ) (i : Instr)
+    → between ≡ scope
     → CodeFits c4 (statements_code cells scope (length c4) b) → CodeFits (slice_set c4 hole i) (statements_code cells between (length (slice_set c4 hole i)) b)
 second_fits cells scope between b c4 hole i left few =
     subst (λ (names : List (List ℕ)). CodeFits (slice_set c4 hole i) (statements_code cells names (length (slice_set c4 hole i)) b)) (sym left)
     (subst (λ n. n + length (statements_code cells scope n b) ≤ LONGEST_CODE) (sym (length-set c4 hole i)) few)
 
-pub if_slots : (scope : List (List ℕ)) (e : Expression) (a b : Statements) (whole : Statement) → whole ≡ If e a b → HasSlots scope whole → HaveSlots scope a × HaveSlots scope b
+pub if_slots : (scope : List (List ℕ)) (e : Expression) (a b : Statements) (whole : Statement) → whole ≡ If e a b → HasSlots scope whole
+    → HaveSlots scope a × HaveSlots scope b
 if_slots scope e a b whole is slots = subst (λ s. HasSlots scope s) is slots
 
 pub while_slots : (scope : List (List ℕ)) (e : Expression) (a : Statements) (whole : Statement) → whole ≡ While e a → HasSlots scope whole → HaveSlots scope a
 while_slots scope e a whole is slots = subst (λ s. HasSlots scope s) is slots
 
 -- the body of a loop, and the jump after it
-pub body_fits : (cells : List ℕ → Option CellRange) (scope : List (List ℕ)) (e : Expression) (a : Statements) (whole : Statement) (base c1 c2 : List Instr) (x : Instr) → whole ≡ While e a
+pub body_fits : (cells : List ℕ → Option CellRange) (scope : List (List ℕ)) (e : Expression) (a : Statements) (whole : Statement)
+    (base c1 c2 : List Instr) (x : Instr) → whole ≡ While e a
     → CodeFits base (statement_code cells scope (length base) whole) → c1 ≡ base ++ expression_code cells scope (length base) e → c2 ≡ c1 ++ x ∷ []
     → length c2 + length (statements_code cells scope (length c2) a) + 1 ≤ LONGEST_CODE
 body_fits cells scope e a whole base c1 c2 x is few e1 e2 =
@@ -141,7 +155,9 @@ body_fits cells scope e a whole base c1 c2 x is few e1 e2 =
     let test = expression_code cells scope at e in
     let first = at + length test + 1 in
     let body = statements_code cells scope first a in
-    let all : length (statement_code cells scope at whole) ≡ length (test ++ instrs.Branch (first + length body + 1) ∷ (body ++ instrs.Jump at ∷ [])) = ap (λ s. length (statement_code cells scope at s)) is in
+    let all : length (statement_code cells scope at whole) ≡ length (test ++ instrs.Branch (first + length body + 1)
+        ∷ (body ++ instrs.Jump at ∷ [])) = ap (λ s. length (statement_code cells scope at s)) is in
     let l2 : length c2 ≡ first = omega (arith, ap length e2, length-append c1 (x ∷ []), ap length e1, length-append base test) in
     subst (λ n. n + length (statements_code cells scope n a) + 1 ≤ LONGEST_CODE) (sym l2)
-    (omega (arith, few, all, length-append test (instrs.Branch (first + length body + 1) ∷ (body ++ instrs.Jump at ∷ [])), length-append body (instrs.Jump at ∷ [])))
+    (omega (arith, few, all, length-append test (instrs.Branch (first + length body + 1) ∷ (body ++ instrs.Jump at ∷ [])), length-append body
+        (instrs.Jump at ∷ [])))

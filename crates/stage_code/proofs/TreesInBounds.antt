@@ -43,7 +43,8 @@ abbrev mutual
   StatementStaysInBounds b cells scope (Assign x e) = StaysInBounds b cells scope 0 e × IsKnown b (slot_of scope x) (cells x)
   StatementStaysInBounds b cells scope (AssignElement x i e) = StaysInBounds b cells scope 0 i × StaysInBounds b cells scope 1 e × HasCells b (cells x)
   StatementStaysInBounds b cells scope (Emit e) = StaysInBounds b cells scope 0 e × (2 ≤ b.cells)
-  StatementStaysInBounds b cells scope (If e l r) = StaysInBounds b cells scope 0 e × StatementsStayInBounds b cells scope l × StatementsStayInBounds b cells scope r
+  StatementStaysInBounds b cells scope (If e l r) = StaysInBounds b cells scope 0 e × StatementsStayInBounds b cells scope l
+      × StatementsStayInBounds b cells scope r
   StatementStaysInBounds b cells scope (While e l) = StaysInBounds b cells scope 0 e × StatementsStayInBounds b cells scope l
   StatementStaysInBounds b cells scope (Stage k e) = StaysInBounds b cells scope 0 e
   StatementStaysInBounds b cells scope (NextStage k) = Unit {0}

@@ -12,9 +12,11 @@ use Rattle.stage_code.specs.Instructions.{CodeState, CodeSetting, Transition, Ne
 pub data Follows (p : CodeSetting) : ℕ → Interaction Transition → Interaction ColumnEnd → Type 0 where
   Spends : (m : Interaction Transition) (d : Interaction ColumnEnd) → Follows p zero (Step m) (Step d)
   Steps : {n : ℕ} {m : Interaction Transition} {d : Interaction ColumnEnd} → Follows p n m d → Follows p (suc n) (Step m) (Step d)
-  Gets : {n : ℕ} {go : ℤ → Interaction Transition} {on : ℤ → Interaction ColumnEnd} (c : ℕ) → ((v : ℤ) → Follows p n (go v) (on v)) → Follows p n (Get c go) (Get c on)
+  Gets : {n : ℕ} {go : ℤ → Interaction Transition} {on : ℤ → Interaction ColumnEnd} (c : ℕ) → ((v : ℤ) → Follows p n (go v) (on v))
+      → Follows p n (Get c go) (Get c on)
   Sets : {n : ℕ} {m : Interaction Transition} {d : Interaction ColumnEnd} (c : ℕ) (v : ℤ) → Follows p n m d → Follows p n (Set c v m) (Set c v d)
-  Stages : {n : ℕ} {m : Interaction Transition} {d : Interaction ColumnEnd} (k : Kind) (i : ℤ) → Follows p n m d → Follows p n (tree.Stage k i m) (tree.Stage k i d)
+  Stages : {n : ℕ} {m : Interaction Transition} {d : Interaction ColumnEnd} (k : Kind) (i : ℤ) → Follows p n m d
+      → Follows p n (tree.Stage k i m) (tree.Stage k i d)
   Raises : {n : ℕ} (t : Trap) → Follows p n (Raise t) (Raise t)
   GoesOn : {n : ℕ} {d : Interaction ColumnEnd} (c : CodeState) → Follows p n (run_next p c) d → Follows p n (Return (Next c)) d
   Finishes : {n : ℕ} (e : ColumnEnd) → Follows p n (Return (Finish e)) (Return e)

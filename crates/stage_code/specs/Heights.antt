@@ -38,4 +38,5 @@ abbrev mutual
 
 -- how many while any part of the program runs
 abbrev pub greatest_height : SyntaxTree → ℕ
-greatest_height tree = greater (height_of_statements tree.init) (greater (height_of tree.test) (greater (height_of_statements tree.body) (height_of_statements tree.last)))
+greatest_height tree = greater (height_of_statements tree.init) (greater (height_of tree.test)
+    (greater (height_of_statements tree.body) (height_of_statements tree.last)))

@@ -48,10 +48,12 @@ fn put_iteration(
     test: &Expr,
     body: &Block,
 ) -> Result<(), NoMemory>
-    requires fits { CodeFits code.old.items (iteration_code (range_of 2 cells.now) (length code.old.items) (expression_of test.now) (statements_of body.now.statements.items)) }
+    requires fits { CodeFits code.old.items (iteration_code (range_of 2 cells.now) (length code.old.items) (expression_of test.now)
+        (statements_of body.now.statements.items)) }
     requires slots { HaveSlots [] (statements_of body.now.statements.items) }
     ensures { OnOk result (code.new.items
-        ≡ code.old.items ++ iteration_code (range_of 2 cells.now) (length code.old.items) (expression_of test.now) (statements_of body.now.statements.items)) }
+        ≡ code.old.items ++ iteration_code (range_of 2 cells.now) (length code.old.items) (expression_of test.now)
+            (statements_of body.now.statements.items)) }
 {
     let mut locals = Locals::new(alloc);
     put_expression(code, cells, &locals, test)?;

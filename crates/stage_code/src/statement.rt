@@ -49,7 +49,8 @@ fn put_let(
     name: &Name,
     e: &Expr,
 ) -> Result<(), NoMemory>
-    requires fits { CodeFits code.old.items (statement_code (range_of 2 cells.now) locals.old (length code.old.items) (Let name.now (expression_of e.now))) }
+    requires fits { CodeFits code.old.items (statement_code (range_of 2 cells.now) locals.old (length code.old.items)
+        (Let name.now (expression_of e.now))) }
     requires room { length locals.old < MOST_LOCALS }
     ensures code { OnOk result (code.new.items
         ≡ code.old.items ++ statement_code (range_of 2 cells.now) locals.old (length code.old.items) (Let name.now (expression_of e.now))) }
@@ -68,7 +69,8 @@ fn put_assign(
     name: &Name,
     e: &Expr,
 ) -> Result<(), NoMemory>
-    requires { CodeFits code.old.items (statement_code (range_of 2 cells.now) locals.now (length code.old.items) (Assign name.now (expression_of e.now))) }
+    requires { CodeFits code.old.items (statement_code (range_of 2 cells.now) locals.now (length code.old.items)
+        (Assign name.now (expression_of e.now))) }
     ensures { OnOk result (code.new.items
         ≡ code.old.items ++ statement_code (range_of 2 cells.now) locals.now (length code.old.items) (Assign name.now (expression_of e.now))) }
 {
@@ -85,9 +87,11 @@ fn put_assign_element(
     index: &Expr,
     e: &Expr,
 ) -> Result<(), NoMemory>
-    requires { CodeFits code.old.items (statement_code (range_of 2 cells.now) locals.now (length code.old.items) (AssignElement name.now (expression_of index.now) (expression_of e.now))) }
+    requires { CodeFits code.old.items (statement_code (range_of 2 cells.now) locals.now (length code.old.items)
+        (AssignElement name.now (expression_of index.now) (expression_of e.now))) }
     ensures { OnOk result (code.new.items
-        ≡ code.old.items ++ statement_code (range_of 2 cells.now) locals.now (length code.old.items) (AssignElement name.now (expression_of index.now) (expression_of e.now))) }
+        ≡ code.old.items ++ statement_code (range_of 2 cells.now) locals.now (length code.old.items)
+            (AssignElement name.now (expression_of index.now) (expression_of e.now))) }
 {
     put_expression(code, cells, locals, index)?;
     put_expression(code, cells, locals, e)?;
@@ -206,7 +210,8 @@ pub fn put_block(
     locals: &mut Locals,
     block: &Block,
 ) -> Result<(), NoMemory>
-    requires fits { CodeFits code.old.items (statements_code (range_of 2 cells.now) locals.old (length code.old.items) (statements_of block.now.statements.items)) }
+    requires fits { CodeFits code.old.items (statements_code (range_of 2 cells.now) locals.old (length code.old.items)
+        (statements_of block.now.statements.items)) }
     requires slots { HaveSlots locals.old (statements_of block.now.statements.items) }
     ensures code { OnOk result (code.new.items
         ≡ code.old.items ++ statements_code (range_of 2 cells.now) locals.old (length code.old.items) (statements_of block.now.statements.items)) }

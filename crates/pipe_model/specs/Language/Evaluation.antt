@@ -138,8 +138,10 @@ abbrev pub evaluate : Setting → List Local → Expression → Interaction ℤ
 evaluate setting locals (Number n) = Step (Return n)
 evaluate setting locals (Name x) = Step (named_value (local_value locals x) (setting.cells x))
 evaluate setting locals (Element x i) = bind (evaluate setting locals i) (λ v. Step (bind (element_of (setting.cells x) v) (λ cell. Get cell Return)))
-evaluate setting locals (And a b) = bind (evaluate setting locals a) (λ x. Step (if_zero x (Return (pos 0)) (bind (evaluate setting locals b) (λ y. Return (truth_of y)))))
-evaluate setting locals (Or a b) = bind (evaluate setting locals a) (λ x. Step (if_zero x (bind (evaluate setting locals b) (λ y. Return (truth_of y))) (Return (pos 1))))
+evaluate setting locals (And a b) = bind (evaluate setting locals a) (λ x. Step
+    (if_zero x (Return (pos 0)) (bind (evaluate setting locals b) (λ y. Return (truth_of y)))))
+evaluate setting locals (Or a b) = bind (evaluate setting locals a) (λ x. Step
+    (if_zero x (bind (evaluate setting locals b) (λ y. Return (truth_of y))) (Return (pos 1))))
 evaluate setting locals (Binary code a b) = bind (evaluate setting locals a) (λ x. bind (evaluate setting locals b) (λ y. Step (operate code x y)))
 evaluate setting locals (Unary code a) = bind (evaluate setting locals a) (λ x. Step (operate_one code x))
 evaluate setting locals More = Step (Get 0 (λ cursor. Return (truth (int_lt cursor (pos (length setting.world.input))))))
@@ -166,7 +168,8 @@ emit limit v = Get 1 (λ count. if int_eq count (pos limit) then Raise traps.Out
 abbrev pub go_to_stage : ℕ → StageKind → StagePosition → ℤ → Interaction StagePosition
 go_to_stage stages kind here n =
     if int_lt here.number n
-    then (if nat_lt here.count stages then interactions.Stage (kind_of_stage kind) n (Return (record { number = n; count = here.count + 1 })) else Raise traps.StageLimit)
+    then (if nat_lt here.count stages then interactions.Stage (kind_of_stage kind) n (Return (record { number = n; count = here.count + 1 }))
+        else Raise traps.StageLimit)
     else Raise traps.StageOrder
 
 -- a missing stage number is the current one plus 1
@@ -189,13 +192,16 @@ abbrev mutual
   execute setting (Let x e) env = bind (evaluate setting env.locals e) (λ v. Step (Return (declare_local env x v)))
   execute setting (Assign x e) env = bind (evaluate setting env.locals e) (λ v. Step (assign env (local_value env.locals x) (setting.cells x) x v))
   execute setting (AssignElement x i e) env =
-      bind (evaluate setting env.locals i) (λ j. bind (evaluate setting env.locals e) (λ v. Step (bind (element_of (setting.cells x) j) (λ cell. Set cell v (Return env)))))
+      bind (evaluate setting env.locals i) (λ j. bind (evaluate setting env.locals e)
+          (λ v. Step (bind (element_of (setting.cells x) j) (λ cell. Set cell v (Return env)))))
   execute setting (Emit e) env = bind (evaluate setting env.locals e) (λ v. Step (bind (emit setting.world.emits v) (λ done. Return env)))
   execute setting (If e a b) env =
-      bind (evaluate setting env.locals e) (λ v. Step (bind (if_zero v (execute_all setting b env) (execute_all setting a env)) (λ after. Return (leave_block env after))))
+      bind (evaluate setting env.locals e) (λ v. Step (bind (if_zero v (execute_all setting b env) (execute_all setting a env))
+          (λ after. Return (leave_block env after))))
   execute setting (While e a) env = loop_turns setting.turns (λ now. evaluate setting now.locals e) (execute_all setting a) env
   execute setting (Stage kind e) env =
-      bind (evaluate setting env.locals e) (λ n. Step (bind (go_to_stage setting.world.stages kind env.stage n) (λ stage. Return (record env { stage = stage }))))
+      bind (evaluate setting env.locals e) (λ n. Step (bind (go_to_stage setting.world.stages kind env.stage n)
+          (λ stage. Return (record env { stage = stage }))))
   execute setting (NextStage kind) env = Step (bind (go_to_next_stage setting.world.stages kind env.stage) (λ stage. Return (record env { stage = stage })))
 
   -- statements one after the other

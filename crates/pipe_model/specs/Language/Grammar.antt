@@ -63,7 +63,8 @@ mutual
         (AssignElement name index e)
     EmitIs : {ts : List Symbol} {e : Expression} → Derives any_expression ts e
         → DerivesStatement (Single word_emit ∷ FullExpression ts ∷ Single semicolon ∷ []) (Emit e)
-    IfIs : {ts : List Symbol} {ps qs : List Piece} {e : Expression} {a b : Statements} → Derives any_expression ts e → DerivesBlock ps a → DerivesPart word_else qs b
+    IfIs : {ts : List Symbol} {ps qs : List Piece} {e : Expression} {a b : Statements} → Derives any_expression ts e → DerivesBlock ps a
+        → DerivesPart word_else qs b
         → DerivesStatement (Single word_if ∷ Single open_round ∷ FullExpression ts ∷ Single close_round ∷ (ps ++ qs)) (If e a b)
     WhileIs : {ts : List Symbol} {ps : List Piece} {e : Expression} {a : Statements} → Derives any_expression ts e → DerivesBlock ps a
         → DerivesStatement (Single word_while ∷ Single open_round ∷ FullExpression ts ∷ Single close_round ∷ ps) (While e a)
@@ -122,7 +123,8 @@ limits_before iterations stages steps emits ps =
 -- a program: limits, cells, what runs before the loop, the loop with its test and body, and what runs after it
 pub data DerivesProgram : List Piece → SyntaxTree → Type 0 where
   ProgramIs : {cs is bs ls : List Piece} {ts : List Symbol} {cells : List Declaration} {init body last : Statements} {test : Expression}
-      (iterations stages steps emits : ℤ) → DerivesCells cs cells → DerivesPart word_init is init → Derives any_expression ts test → DerivesBlock bs body → DerivesPart word_final ls last
+      (iterations stages steps emits : ℤ) → DerivesCells cs cells → DerivesPart word_init is init → Derives any_expression ts test
+          → DerivesBlock bs body → DerivesPart word_final ls last
       → DerivesProgram
       (limits_before iterations stages steps emits
       (cs ++ (is ++ Single word_pipe_while ∷ Single open_round ∷ FullExpression ts ∷ Single close_round ∷ (bs ++ ls))))

@@ -73,7 +73,8 @@ abbrev pub interpret : {A : Type 0} → InitialStore → List Access → ℕ →
 interpret store base budget (Return a) k = Returned a k
 interpret store base budget (Raise t) k = Raised t k
 interpret store base budget (Step d) k = spend_step k.left (Raised Budget k) (λ n. interpret store base budget d (record k { left = n }))
-interpret store base budget (Get c go) k = interpret store base budget (go (value_seen store base k c)) (progress_with k (Accessed (read_access c (value_seen store base k c))))
+interpret store base budget (Get c go) k = interpret store base budget (go (value_seen store base k c))
+    (progress_with k (Accessed (read_access c (value_seen store base k c))))
 interpret store base budget (Set c v d) k = interpret store base budget d (progress_with k (Accessed (write_access c v)))
 interpret store base budget (Stage kind n d) k = interpret store base budget d (record { actions = k.actions ++ Staged kind n ∷ []; left = budget })
 

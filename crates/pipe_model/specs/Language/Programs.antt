@@ -26,7 +26,8 @@ declared_values (d ∷ ds) = replicate (declared_size d.size) d.value ++ declare
 -- the cells of a name; those of the first declaration begin at `next`
 abbrev pub range_of : ℕ → List Declaration → List ℕ → Option CellRange
 range_of next [] x = None
-range_of next (d ∷ ds) x = if bytes_eq d.name x then Some (record { first = next; size = declared_size d.size }) else range_of (next + declared_size d.size) ds x
+range_of next (d ∷ ds) x = if bytes_eq d.name x then Some (record { first = next; size = declared_size d.size }) else range_of
+    (next + declared_size d.size) ds x
 
 -- the setting of iteration i; `turns` is more than any of its loops can make, since each turn takes a step of an instance's budget
 abbrev pub setting_of : SyntaxTree → List ℤ → ℕ → Setting

@@ -26,7 +26,8 @@ has_known_operators (Name x) = true
 has_known_operators (Element x i) = has_known_operators i
 has_known_operators (And a b) = has_known_operators a && has_known_operators b
 has_known_operators (Or a b) = has_known_operators a && has_known_operators b
-has_known_operators (Binary code a b) = (nat_le operator_codes.OR code && nat_le code operator_codes.REMAINDER) && (has_known_operators a && has_known_operators b)
+has_known_operators (Binary code a b) = (nat_le operator_codes.OR code && nat_le code operator_codes.REMAINDER) &&
+    (has_known_operators a && has_known_operators b)
 has_known_operators (Unary code a) = (nat_le operator_codes.NEGATIVE code && nat_le code operator_codes.NOT) && has_known_operators a
 has_known_operators More = true
 has_known_operators Take = true

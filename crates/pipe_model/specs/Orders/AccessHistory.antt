@@ -28,7 +28,8 @@ race_with down right x kind (Some y) rest = if is_ordered down right y x then re
 -- the kept access that an access races with, if there is one; a read is compared with the writer alone
 abbrev pub check_access : (NodeId → ℕ) → (NodeId → ℕ) → AccessHistory → NodeId → AccessKind → Option NotedAccess
 check_access down right kept x Read = race_with down right x Write kept.writer None
-check_access down right kept x Write = race_with down right x Write kept.writer (race_with down right x Read kept.rightmost (race_with down right x Read kept.downmost None))
+check_access down right kept x Write = race_with down right x Write kept.writer
+    (race_with down right x Read kept.rightmost (race_with down right x Read kept.downmost None))
 
 -- the later of two in an order
 abbrev pub later : (NodeId → ℕ) → Option NodeId → NodeId → NodeId
@@ -53,7 +54,8 @@ race_or n (Some e) rest = Some (record { number = n; earlier = e })
 -- the first race of these accesses, which are numbered from n, if this history was kept before them
 abbrev pub found_race_from : (NodeId → ℕ) → (NodeId → ℕ) → ℕ → AccessHistory → List NotedAccess → Option FoundRace
 found_race_from down right n kept [] = None
-found_race_from down right n kept (x ∷ xs) = race_or n (check_access down right kept x.who x.kind) (found_race_from down right (suc n) (updated_history down right kept x.who x.kind) xs)
+found_race_from down right n kept (x ∷ xs) = race_or n (check_access down right kept x.who x.kind)
+    (found_race_from down right (suc n) (updated_history down right kept x.who x.kind) xs)
 
 -- the first race that the history finds in the accesses to a cell
 abbrev pub found_race : (NodeId → ℕ) → (NodeId → ℕ) → List NotedAccess → Option FoundRace

@@ -17,4 +17,5 @@ report_found columns cell accesses (Some race) = report_of columns cell race.ear
 -- the reports of all cells below a number
 abbrev pub reports_below : List (List Node) → List NodeId → List NodeAccess → ℕ → List Report
 reports_below columns starts accesses zero = []
-reports_below columns starts accesses (suc c) = reports_below columns starts accesses c ++ report_found columns c (accesses_to c accesses) (found_race_of_cell columns starts accesses c)
+reports_below columns starts accesses (suc c) = reports_below columns starts accesses c ++ report_found columns c (accesses_to c accesses)
+    (found_race_of_cell columns starts accesses c)

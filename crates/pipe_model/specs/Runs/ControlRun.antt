@@ -16,4 +16,5 @@ is_access Stop = false
 -- the events are a run of the control part, which leads to the state
 pub data ControlRun (limit : ℕ) : List Event → State → Type 0 where
   EmptyControlRun : ControlRun limit [] initial_state
-  ControlRunThen : {events : List Event} {c : State} → ControlRun limit events c → (e : Event) → is_access e ≡ false → c.stopped ≡ false → ControlAllows limit c e → ControlRun limit (events ++ e ∷ []) (next_state c e)
+  ControlRunThen : {events : List Event} {c : State} → ControlRun limit events c → (e : Event) → is_access e ≡ false → c.stopped ≡ false
+      → ControlAllows limit c e → ControlRun limit (events ++ e ∷ []) (next_state c e)

@@ -145,12 +145,17 @@ pub record InTicketOrder (book : List BookEntry) (made : ℕ → ℕ → List Ti
 
 -- the properties of the logs of a closed run; `made i k` are the accesses of instance k of iteration i with their tickets,
 -- and the accesses to a cell are in the shard of its number modulo `width`
-pub record ClosedLogs (p : Pipeline) (limit width : ℕ) (book : List BookEntry) (shards : ℕ → List ShardEntry) (made : ℕ → ℕ → List TimedAction) (c : State) : Type 0 where
+pub record ClosedLogs (p : Pipeline) (limit width : ℕ) (book : List BookEntry) (shards : ℕ → List ShardEntry) (made : ℕ → ℕ → List TimedAction)
+    (c : State) : Type 0 where
   pub control : ControlRun limit (map (λ b. b.event) book) c
   pub order : InTicketOrder book made
   pub stop_last : (t : ℕ) → Among (record { ticket = t; event = Stop }) book → (k : ℕ) (e : ShardEntry) → Among e (shards k) → e.ticket < t
   pub cells : (k : ℕ) (e : ShardEntry) → Among e (shards k) → e.access.cell.0 % width ≡ k
-  pub replies : (k : ℕ) (front rest : List ShardEntry) (e : ShardEntry) → shards k ≡ front ++ e ∷ rest → HasReply p.store (p.preamble ++ map (λ x. x.access) front) e.access
-  pub in_trace : (k : ℕ) (e : ShardEntry) → Among e (shards k) → Among (record { ticket = e.ticket; action = Accessed e.access }) (made e.node.iteration e.node.index)
-  pub of_trace : (i k : ℕ) (x : TimedAction) → Among x (made i k) → (a : Cell_access) × (x.action ≡ Accessed a) × Among (record { ticket = x.ticket; node = record { iteration = i; index = k }; access = a }) (shards (a.cell.0 % width))
+  pub replies : (k : ℕ) (front rest : List ShardEntry) (e : ShardEntry) → shards k ≡ front ++ e ∷ rest
+      → HasReply p.store (p.preamble ++ map (λ x. x.access) front) e.access
+  pub in_trace : (k : ℕ) (e : ShardEntry) → Among e (shards k)
+      → Among (record { ticket = e.ticket; action = Accessed e.access }) (made e.node.iteration e.node.index)
+  pub of_trace : (i k : ℕ) (x : TimedAction) → Among x (made i k)
+      → (a : Cell_access) × (x.action ≡ Accessed a) × Among (record
+      { ticket = x.ticket; node = record { iteration = i; index = k }; access = a }) (shards (a.cell.0 % width))
   pub program : (i : ℕ) → Performs (p.behaviour i) (map (λ x. x.action) (laid_traces (made i) 0 (end_actions i book)))

@@ -38,6 +38,7 @@ pub record InstancesAreOrdered (columns : List (List Node)) (book : List BookEnt
   pub left : (i j k start : ℕ) → left_parent columns (suc i) k ≡ Some j → start_ticket_of book (suc i) k ≡ Some start → StartsAfterEnd book i j (suc i) k
 
 -- all of a run's tickets are in order. Logs need only keep the first half: the second follows from the events of the book.
-pub record TicketsAreInOrder (columns : List (List Node)) (book : List BookEntry) (shards : ℕ → List ShardEntry) (made : ℕ → ℕ → List TimedAction) : Type 0 where
+pub record TicketsAreInOrder (columns : List (List Node)) (book : List BookEntry) (shards : ℕ → List ShardEntry)
+    (made : ℕ → ℕ → List TimedAction) : Type 0 where
   pub logs : TicketsRiseInLogs book shards made
   pub instances : InstancesAreOrdered columns book

@@ -11,7 +11,8 @@ pub check_block-returns-in_err-next-clause-marks : goal.check_block-returns-in_e
 check_block-returns-in_err-next-clause-marks t c =
     let p = err_from_is_err_and c.from_residual.result c.from_residual.ensures.1 in
     let w : c.loop-s.s-index < length c.deref-s-items.result.now = omega arith in
-    rw (p.1, p.2) (block_refused c.loop-s.scope c.deref-s-items.result.now c.loop-s.s-index c.loop-s.next c.s-item.result _ _ w c.s-item.is c.loop-s.invariant.faults
+    rw (p.1, p.2) (block_refused c.loop-s.scope c.deref-s-items.result.now c.loop-s.s-index c.loop-s.next c.s-item.result _ _ w c.s-item.is
+        c.loop-s.invariant.faults
     c.in_err-next.ensures.marks)
 
 pub check_block-check_statement-requires : goal.check_block-check_statement-requires
@@ -28,7 +29,8 @@ check_block-check_statement-requires t c =
 pub check_block-loop-s-preserved : goal.check_block-loop-s-preserved
 check_block-loop-s-preserved t c =
     let w : c.loop-s.s-index < length c.deref-s-items.result.now = omega arith in
-    let step = statement_passed c.loop-s.scope c.check_statement.new.scope c.deref-s-items.result.now c.loop-s.s-index c.loop-s.next c.in_ok-next.next c.s-item.result w c.s-item.is
+    let step = statement_passed c.loop-s.scope c.check_statement.new.scope c.deref-s-items.result.now c.loop-s.s-index c.loop-s.next
+        c.in_ok-next.next c.s-item.result w c.s-item.is
     c.in_ok-next.ensures.marks c.in_ok-next.ensures.scope_after in
     record {
       faults = step.faults ∙ c.loop-s.invariant.faults;
@@ -79,8 +81,10 @@ check_statement-returns-in_ok-next-in-If-2-clause-marks t c =
 pub check_statement-returns-in_ok-next-in-If-2-clause-scope_after : goal.check_statement-returns-in_ok-next-in-If-2-clause-scope_after
 check_statement-returns-in_ok-next-in-If-2-clause-scope_after t c =
     let is = ap statement_of c.in-If.is ∙ if_seen c.in-If.e c.in-If.a c.in-If.b in
-    on_ok_weaker c.check_block-in-If.result (λ left. branch_left c.args.scope.now c.check_block.new.scope c.check_block-in-If.new.scope (expression_of c.in-If.e)
-    (statements_of c.in-If.a.statements.items) (statements_of c.in-If.b.statements.items) _ is c.in_ok-next-in-If-2.ensures.scope_after left) c.check_block-in-If.ensures.scope_after
+    on_ok_weaker c.check_block-in-If.result (λ left. branch_left c.args.scope.now c.check_block.new.scope c.check_block-in-If.new.scope
+        (expression_of c.in-If.e)
+    (statements_of c.in-If.a.statements.items) (statements_of c.in-If.b.statements.items) _ is c.in_ok-next-in-If-2.ensures.scope_after left)
+        c.check_block-in-If.ensures.scope_after
 
 pub check_statement-returns-in_err-next-in-While-clause-marks : goal.check_statement-returns-in_err-next-in-While-clause-marks
 check_statement-returns-in_err-next-in-While-clause-marks t c =

@@ -13,7 +13,8 @@ loop-row-preserved g c =
     let within : i < length rows = search rules in
     let more : take (i + 1) rows ≡ take i rows ++ row ∷ [] = take_more rows i _ within in
     elim c.if-begins.branch [
-      | then-begins+then-outdoes w ↦ rw (more, w.best-is) (takes _ _ _ row c.loop-row.invariant (c.begins.ensures.0 w.if-begins.true) (w.outdoes.ensures.0 w.if-outdoes.true))
+      | then-begins+then-outdoes w ↦ rw (more, w.best-is) (takes _ _ _ row c.loop-row.invariant (c.begins.ensures.0 w.if-begins.true)
+          (w.outdoes.ensures.0 w.if-outdoes.true))
       | else-begins w ↦ rw (more, w.best-is) (keeps _ _ _ row c.loop-row.invariant (elim w.else-begins.branch [
         | else-begins-via-then-begins+else-outdoes v ↦ λ front out. false≢true (sym v.if-outdoes.false ∙ v.outdoes.ensures.1 out)
         | else-begins-via-else-begins v ↦ λ front out. false≢true (sym v.if-begins.false ∙ c.begins.ensures.1 front)

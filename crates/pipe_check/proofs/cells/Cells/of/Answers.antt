@@ -29,7 +29,8 @@ loop-cell-preserved c =
     let some : (declared_size d.size == 0) ≡ false = grind (arith, counted, c.if-count-eq0.false) in
     let fits : nat_lt 65536 (cell_total before + declared_size d.size) ≡ false = le-ltb 65536 _ (omega (arith, few, counted, table.total_is)) in
     record {
-      table = subst (λ (ds : List Declaration). IsCellTable c.insert.new.self (c.loop-cell.total + c.in-Some.count) ds) (sym (take_next cells i d within c.cell-item.is))
+      table = subst (λ (ds : List Declaration). IsCellTable c.insert.new.self (c.loop-cell.total + c.in-Some.count) ds)
+          (sym (take_next cells i d within c.cell-item.is))
           (table_more c.loop-cell.sizes c.insert.new.self c.loop-cell.total c.in-Some.count before d c.as_bytes-in-loop-cell.result table
           c.as_bytes-in-loop-cell.ensures new counted few (since_ok _ c.insert.result c.in_ok-map_err.ensures.variant c.insert.ensures.updates).0);
       numbered = ap (λ n. n + 1) c.loop-cell.invariant.numbered;
