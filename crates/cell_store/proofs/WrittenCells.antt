@@ -120,7 +120,7 @@ writes_output : (store : InitialStore) (before : List Access) (state : ShardStat
 writes_output store before state output v mine there e was =
     let vs = written 1 before in
     let emitted : output ≡ take store.output_limit (vs ++ v ∷ []) = e
-        ∙ output_then store before state.shard.output_limit state.output v was.limit (was.output mine) in
+    ∙ output_then store before state.shard.output_limit state.output v was.limit (was.output mine) in
     let count : length output ≡ min store.output_limit (length (vs ++ v ∷ [])) = ap length emitted ∙ length-take store.output_limit (vs ++ v ∷ []) in
     record {
       cells = was.cells;

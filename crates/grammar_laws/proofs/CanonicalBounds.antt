@@ -117,7 +117,7 @@ more_deep {us} {ts} t p d = record {
   deep = λ n rest other h c.
       rw (peak_plain n t (us ++ rest) p)
       (let x = d.deep n rest other h c in let y = peak_least n (us ++ rest) in
-          greater_least n (peak n (us ++ rest)) (most_open (n + c) c (ts ++ other)) (omega (arith, x, y)) x);
+      greater_least n (peak n (us ++ rest)) (most_open (n + c) c (ts ++ other)) (omega (arith, x, y)) x);
 }
 
 pub both_deep : {us ts vs ws : List Symbol} → NoDeeper us ts → NoDeeper vs ws → NoDeeper (us ++ vs) (ts ++ ws)
@@ -172,7 +172,7 @@ nested_lifts {us} a b p l = record { lift = inside }
         rw (peak_close n a b rest p, peak_close (suc n) a b other p) (greater_both (suc n) (peak n rest) (suc (suc n)) (peak (suc n) other) (omega arith) h) in
         rw (append_assoc us (b ∷ []) rest, append_assoc us (b ∷ []) other, peak_open n a b (us ++ b ∷ rest) p, peak_open (suc n) a b (us ++ b ∷ other) p)
         (greater_both n (peak (suc n) (us ++ b ∷ rest)) (suc n) (peak (suc (suc n)) (us ++ b ∷ other)) (omega arith)
-            (l.lift (suc n) (b ∷ rest) (b ∷ other) following))
+        (l.lift (suc n) (b ∷ rest) (b ∷ other) following))
 
 -- without the outer brackets
 pub fewer_deep : {us ts : List Symbol} (a b : Symbol) → IsPair a b → Lifts us → NoDeeper us ts → NoDeeper us (a ∷ (ts ++ b ∷ []))
@@ -330,7 +330,7 @@ joined_least level code left right a b e eq l j x y =
     let own = j.level in
     let next : suc level ≡ level_of code + 1 = omega (arith, eq) in
     let here : symbols_at_level level (level_in e) (expression_symbols e) ≡ two_place_symbols code (level_in a) (level_in b)
-        (expression_symbols a) (expression_symbols b) =
+    (expression_symbols a) (expression_symbols b) =
     at_its_level level (level_in e) (expression_symbols e) (omega (arith, eq, own)) ∙ j.same in
     let first = subst (λ k. NoMore (symbols_at_level k (level_in a) (expression_symbols a)) left) (sym eq) x.no_more in
     let second = subst (λ k. NoMore (symbols_at_level k (level_in b) (expression_symbols b)) right) next y.no_more in
@@ -396,7 +396,7 @@ most_within bound o c (t ∷ ts) h =
     let here = h [] (t ∷ ts) refl in
     greater_least (o - c) (most_open (o + ones (is_opening_bracket t)) (c + ones (is_closing_bracket t)) ts) bound (omega (arith, here))
     (most_within bound (o + ones (is_opening_bracket t)) (c + ones (is_closing_bracket t)) ts
-        (λ before after e. following before after e (h (t ∷ before) after (ap (λ x. t ∷ x) e))))
+    (λ before after e. following before after e (h (t ∷ before) after (ap (λ x. t ∷ x) e))))
   where
     following : (before after : List Symbol) → ts ≡ before ++ after
         → (o + count_by is_opening_bracket (t ∷ before)) - (c + count_by is_closing_bracket (t ∷ before)) ≤ bound

@@ -93,7 +93,7 @@ expression_derived (Binary code a b) h =
     (two_place code a b (expression_symbols a) (expression_symbols b) la lb (expression_derived a h.2) (expression_derived b h.3))
 expression_derived (Unary code a) h =
     let l = level_from a h.1 in one_place code a _ h.0 (at_level_derives operand_level (level_in a) a (expression_symbols a) (omega arith) l
-        (expression_derived a h.1))
+    (expression_derived a h.1))
 expression_derived More h = CallsMore
 expression_derived Take h = CallsTake
 expression_derived Iter h = CallsIter

@@ -116,8 +116,10 @@ space : Writing Any (codes " ") []
 space = record { writes = λ rest found h d. Space 32 refl d }
 
 is : Writing Any (codes " = ") (equals ∷ [])
-is = record { writes = λ rest found h d. Space 32 refl (Puts (61 ∷ []) equals (spaced_token (61 ∷ []) rest equals refl (λ more. refl) refl) tt
-    (Space 32 refl d)) }
+is = record {
+  writes = λ rest found h d. Space 32 refl (Puts (61 ∷ []) equals (spaced_token (61 ∷ []) rest equals refl (λ more. refl) refl) tt
+      (Space 32 refl d));
+}
 
 -- a word, a space, and the text after them
 word_then : {G : List ℕ → Type 0} {u : List ℕ} {us : List Symbol} (text : List ℕ) (k : ℕ) → begins_letter text ≡ true → symbol_of text ≡ Some (symbols.Word k)
@@ -264,14 +266,14 @@ choice_symbols : (es : List Symbol) (a : List Piece) (more : List Piece)
 choice_symbols es a more =
     let inner : flat ((a ++ Single close_brace ∷ []) ++ more) ≡ flat a ++ (close_brace ∷ flat more) =
     flat_append (a ++ Single close_brace ∷ []) more ∙ ap (λ x. x ++ flat more) (flat_append a (Single close_brace ∷ []))
-        ∙ append_assoc (flat a) (close_brace ∷ []) (flat more) in
+    ∙ append_assoc (flat a) (close_brace ∷ []) (flat more) in
     append_assoc es (close_round ∷ open_brace ∷ []) (flat a ++ (close_brace ∷ flat more)) ∙ ap (λ x. es ++ close_round ∷ open_brace ∷ x) (sym inner)
 
 block_symbols : (es : List Symbol) (a : List Piece)
     → (es ++ close_round ∷ open_brace ∷ []) ++ (flat a ++ close_brace ∷ []) ≡ es ++ close_round ∷ flat (block_pieces a)
 block_symbols es a =
     append_assoc es (close_round ∷ open_brace ∷ []) (flat a ++ close_brace ∷ [])
-        ∙ ap (λ x. es ++ close_round ∷ open_brace ∷ x) (sym (flat_append a (Single close_brace ∷ [])))
+    ∙ ap (λ x. es ++ close_round ∷ open_brace ∷ x) (sym (flat_append a (Single close_brace ∷ [])))
 
 stage_writing : (n : ℕ) (kind : StageKind) (e : Expression) → IsWritable e
     → Writing Any (statement_text n (Stage kind e)) (flat (statement_pieces (Stage kind e)))
@@ -279,7 +281,7 @@ stage_writing n kinds.Wait e h =
     line_writing n (any_edge (both (word (codes "pipe_wait") 9 refl refl) (next round (closed e h (next round_end end) (λ rest f. refl))) (λ rest f. refl)))
 stage_writing n kinds.Continue e h =
     line_writing n (any_edge (both (word (codes "pipe_continue") 10 refl refl) (next round (closed e h (next round_end end) (λ rest f. refl)))
-        (λ rest f. refl)))
+    (λ rest f. refl)))
 
 next_stage_writing : (n : ℕ) (kind : StageKind) → Writing Any (statement_text n (NextStage kind)) (flat (statement_pieces (NextStage kind)))
 next_stage_writing n kinds.Wait =
@@ -331,7 +333,7 @@ limits_writing tree h =
     (next comma_sign (next space (field (codes "stages") 3 tree.limits.stages refl refl h.stages
     (next comma_sign (next space (field (codes "steps") 4 tree.limits.steps refl refl h.steps
     (next comma_sign (next space (field (codes "emits") 5 tree.limits.emits refl refl h.emits end (λ rest. refl)))) (λ rest. refl))))
-        (λ rest. refl)))) (λ rest. refl))))
+    (λ rest. refl)))) (λ rest. refl))))
 
 -- a declared value before a sign
 value_writing : {u : List ℕ} {us : List Symbol} (z : ℤ) → IsDeclaredValue z → Writing Any u us → ((rest : List ℕ) → SymbolEdge (u ++ rest))
@@ -392,7 +394,7 @@ program_symbols : (cs is bs ls : List Piece) (ts : List Symbol)
     ≡ flat (cs ++ (is ++ Single word_pipe_while ∷ Single open_round ∷ FullExpression ts ∷ Single close_round ∷ (bs ++ ls)))
 program_symbols cs is bs ls ts =
     ap (λ x. flat cs ++ (flat is ++ word_pipe_while ∷ open_round ∷ x)) (append_assoc ts (close_round ∷ flat bs) (flat ls) ∙ ap
-        (λ x. ts ++ close_round ∷ x) (sym (flat_append bs ls)))
+    (λ x. ts ++ close_round ∷ x) (sym (flat_append bs ls)))
     ∙ ap (λ x. flat cs ++ x) (sym (flat_append is (Single word_pipe_while ∷ Single open_round ∷ FullExpression ts ∷ Single close_round ∷ (bs ++ ls))))
     ∙ sym (flat_append cs (is ++ Single word_pipe_while ∷ Single open_round ∷ FullExpression ts ∷ Single close_round ∷ (bs ++ ls)))
 
@@ -400,7 +402,7 @@ program_symbols cs is bs ls ts =
 program_writing : (tree : SyntaxTree) → IsWritableProgram tree → Writing Any (program_text tree) (flat (program_pieces tree))
 program_writing tree h =
     same (ap (λ x. word_limits ∷ word_iterations ∷ symbols.Number tree.limits.iterations ∷ comma ∷ word_stages ∷ symbols.Number
-        tree.limits.stages ∷ comma ∷ word_steps
+    tree.limits.stages ∷ comma ∷ word_steps
     ∷ symbols.Number tree.limits.steps ∷ comma ∷ word_emits ∷ symbols.Number tree.limits.emits ∷ semicolon ∷ x)
     (program_symbols (cells_pieces tree.cells) (part_pieces 7 tree.init (statements_pieces tree.init)) (block_pieces (statements_pieces tree.body))
     (part_pieces 11 tree.last (statements_pieces tree.last)) (expression_symbols tree.test)))

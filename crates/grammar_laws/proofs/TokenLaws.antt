@@ -200,10 +200,10 @@ past_same place text following bytes rest end o tokens others stands meets whole
   | inr p ↦ (
       let same = one_stands stands p.stands (e ∙ p.parts) in
       let first : others ≡ taken place text o ++ p.others = p.first ∙ ap (λ x. taken place x p.symbol ++ p.others) (sym same.text)
-          ∙ ap (λ x. taken place text x ++ p.others) (sym same.symbol) in
+      ∙ ap (λ x. taken place text x ++ p.others) (sym same.symbol) in
       let scan : Scans (place + length text) following p.others end =
-          subst (λ x. Scans (place + length x) following p.others end) (sym same.text)
-          (subst (λ x. Scans (place + length p.text) x p.others end) (sym same.rest) p.scan) in
+      subst (λ x. Scans (place + length x) following p.others end) (sym same.text)
+      (subst (λ x. Scans (place + length p.text) x p.others end) (sym same.rest) p.scan) in
       rw first (with_front (taken place text o) tokens p.others rest end (meets p.others scan)))
 ]
 
@@ -431,7 +431,7 @@ all_stand_in source (Blank {place} {bytes} b g d) e = all_stand_in source d (aft
 all_stand_in source (Comment {place} {bytes} text h d) e = all_stand_in source d (after_front source text bytes place e)
 all_stand_in source (Taken {place} {bytes} {tokens} text s t d) e =
     All-cons (StandsIn source) (token_at place text s) tokens (stands_in source text bytes place s e t.symbol)
-        (all_stand_in source d (after_front source text bytes place e))
+    (all_stand_in source d (after_front source text bytes place e))
 
 -- each token of a source is in it, and its text there is that of its symbol
 pub tokens_stand : (source : List ℕ) (tokens : List Token) → HasTokens source tokens → All (StandsIn source) tokens

@@ -210,9 +210,13 @@ writable_cells : {ps : List Piece} {ds : List Declaration} → DerivesCells ps d
 writable_cells grammar.NoCell g = tt
 writable_cells (grammar.CellIs {ps} {qs} {rs} x s v c) g =
     let sized = others (others g) in
-    let valued = others (pieces_back ps _ sized) in
-    (first (others g), writable_size s (pieces_front ps _ sized), writable_value v (pieces_front qs _ valued), writable_cells c
-        (others (pieces_back qs _ valued)))
+    let valued = others (pieces_back ps _ sized) in (
+      first (others g),
+      writable_size s (pieces_front ps _ sized),
+      writable_value v (pieces_front qs _ valued),
+      writable_cells c
+          (others (pieces_back qs _ valued)),
+    )
 
 -- a program that good symbols derive can be written
 program_of_good : {ps : List Piece} {tree : SyntaxTree} → DerivesProgram ps tree → AreGood (flat ps) → IsWritableProgram tree

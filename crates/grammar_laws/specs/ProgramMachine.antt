@@ -41,12 +41,12 @@ abbrev pub statement_move : ℕ → Move
 statement_move word =
     if word == words.LET then Takes (AnyName ∷ Sign signs.EQUALS ∷ FullExpression ∷ Sign signs.SEMICOLON ∷ Statements ∷ [])
     else (if word == words.IF then Takes (Sign signs.OPEN_ROUND ∷ FullExpression ∷ Sign signs.CLOSE_ROUND ∷ Sign signs.OPEN_BRACE ∷ Statements
-        ∷ Sign signs.CLOSE_BRACE ∷ Part words.ELSE ∷ Statements ∷ [])
+    ∷ Sign signs.CLOSE_BRACE ∷ Part words.ELSE ∷ Statements ∷ [])
     else (if word == words.WHILE then Takes (Sign signs.OPEN_ROUND ∷ FullExpression ∷ Sign signs.CLOSE_ROUND ∷ Sign signs.OPEN_BRACE ∷ Statements
-        ∷ Sign signs.CLOSE_BRACE ∷ Statements ∷ [])
+    ∷ Sign signs.CLOSE_BRACE ∷ Statements ∷ [])
     else (if word == words.EMIT then Takes (FullExpression ∷ Sign signs.SEMICOLON ∷ Statements ∷ [])
     else (if (word == words.PIPE_WAIT) || (word == words.PIPE_CONTINUE) then Takes
-        (Sign signs.OPEN_ROUND ∷ StageNumber ∷ Sign signs.CLOSE_ROUND ∷ Sign signs.SEMICOLON ∷ Statements ∷ []) else Skips))))
+    (Sign signs.OPEN_ROUND ∷ StageNumber ∷ Sign signs.CLOSE_ROUND ∷ Sign signs.SEMICOLON ∷ Statements ∷ []) else Skips))))
 
 -- the move for a number where a number from 0 on is wanted
 abbrev pub natural_move : ℤ → Move
@@ -89,7 +89,7 @@ move StageNumber (symbols.Operator code) = Enters
 move Target (symbols.Sign b) =
     if b == signs.EQUALS then Takes (FullExpression ∷ Sign signs.SEMICOLON ∷ [])
     else (if b == signs.OPEN_SQUARE then Takes (FullExpression ∷ Sign signs.CLOSE_SQUARE ∷ Sign signs.EQUALS ∷ FullExpression ∷ Sign
-        signs.SEMICOLON ∷ []) else Refuses)
+    signs.SEMICOLON ∷ []) else Refuses)
 move Target (symbols.Name name) = Refuses
 move Target (symbols.Word k) = Refuses
 move Target (symbols.Number n) = Refuses
@@ -213,9 +213,9 @@ judge longest (t ∷ ts) s = judged longest (next s t) (length (t ∷ ts)) (judg
 abbrev pub program : List Want
 program =
     Word words.LIMITS ∷ Word words.ITERATIONS ∷ AnyNumber ∷ Sign signs.COMMA ∷ Word words.STAGES ∷ AnyNumber ∷ Sign signs.COMMA ∷ Word
-        words.STEPS ∷ AnyNumber ∷ Sign signs.COMMA ∷ Word words.EMITS ∷ AnyNumber ∷ Sign signs.SEMICOLON
+    words.STEPS ∷ AnyNumber ∷ Sign signs.COMMA ∷ Word words.EMITS ∷ AnyNumber ∷ Sign signs.SEMICOLON
     ∷ Cells ∷ Part words.INIT ∷ Word words.PIPE_WHILE ∷ Sign signs.OPEN_ROUND ∷ FullExpression ∷ Sign signs.CLOSE_ROUND ∷ Sign signs.OPEN_BRACE
-        ∷ Statements ∷ Sign signs.CLOSE_BRACE ∷ Part words.FINAL ∷ []
+    ∷ Statements ∷ Sign signs.CLOSE_BRACE ∷ Part words.FINAL ∷ []
 
 -- the machine rejects symbols at these wants with this verdict, whatever wants follow
 pub record IsRejected (longest : ℕ) (wants : List Want) (ts : List Symbol) (verdict : Verdict) : Type 0 where

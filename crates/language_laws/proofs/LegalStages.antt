@@ -118,10 +118,10 @@ mutual
       (either_by_zero v (rises-execute_all setting b env first n at) (rises-execute_all setting a env first n at)) (λ f m after known. RisesReturn known)))
   rises-execute setting (While e a) env first n at =
       rises-turns setting.turns (λ now. evaluate setting now.locals e) (execute_all setting a) env first n
-          (λ now. straight-evaluate setting now.locals e) (λ now f m known. rises-execute_all setting a now f m known) at
+      (λ now. straight-evaluate setting now.locals e) (λ now f m known. rises-execute_all setting a now f m known) at
   rises-execute setting (syntax.Stage kind e) env first n at =
       straight-then (straight-evaluate setting env.locals e) (λ v h. RisesStep
-          (rises-bind (rises-go_to_stage setting.world.stages kind env.stage first n v at) (λ f m stage known. RisesReturn known)))
+      (rises-bind (rises-go_to_stage setting.world.stages kind env.stage first n v at) (λ f m stage known. RisesReturn known)))
   rises-execute setting (NextStage kind) env first n at =
       RisesStep (rises-bind (rises-go_to_next_stage setting.world.stages kind env.stage first n at) (λ f m stage known. RisesReturn known))
 

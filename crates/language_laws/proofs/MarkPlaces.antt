@@ -21,7 +21,7 @@ broken_among : (n mark : ℕ) (marks : List Mark) (rule : CheckingRule) → firs
 broken_among n mark [] rule h = cc (h)
 broken_among n mark (m ∷ marks) rule h =
     let within = broken_here (broken_at m) (first_fault (n + 1) marks) n (length marks) mark rule (broken_among (n + 1) mark marks rule) h in
-        omega (arith, within)
+    omega (arith, within)
 
 -- if a rule is broken, no limit is out of its range
 after_limits : (o : Option ℕ) (rest : Option Fault) (rule : CheckingRule) (mark : ℕ) → limit_fault_or o rest ≡ Some (Broken rule mark)

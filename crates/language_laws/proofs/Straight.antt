@@ -82,13 +82,13 @@ straight-evaluate setting locals (Number n) = Steps (Returns tt)
 straight-evaluate setting locals (Name x) = Steps (straight-named_value (local_value locals x) (setting.cells x))
 straight-evaluate setting locals (Element x i) =
     straight-bind (straight-evaluate setting locals i) (λ v h. Steps
-        (straight-bind (straight-element_of (setting.cells x) v) (λ c k. Gets c (λ r. Returns tt))))
+    (straight-bind (straight-element_of (setting.cells x) v) (λ c k. Gets c (λ r. Returns tt))))
 straight-evaluate setting locals (And a b) =
     straight-bind (straight-evaluate setting locals a) (λ x h. Steps
-        (either_by_zero Anything x _ _ (Returns tt) (straight-bind (straight-evaluate setting locals b) (λ y k. Returns tt))))
+    (either_by_zero Anything x _ _ (Returns tt) (straight-bind (straight-evaluate setting locals b) (λ y k. Returns tt))))
 straight-evaluate setting locals (Or a b) =
     straight-bind (straight-evaluate setting locals a) (λ x h. Steps
-        (either_by_zero Anything x _ _ (straight-bind (straight-evaluate setting locals b) (λ y k. Returns tt)) (Returns tt)))
+    (either_by_zero Anything x _ _ (straight-bind (straight-evaluate setting locals b) (λ y k. Returns tt)) (Returns tt)))
 straight-evaluate setting locals (Binary code a b) =
     straight-bind (straight-evaluate setting locals a) (λ x h. straight-bind (straight-evaluate setting locals b) (λ y k. Steps (straight-operate code x y)))
 straight-evaluate setting locals (Unary code a) = straight-bind (straight-evaluate setting locals a) (λ x h. Steps (straight-operate_one code x))

@@ -48,7 +48,7 @@ closes-run_iteration : (setting : Setting) (test : Expression) (body : Statement
 closes-run_iteration setting test body last =
     straight-bind (straight-evaluate setting [] test) (λ v h. Steps (straight_by_zero IsClosing v _ _ (Returns refl)
     (let t : int_eq (pos setting.world.iteration) setting.world.iterations ≡ true =
-        (Decides-int_eq (pos setting.world.iteration) setting.world.iterations).1 last in
+    (Decides-int_eq (pos setting.world.iteration) setting.world.iterations).1 last in
     rw t (Raises traps.IterLimit))))
 
 -- a number between 1 and 65536 equals its natural number

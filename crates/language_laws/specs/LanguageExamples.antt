@@ -102,7 +102,7 @@ abbrev pub PrefixSumsHaveStages : Type 0
 PrefixSumsHaveStages =
     let two = node_of kinds.Zero (pos 0) ∷ node_of kinds.Wait (pos 1) ∷ [] in
     ComesTo prefix_sums (pos 1 ∷ pos 3 ∷ pos 6 ∷ []) None
-        × (serial_columns (pipeline_of prefix_sums []) ≡ two ∷ two ∷ two ∷ (node_of kinds.Zero (pos 0) ∷ []) ∷ [])
+    × (serial_columns (pipeline_of prefix_sums []) ≡ two ∷ two ∷ two ∷ (node_of kinds.Zero (pos 0) ∷ []) ∷ [])
 
 -- the printed lines of an output and of a trap
 abbrev pub LinesArePrinted : Type 0

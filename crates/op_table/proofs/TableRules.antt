@@ -34,13 +34,13 @@ all_lengths : (code : ℕ) (rows : List OpRow) → obey_from code rows ≡ true 
 all_lengths code [] h = All-nil (λ (row : OpRow). (1 ≤ row.length) × (row.length ≤ 2))
 all_lengths code (row ∷ rows) h =
     let f = of_first code row rows h in All-cons (λ (row : OpRow). (1 ≤ row.length) × (row.length ≤ 2)) row rows f.here.length
-        (all_lengths (code + 1) rows f.others)
+    (all_lengths (code + 1) rows f.others)
 
 all_levels : (code : ℕ) (rows : List OpRow) → obey_from code rows ≡ true → All (λ row. (1 ≤ row.level) × (row.level ≤ 6)) rows
 all_levels code [] h = All-nil (λ (row : OpRow). (1 ≤ row.level) × (row.level ≤ 6))
 all_levels code (row ∷ rows) h =
     let f = of_first code row rows h in All-cons (λ (row : OpRow). (1 ≤ row.level) × (row.level ≤ 6)) row rows f.here.level
-        (all_levels (code + 1) rows f.others)
+    (all_levels (code + 1) rows f.others)
 
 codes_rise : (code : ℕ) (rows : List OpRow) → obey_from code rows ≡ true → (k : ℕ) (d : OpRow) → k < length rows → (get_or rows k d).code ≡ k + code
 codes_rise code [] h k d within = absurd (omega arith)
@@ -56,7 +56,7 @@ symbols_differ code (row ∷ rows) h zero (suc k) d less within = λ e.
     let f = of_first code row rows h in
     let other = text_of (get_or rows k d) in
     let apart : not (bytes_eq (text_of row) other) ≡ true =
-        AllPass-from_list_all (λ other. not (bytes_eq (text_of row) (text_of other))) rows f.differs k d (omega arith) in
+    AllPass-from_list_all (λ other. not (bytes_eq (text_of row) (text_of other))) rows f.differs k d (omega arith) in
     let equal : bytes_eq (text_of row) other ≡ true = (bytes_eq-Decides (text_of row) other).1 e in
     false≢true (ap not (sym equal) ∙ apart)
 symbols_differ code (row ∷ rows) h (suc j) (suc k) d less within =

@@ -23,7 +23,7 @@ pub left_refused : (scope : Scope) (code n : ℕ) (a b whole : Expression) (refu
     → PassesMarks (Err refusal) n (marks_of_expression scope a) → PassesMarks (Err refusal) n (marks_of_expression scope whole)
 left_refused scope code n a b whole refusal is h =
     subst (λ marks. PassesMarks (Err refusal) n marks) (sym (marks_joined scope code a b) ∙ ap (marks_of_expression scope) (sym is))
-        (fails_first refusal n (marks_of_expression scope a) (marks_of_expression scope b) h)
+    (fails_first refusal n (marks_of_expression scope a) (marks_of_expression scope b) h)
 
 -- the left side passes, and the right side decides
 pub right_decides : (scope : Scope) (code n k : ℕ) (a b whole : Expression) (answer : Result ℕ CheckFault) → whole ≡ binary_expression code a b
@@ -31,4 +31,4 @@ pub right_decides : (scope : Scope) (code n k : ℕ) (a b whole : Expression) (a
     → PassesMarks answer n (marks_of_expression scope whole)
 right_decides scope code n k a b whole answer is h g =
     subst (λ marks. PassesMarks answer n marks) (sym (marks_joined scope code a b) ∙ ap (marks_of_expression scope) (sym is))
-        (passes_then answer n k (marks_of_expression scope a) (marks_of_expression scope b) h g)
+    (passes_then answer n k (marks_of_expression scope a) (marks_of_expression scope b) h g)

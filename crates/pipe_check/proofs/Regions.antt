@@ -55,21 +55,21 @@ at_cells tree s = record { decide = λ answer p. p; fit = omega (arith, s.bounde
 pub few_cells : (tree : SyntaxTree) → IsSpellable tree → length tree.cells ≤ 4194304
 few_cells tree s =
     let fits = region_fits 0 (marks_of_cells [] tree.cells) (init_marks tree ++ (test_marks tree ++ (body_marks tree ++ last_marks tree)))
-        (marks_of tree) (at_cells tree s) in
+    (marks_of tree) (at_cells tree s) in
     omega (arith, fits, cells_length [] tree.cells)
 
 pub cells_fail : (tree : SyntaxTree) (refusal : CheckFault) → IsSpellable tree → PassesMarks (Err refusal) 0 (marks_of_cells [] tree.cells)
     → PassesMarks (Err refusal) 0 (marks_of tree)
 cells_fail tree refusal s =
     region_fails refusal 0 (marks_of_cells [] tree.cells) (init_marks tree ++ (test_marks tree ++ (body_marks tree ++ last_marks tree)))
-        (marks_of tree) (at_cells tree s)
+    (marks_of tree) (at_cells tree s)
 
 -- after the declarations
 pub at_init : (tree : SyntaxTree) (k : ℕ) → IsSpellable tree → first_fault 0 (marks_of_cells [] tree.cells) ≡ None → k ≡ length tree.cells
     → AreLeft k (init_marks tree ++ (test_marks tree ++ (body_marks tree ++ last_marks tree))) (marks_of tree)
 at_init tree k s none counted =
     next_region 0 k (marks_of_cells [] tree.cells) (init_marks tree ++ (test_marks tree ++ (body_marks tree ++ last_marks tree))) (marks_of tree)
-        (at_cells tree s)
+    (at_cells tree s)
     (none, counted ∙ sym (cells_length [] tree.cells) ∙ omega arith)
 
 pub init_fits : (tree : SyntaxTree) (k : ℕ)

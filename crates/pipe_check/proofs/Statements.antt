@@ -86,8 +86,13 @@ pub block_left : (outer inner : Scope) (ss : Statements) → inner ≡ after_sta
 block_left outer inner ss is =
     let cut : Scope → Scope = λ x. record { region = x.region; cells = x.cells; visible = take (length outer.visible) x.visible; lets = x.lets } in
     let with_visible : List (List ℕ) → Scope = λ names.
-        record { region = (after_statements outer ss).region; cells = (after_statements outer ss).cells; visible = names; lets =
-        (after_statements outer ss).lets } in
+    record {
+      region = (after_statements outer ss).region;
+      cells = (after_statements outer ss).cells;
+      visible = names;
+      lets =
+          (after_statements outer ss).lets;
+    } in
     ap cut is ∙ ap with_visible (first_visible outer ss)
 
 -- ---- branches and loops, by their plain data
@@ -115,7 +120,7 @@ pub second_decides : (scope between : Scope) (n k j : ℕ) (e : Expression) (a b
     → PassesMarks answer j (marks_of_statements between b) → PassesMarks answer n (marks_of_statement scope whole)
 second_decides scope between n k j e a b whole answer is scope_after p q r =
     let second : PassesMarks answer j (marks_of_statements (after_block scope a) b) =
-        subst (λ x. PassesMarks answer j (marks_of_statements x b)) scope_after r in
+    subst (λ x. PassesMarks answer j (marks_of_statements x b)) scope_after r in
     let blocks = passes_then answer k j (marks_of_statements scope a) (marks_of_statements (after_block scope a) b) q second in
     subst (λ s. PassesMarks answer n (marks_of_statement scope s)) (sym is)
     (passes_then answer n k (marks_of_expression scope e) (marks_of_statements scope a ++ marks_of_statements (after_block scope a) b) p blocks)
@@ -135,7 +140,7 @@ second_fits scope between n k j e a b whole is scope_after h p q =
     let whole_fits : Fits n (marks_of_statement scope (If e a b)) = subst (λ s. Fits n (marks_of_statement scope s)) is h in
     let blocks = fits_then n k (marks_of_expression scope e) (marks_of_statements scope a ++ marks_of_statements (after_block scope a) b) whole_fits p in
     subst (λ x. Fits j (marks_of_statements x b)) (sym scope_after) (fits_then k j (marks_of_statements scope a)
-        (marks_of_statements (after_block scope a) b) blocks q)
+    (marks_of_statements (after_block scope a) b) blocks q)
 
 -- the scope after both blocks
 pub branch_left : (scope between after : Scope) (e : Expression) (a b : Statements) (whole : Statement) → whole ≡ If e a b → between ≡ after_block scope a
@@ -155,7 +160,7 @@ pub body_decides : (scope : Scope) (n k : ℕ) (e : Expression) (a : Statements)
     → PassesMarks answer n (marks_of_statement scope whole)
 body_decides scope n k e a whole answer is p q =
     subst (λ s. PassesMarks answer n (marks_of_statement scope s)) (sym is)
-        (passes_then answer n k (marks_of_expression scope e) (marks_of_statements scope a) p q)
+    (passes_then answer n k (marks_of_expression scope e) (marks_of_statements scope a) p q)
 
 pub body_fits : (scope : Scope) (n k : ℕ) (e : Expression) (a : Statements) (whole : Statement) → whole ≡ While e a
     → Fits n (marks_of_statement scope whole) → PassesMarks (Ok k) n (marks_of_expression scope e) → Fits k (marks_of_statements scope a)

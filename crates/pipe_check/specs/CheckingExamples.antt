@@ -62,8 +62,15 @@ body cells ss fault = record { program = program cells ss; fault = fault }
 -- a program with the cell n and the body `let x = 1; emit x;`, and these statements before the loop, this test, and these statements after the loop
 abbrev parts : List Statement → Expression → List Statement → Option Fault → CheckingExample
 parts init test last fault = record {
-  program = record { limits = limits 1 1 1 0; cells = plain n ∷ []; init = block init; test = test; body =
-      block (Let x one ∷ Emit (Name x) ∷ []); last = block last };
+  program = record {
+    limits = limits 1 1 1 0;
+    cells = plain n ∷ [];
+    init = block init;
+    test = test;
+    body =
+        block (Let x one ∷ Emit (Name x) ∷ []);
+    last = block last;
+  };
   fault = fault;
 }
 

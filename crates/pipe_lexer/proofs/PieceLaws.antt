@@ -107,7 +107,7 @@ pub word_piece : (bytes following text : List ℕ) (b m k : ℕ) → bytes ≡ b
 word_piece bytes following text b m k e letter counted t place =
     rw (e, counted) (token_piece b following _ (symbols.Word k) (prefix_len-le-length is_name_byte following)
     (as_word b following text (Some k) letter (rw (← counted) (t ∙ front_is bytes following b m e)) place) (word_is_longest b following letter)
-        (letter_no_comment b following letter) tt)
+    (letter_no_comment b following letter) tt)
 
 -- a name within its bound
 pub name_piece : (bytes following text : List ℕ) (b m : ℕ) → bytes ≡ b ∷ following → is_letter b ≡ true → m ≡ prefix_len is_name_byte following
@@ -118,7 +118,7 @@ name_piece bytes following text b m e letter counted t place short =
     let bounded : 1 + prefix_len is_name_byte following ≤ 64 = rw (← counted) (omega (arith, front_length bytes following text b m e within t, short)) in
     rw (e, counted) (token_piece b following _ (symbols.Name text) (prefix_len-le-length is_name_byte following)
     (as_word b following text None letter (rw (← counted) (t ∙ front_is bytes following b m e)) place) (word_is_longest b following letter)
-        (letter_no_comment b following letter) bounded)
+    (letter_no_comment b following letter) bounded)
 
 -- a longer name
 pub name_flaw : (bytes following text : List ℕ) (b m : ℕ) → bytes ≡ b ∷ following → is_letter b ≡ true → m ≡ prefix_len is_name_byte following
@@ -127,7 +127,7 @@ pub name_flaw : (bytes following text : List ℕ) (b m : ℕ) → bytes ≡ b �
 name_flaw bytes following text b m e letter counted t place long =
     rw e (NameIsLong text (begins_with b following _ (symbols.Name text)
     (as_word b following text None letter (rw (← counted) (t ∙ front_is bytes following b m e)) place) (word_is_longest b following letter)
-        (letter_no_comment b following letter)) long)
+    (letter_no_comment b following letter)) long)
 
 -- ---- numbers
 
@@ -137,7 +137,7 @@ number_as : (bytes following text : List ℕ) (b m : ℕ) → bytes ≡ b ∷ fo
     → symbol_of (b ∷ take (prefix_len is_digit following) following) ≡ Some (symbols.Number (pos (number_of text)))
 number_as bytes following text b m e letter digit counted t =
     number_is b following letter digit ∙ rw (← (let s : text ≡ b ∷ take (prefix_len is_digit following) following = rw (← counted)
-        (t ∙ front_is bytes following b m e) in s)) refl
+    (t ∙ front_is bytes following b m e) in s)) refl
 
 -- a number that is an `i64`
 pub number_piece : (bytes following text : List ℕ) (b m : ℕ) (v : ℤ) → bytes ≡ b ∷ following → is_letter b ≡ false → is_digit b ≡ true
@@ -146,7 +146,7 @@ pub number_piece : (bytes following text : List ℕ) (b m : ℕ) (v : ℤ) → b
 number_piece bytes following text b m v e letter digit counted t value fits =
     rw (e, counted) (token_piece b following _ (symbols.Number v) (prefix_len-le-length is_digit following)
     (rw value (number_as bytes following text b m e letter digit counted t)) (number_is_longest b following letter digit)
-        (digit_no_comment b following digit) fits)
+    (digit_no_comment b following digit) fits)
 
 -- a wider number
 pub number_flaw : (bytes following text : List ℕ) (b m : ℕ) → bytes ≡ b ∷ following → is_letter b ≡ false → is_digit b ≡ true

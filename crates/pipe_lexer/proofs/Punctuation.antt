@@ -91,7 +91,7 @@ no_front rows bytes row h among front = All-contains (λ other. StartsWith (text
 operator_is_some : (row : OpRow) → Contains OPS.rows row → text_of row ≢ []
 operator_is_some row among e =
     let here : punctuation_symbol [] ≡ Some (symbols.Operator row.code) = rw e at (row_symbol row among) in
-        let none : None ≡ Some (symbols.Operator row.code) = here in cc (none)
+    let none : None ≡ Some (symbols.Operator row.code) = here in cc (none)
 
 -- and no longer prefix is a symbol
 operator_is_longest : (bytes : List ℕ) (first code : ℕ) → BeginsPunctuation first bytes → (h : HasLongest OPS.rows bytes code)
@@ -122,7 +122,7 @@ operator_piece bytes first code begins h =
     let parts : bytes ≡ text ++ rest = h.longest.front.1 in
     let some : text ≢ [] = operator_is_some h.row among in
     let n : operator_length code ≡ length text = ap operator_length (sym h.same)
-        ∙ at_row (λ row. operator_length row.code) (λ row. length (text_of row)) h.row refl among in
+    ∙ at_row (λ row. operator_length row.code) (λ row. length (text_of row)) h.row refl among in
     let front : take (operator_length code) bytes ≡ text = ap (λ x. take x bytes) n ∙ ap (λ x. take (length text) x) parts ∙ take-append_seam text rest in
     let following : drop (operator_length code) bytes ≡ rest = ap (λ x. drop x bytes) n ∙ ap (λ x. drop (length text) x) parts ∙ drop-append_seam text rest in
     let symbol : symbol_of text ≡ Some (symbols.Operator code) =
@@ -169,7 +169,7 @@ sign_piece bytes first begins none sign =
       longest = record {
         longest = λ more after s e some t.
             let only = only_sign bytes ((first ∷ []) ++ more) after first s begins none
-                (longer_front bytes (first ∷ []) begins.following more after begins.parts e) t in
+            (longer_front bytes (first ∷ []) begins.following more after begins.parts e) t in
             omega (arith, ap length only.0, some_more more some);
       };
       no_comment = ap begins_comment (sym begins.parts) ∙ begins.no_comment;

@@ -41,7 +41,7 @@ scans_past {bytes} place others end (AComment n some within h) d =
 scans_past {bytes} place others end (AToken s n some within t w) d =
     let n_is : length (take n bytes) ≡ n = length-take-le n bytes within in
     let token : token_at place (take n bytes) s ≡ record { kind = kind_of s; place = place; length = n } =
-        ap (λ x. record { kind = kind_of s; place = place; length = x }) n_is in
+    ap (λ x. record { kind = kind_of s; place = place; length = x }) n_is in
     subst (λ x. Scans place x (record { kind = kind_of s; place = place; length = n } ∷ others) end) (take-append-drop n bytes)
     (rw (← token) (Taken {place = place} {bytes = drop n bytes} {rest = end} {tokens = others} (take n bytes) s t (rw n_is d)))
 

@@ -66,9 +66,11 @@ counted_all all rest opened closed k h =
 pub counted_within : (all rest : List Symbol) (opened closed : ℕ) → Counted all rest opened closed
     → (opened + length rest ≤ length all) × (closed + length rest ≤ length all)
 counted_within all rest opened closed k =
-    let many : length all ≡ length k.before + length rest = ap length k.split ∙ length-append k.before rest in
-    (omega (arith, many, k.opens, count_by-le-length is_opening_bracket k.before), omega
-        (arith, many, k.closes, count_by-le-length is_closing_bracket k.before))
+    let many : length all ≡ length k.before + length rest = ap length k.split ∙ length-append k.before rest in (
+      omega (arith, many, k.opens, count_by-le-length is_opening_bracket k.before),
+      omega
+          (arith, many, k.closes, count_by-le-length is_closing_bracket k.before),
+    )
 
 -- one symbol adds at most 1
 pub one_at_most : (b : Bool) → cond b 1 0 ≤ 1

@@ -73,8 +73,10 @@ stuck_in_window ts left l p s =
     let all : expression.IsStuck whole ts (left + length (drop 257 ts)) =
     subst (λ x. expression.IsStuck whole x (left + length (drop 257 ts))) (take-append-drop 257 ts)
     (stuck_more whole (take 257 ts) (drop 257 ts) left p s) in
-    record { refused = λ below. stuck_full 256 ts (left + length (drop 257 ts)) below all (omega (arith, length-drop 257 ts, l, p))
-        ∙ ap machine.Unexpected many }
+    record {
+      refused = λ below. stuck_full 256 ts (left + length (drop 257 ts)) below all (omega (arith, length-drop 257 ts, l, p))
+          ∙ ap machine.Unexpected many;
+    }
 
 -- an expression that ends before the end of the window
 pub read_in_window : (ts rest : List Symbol) (e : Expression) → 256 < length ts → Reads any_expression (take 257 ts) e rest → 0 < length rest
@@ -90,7 +92,7 @@ read_in_window ts rest e l r p =
     record {
       read = subst (λ x. Reads any_expression ts e x) (sym following)
           (subst (λ x. Reads any_expression x e (rest ++ drop 257 ts)) (take-append-drop 257 ts)
-              (reads_more r (λ h. absurd (omega (arith, p, ap length h))) (drop 257 ts)));
+          (reads_more r (λ h. absurd (omega (arith, p, ap length h))) (drop 257 ts)));
       short = omega (arith, length-drop (257 - length rest) ts, p);
     }
 

@@ -20,7 +20,7 @@ limit word sign = Word word ∷ AnyNumber ∷ Sign sign ∷ []
 abbrev pub limits : List Want
 limits =
     Word words.LIMITS ∷ Word words.ITERATIONS ∷ AnyNumber ∷ Sign signs.COMMA ∷ Word words.STAGES ∷ AnyNumber ∷ Sign signs.COMMA ∷ Word
-        words.STEPS ∷ AnyNumber ∷ Sign signs.COMMA ∷ Word words.EMITS ∷ AnyNumber ∷ Sign signs.SEMICOLON ∷ []
+    words.STEPS ∷ AnyNumber ∷ Sign signs.COMMA ∷ Word words.EMITS ∷ AnyNumber ∷ Sign signs.SEMICOLON ∷ []
 
 -- the declaration of a cell, after its word
 abbrev pub cell : List Want

@@ -209,8 +209,19 @@ event_is_allowed p limit s i f e going legal is (Pending k n) runs q = by_test (
     by_test true t q =
         let same : Enter i ≡ e = cc in
         subst (λ x. Allowed p limit s x) same
-        (record { going = going; control = record { frame = f; kind = k; number = n; is = is; named = runs; free =
-            enter_from_test s.frames i k n t }; program = tt })
+        (record {
+          going = going;
+          control = record {
+            frame = f;
+            kind = k;
+            number = n;
+            is = is;
+            named = runs;
+            free =
+                enter_from_test s.frames i k n t;
+          };
+          program = tt;
+        })
     by_test false t q = absurd (cc)
 event_is_allowed p limit s i f e going legal is (Completed d) runs q = absurd (cc)
 

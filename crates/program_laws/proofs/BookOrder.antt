@@ -336,7 +336,7 @@ module _ (limit : ℕ) (bs : List BookEntry) (ticket : ℕ) (d : State) (starts 
       let left : nodes_at columns i ≡ g.0.nodes = nodes_at_other d.frames j i u apart ∙ nodes_at_frame d.frames i g.0 g.1 in
       let found : last_up_to g.0.nodes may.number ≡ Some h =
       ap (λ (x : Node). last_up_to g.0.nodes x.number) (sym new)
-          ∙ ap (λ ns. last_up_to ns (node_at (nodes_at columns (i + 1)) (suc m)).number) (sym left) ∙ w.1 in
+      ∙ ap (λ ns. last_up_to ns (node_at (nodes_at columns (i + 1)) (suc m)).number) (sym left) ∙ w.1 in
       let it = (last_up_to_found g.0.nodes may.number).some h found in
       let passed : LeftHasPassed d.frames (suc i) may.number = subst (λ n. LeftHasPassed d.frames n may.number) here (may.free kind) in
       subst (λ o. h < ended_in o) (sym g.1) (passed_ended g.0.status g.0.nodes may.number h (passed g.0 g.1) it)
@@ -352,12 +352,12 @@ module _ (limit : ℕ) (bs : List BookEntry) (ticket : ℕ) (d : State) (starts 
   step (Access j a) free may = absurd (cc)
   step (Advance j k n) free may =
       ends_one (Advance j k n) j may.running.frame may.running.is may.running.runs (λ i t. refl) (λ i t. refl)
-          (columns-action d.frames j (Staged k n) (Pending k n))
+      (columns-action d.frames j (Staged k n) (Pending k n))
   step (Enter j) free may =
       starts_one (Enter j) j (λ i t. refl) (λ i t. refl) (grew_enter d j starts may sound).lefts
       (λ k full. (
       let ended : ended_in (frame_at d.frames j) ≡ length may.frame.nodes = ap ended_in may.is
-          ∙ ap (λ w. ended_by_status w (length may.frame.nodes)) may.named in
+      ∙ ap (λ w. ended_by_status w (length may.frame.nodes)) may.named in
       let all : started_in (frame_at d.frames j) ≡ length may.frame.nodes = ap started_in may.is in
       omega (arith, full, ended, all)))
       (enter_left j may)

@@ -106,13 +106,13 @@ frugal-evaluate setting locals (Number n) = FrugalStep (FrugalReturn n)
 frugal-evaluate setting locals (Name x) = FrugalStep (frugal-named_value (local_value locals x) (setting.cells x))
 frugal-evaluate setting locals (Element x i) =
     frugal-bind (frugal-evaluate setting locals i) (λ v. FrugalStep
-        (frugal-element_of 2 (setting.cells x) v (λ c. Get c Return) (λ c. FrugalGet c (λ r. FrugalReturn r))))
+    (frugal-element_of 2 (setting.cells x) v (λ c. Get c Return) (λ c. FrugalGet c (λ r. FrugalReturn r))))
 frugal-evaluate setting locals (And a b) =
     frugal-bind (frugal-evaluate setting locals a) (λ x. FrugalStep
-        (frugal_by_zero x _ _ (FrugalReturn _) (frugal_more (frugal-bind (frugal-evaluate setting locals b) (λ y. FrugalReturn _)) 2 (omega arith))))
+    (frugal_by_zero x _ _ (FrugalReturn _) (frugal_more (frugal-bind (frugal-evaluate setting locals b) (λ y. FrugalReturn _)) 2 (omega arith))))
 frugal-evaluate setting locals (Or a b) =
     frugal-bind (frugal-evaluate setting locals a) (λ x. FrugalStep
-        (frugal_by_zero x _ _ (frugal_more (frugal-bind (frugal-evaluate setting locals b) (λ y. FrugalReturn _)) 2 (omega arith)) (FrugalReturn _)))
+    (frugal_by_zero x _ _ (frugal_more (frugal-bind (frugal-evaluate setting locals b) (λ y. FrugalReturn _)) 2 (omega arith)) (FrugalReturn _)))
 frugal-evaluate setting locals (Binary code a b) =
     frugal-bind (frugal-evaluate setting locals a) (λ x. frugal-bind (frugal-evaluate setting locals b) (λ y. FrugalStep (frugal-operate 2 code x y)))
 frugal-evaluate setting locals (Unary code a) = frugal-bind (frugal-evaluate setting locals a) (λ x. FrugalStep (frugal-operate_one 2 code x))
@@ -215,7 +215,7 @@ bounded-turns stages zero test body env room frugal bounded has = BoundRaise _
 bounded-turns stages (suc turns) test body env room frugal bounded has =
     frugal-then room (frugal env) (λ v. BoundStep (bounded_by_zero v (BoundReturn has)
     (bounded_more (bounded-bind (bounded env room has) (λ r after has2. bounded-turns stages turns test body (leave_block env after) r frugal
-        bounded has2)) 2 (omega arith))))
+    bounded has2)) 2 (omega arith))))
 
 mutual
   pub bounded-execute : (setting : Setting) (s : Statement) (env : Environment) (room : ℕ) → setting.world.stages ≤ env.stage.count + room
@@ -223,27 +223,27 @@ mutual
   bounded-execute setting (Let x e) env room has = frugal-then room (frugal-evaluate setting env.locals e) (λ v. BoundStep (BoundReturn has))
   bounded-execute setting (Assign x e) env room has =
       frugal-then room (frugal-evaluate setting env.locals e) (λ v. BoundStep
-          (bounded-assign setting.world.stages room env (local_value env.locals x) (setting.cells x) x v has))
+      (bounded-assign setting.world.stages room env (local_value env.locals x) (setting.cells x) x v has))
   bounded-execute setting (AssignElement x i e) env room has =
       frugal-then room (frugal-evaluate setting env.locals i) (λ j. frugal-then room (frugal-evaluate setting env.locals e)
-          (λ v. BoundStep (bounded-write setting.world.stages room env (setting.cells x) j v has)))
+      (λ v. BoundStep (bounded-write setting.world.stages room env (setting.cells x) j v has)))
   bounded-execute setting (Emit e) env room has =
       frugal-then room (frugal-evaluate setting env.locals e) (λ v. BoundStep (frugal-then room (frugal-emit setting.world.emits v) (λ done. BoundReturn has)))
   bounded-execute setting (If e a b) env room has =
       frugal-then room (frugal-evaluate setting env.locals e) (λ v. BoundStep (bounded-bind
       (bounded_by_zero v (bounded_more (bounded-execute_all setting b env room has) 2 (omega arith))
-          (bounded_more (bounded-execute_all setting a env room has) 2 (omega arith)))
+      (bounded_more (bounded-execute_all setting a env room has) 2 (omega arith)))
       (λ r after has2. BoundReturn has2)))
   bounded-execute setting (While e a) env room has =
       bounded-turns setting.world.stages setting.turns (λ now. evaluate setting now.locals e) (execute_all setting a) env room
-          (λ now. frugal-evaluate setting now.locals e)
+      (λ now. frugal-evaluate setting now.locals e)
       (λ now r has2. bounded-execute_all setting a now r has2) has
   bounded-execute setting (syntax.Stage kind e) env room has =
       frugal-then room (frugal-evaluate setting env.locals e) (λ n. BoundStep (bounded-bind
       (bounded_more (bounded-go_to_stage setting.world.stages room kind env.stage n has) 2 (omega arith)) (λ r stage has2. BoundReturn has2)))
   bounded-execute setting (NextStage kind) env room has =
       BoundStep (bounded-bind (frugal-then room (frugal-fitting 2 (env.stage.number +ℤ pos 1))
-          (λ n. bounded-go_to_stage setting.world.stages room kind env.stage n has))
+      (λ n. bounded-go_to_stage setting.world.stages room kind env.stage n has))
       (λ r stage has2. BoundReturn has2))
 
   pub bounded-execute_all : (setting : Setting) (ss : Statements) (env : Environment) (room : ℕ) → setting.world.stages ≤ env.stage.count + room

@@ -192,7 +192,7 @@ next_is_candidate p limit workers s e room (inl n) = by_frame (frame_at s.frames
     by_frame (Some f) is q =
         let z : 0 + n.0 ≡ n.0 = omega arith in
         among_left e (candidates_from p s (nat_lt (running_instances s) workers) 0 s.frames)
-            (if_room (nat_lt (running_instances s) workers) (next_begin limit s))
+        (if_room (nat_lt (running_instances s) workers) (next_begin limit s))
         (among_frames p s (nat_lt (running_instances s) workers) 0 s.frames n.0 f e is (rw z q) (inl room))
 next_is_candidate p limit workers s e room (inr b) =
     among_right e (candidates_from p s (nat_lt (running_instances s) workers) 0 s.frames) (if_room (nat_lt (running_instances s) workers) (next_begin limit s))
@@ -212,9 +212,9 @@ runs_have_candidates p limit workers events s r well one busy going = elim (runs
         let event : event_of_status p s (0 + h.0) h.1.status h.1.trace ≡ Some e = rw z (ap (λ w. event_of_status p s h.0 w h.1.trace) h.3) in
         among_length e (candidates p limit workers s)
         (among_left e (candidates_from p s (nat_lt (running_instances s) workers) 0 s.frames)
-            (if_room (nat_lt (running_instances s) workers) (next_begin limit s))
+        (if_room (nat_lt (running_instances s) workers) (next_begin limit s))
         (among_frames p s (nat_lt (running_instances s) workers) 0 s.frames h.0 h.1 e h.2 event
-            (inr (offered_starts_none p (p.preamble ++ accesses_of s.accesses) h.0 d)))))
+        (inr (offered_starts_none p (p.preamble ++ accesses_of s.accesses) h.0 d)))))
   ])
 ]
 

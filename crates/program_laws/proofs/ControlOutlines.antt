@@ -95,7 +95,7 @@ control_after_one : (p : Pipeline) (limit : ℕ) (events : List Event) (s : Stat
     → (b : Bool) → is_access e ≡ b → HasControlRun limit (events ++ e ∷ []) (next_state s e)
 control_after_one p limit events s (Access i a) h k true t =
     let log : without_accesses (events ++ Access i a ∷ []) ≡ without_accesses events = without_accesses-push events (Access i a)
-        ∙ append-nil (without_accesses events) in
+    ∙ append-nil (without_accesses events) in
     let state : control_after (events ++ Access i a ∷ []) ≡ control_after events = control_from-push initial_state events (Access i a) in
     record {
       run = rw (log, state) k.run;

@@ -136,7 +136,7 @@ mutual
       (either_by_zero Anything v _ _ (straight-execute_all setting b env k.1) (straight-execute_all setting a env k.0)) (λ after h'. Returns tt)))
   straight-execute setting (While e a) env k =
       straight-turns setting.turns (λ now. evaluate setting now.locals e) (execute_all setting a) env
-          (λ now. straight-evaluate setting now.locals e) (λ now. straight-execute_all setting a now k)
+      (λ now. straight-evaluate setting now.locals e) (λ now. straight-execute_all setting a now k)
   straight-execute setting (syntax.Stage kind e) env k = absurd k
   straight-execute setting (NextStage kind) env k = absurd k
 

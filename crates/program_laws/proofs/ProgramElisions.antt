@@ -86,7 +86,7 @@ empty_part tree input p statements e = ap (λ ss. serial_trace p.store (part_of 
 pub no_init_no_accesses : NoInitNoAccesses
 no_init_no_accesses tree input e =
     ap (λ l. (let p : Pipeline = record (pipeline_of tree input) { preamble = accesses_in l } in p))
-        (empty_part tree input (pipeline_of tree input) tree.init e)
+    (empty_part tree input (pipeline_of tree input) tree.init e)
 
 abbrev bare : SyntaxTree → SyntaxTree
 bare tree = record tree { init = Empty; last = Empty }

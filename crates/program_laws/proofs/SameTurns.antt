@@ -126,7 +126,7 @@ same-go_to_stage : (budget stages left room : ℕ) (kind : StageKind) (here : St
 same-go_to_stage budget stages left room kind here n has =
     same_if (int_lt here.number n) _ _ (λ above. same_if (nat_lt here.count stages) _ _
     (λ free. same-stage budget stages left room (kind_of_stage kind) here n has (ltb-true here.count stages free)) (SameRaise traps.StageLimit))
-        (SameRaise traps.StageOrder)
+    (SameRaise traps.StageOrder)
 
 -- the environment has the stage of the one before
 abbrev KeepsStage : Environment → Environment → Type 0
@@ -181,12 +181,16 @@ mutual
       same_straight budget k room (straight-assign env (local_value env.locals x) (setting.cells x) x v)
       (λ l2 after kept. (let c = ap (λ (h : StagePosition). h.count) kept in omega (arith, c, has))))))
   same-execute budget setting n m (AssignElement x i e) env left room has ln lm =
-      rw (evaluate-with_turns setting n env.locals i, evaluate-with_turns setting m env.locals i, evaluate-with_turns setting n env.locals e,
-          evaluate-with_turns setting m env.locals e)
+      rw (
+        evaluate-with_turns setting n env.locals i,
+        evaluate-with_turns setting m env.locals i,
+        evaluate-with_turns setting n env.locals e,
+        evaluate-with_turns setting m env.locals e,
+      )
       (straight-same budget left room (straight-evaluate setting env.locals i)
-          (λ l j le any. straight-same budget l room (straight-evaluate setting env.locals e) (λ l2 v le2 any2.
+      (λ l j le any. straight-same budget l room (straight-evaluate setting env.locals e) (λ l2 v le2 any2.
       step_or_stop budget l2 room _ _ (λ k lk. straight-same budget k room (straight-element_of (setting.cells x) j)
-          (λ l3 c le3 any3. SameSet c v (SameReturn has))))))
+      (λ l3 c le3 any3. SameSet c v (SameReturn has))))))
   same-execute budget setting n m (Emit e) env left room has ln lm =
       rw (evaluate-with_turns setting n env.locals e, evaluate-with_turns setting m env.locals e)
       (straight-same budget left room (straight-evaluate setting env.locals e) (λ l v le any. step_or_stop budget l room _ _ (λ k lk.
@@ -210,7 +214,7 @@ mutual
   same-execute budget setting n m (NextStage kind) env left room has ln lm =
       step_or_stop budget left room _ _ (λ k lk. same-bind budget
       (straight-same budget k room (straight-fitting (env.stage.number +ℤ pos 1))
-          (λ l v le any. same-go_to_stage budget setting.world.stages l room kind env.stage v has))
+      (λ l v le any. same-go_to_stage budget setting.world.stages l room kind env.stage v has))
       (λ l2 r2 stage le2 has2. SameReturn has2))
 
   -- the same for statements in order

@@ -25,7 +25,7 @@ least_number = difference (negative greatest_number) (number 1)
 abbrev pub NamesAreRead : Type 0
 NamesAreRead =
     HasOutputAndTrap (computing (Then (Let t (number 4)) (emit_all (number 0 ∷ greatest_number ∷ Name t ∷ Name n ∷ [])
-        (Then (Assign n (number 6)) (Then (Emit (Name n)) Empty))))) []
+    (Then (Assign n (number 6)) (Then (Emit (Name n)) Empty))))) []
     (pos 0 ∷ pos 9223372036854775807 ∷ pos 4 ∷ pos 0 ∷ pos 6 ∷ []) None
 
 -- a[1] = 7; n = 2; then elements by a number, by a cell and by a negative index
@@ -40,20 +40,20 @@ ArraysAreRead =
 abbrev pub ComparisonsCompute : Type 0
 ComparisonsCompute =
     Emits (equal (number 2) (number 2) ∷ equal (number 2) (number 3) ∷ unequal (number 2) (number 3) ∷ unequal (number 2) (number 2) ∷ [])
-        (pos 1 ∷ pos 0 ∷ pos 1 ∷ pos 0 ∷ [])
+    (pos 1 ∷ pos 0 ∷ pos 1 ∷ pos 0 ∷ [])
     × Emits (less (negative (number 1)) (number 0) ∷ less (number 3) (number 3) ∷ at_most (number 3) (number 3) ∷ at_most (number 3) (number 2)
-        ∷ []) (pos 1 ∷ pos 0 ∷ pos 1 ∷ pos 0 ∷ [])
+    ∷ []) (pos 1 ∷ pos 0 ∷ pos 1 ∷ pos 0 ∷ [])
     × Emits (greater_than (number 3) (number 2) ∷ greater_than (number 3) (number 3) ∷ at_least (number 3) (number 3) ∷ at_least
-        (negative (number 3)) (number 3) ∷ [])
+    (negative (number 3)) (number 3) ∷ [])
     (pos 1 ∷ pos 0 ∷ pos 1 ∷ pos 0 ∷ [])
 
 -- sum, difference and product; quotients are rounded towards 0, and a remainder has the sign of the dividend; negative and `!`
 abbrev pub ArithmeticComputes : Type 0
 ArithmeticComputes =
     Emits (plus (number 2) (negative (number 5)) ∷ difference (number 2) (number 5) ∷ product (negative (number 2)) (number 3) ∷ [])
-        (negsuc 2 ∷ negsuc 2 ∷ negsuc 5 ∷ [])
+    (negsuc 2 ∷ negsuc 2 ∷ negsuc 5 ∷ [])
     × Emits (quotient (negative (number 7)) (number 2) ∷ remainder (negative (number 7)) (number 2) ∷ quotient (number 7) (negative (number 2))
-        ∷ remainder (number 7) (negative (number 2)) ∷ [])
+    ∷ remainder (number 7) (negative (number 2)) ∷ [])
     (negsuc 2 ∷ negsuc 0 ∷ negsuc 2 ∷ pos 1 ∷ [])
     × Emits (negative (number 4) ∷ negation (number 4) ∷ negation (number 0) ∷ []) (negsuc 3 ∷ pos 0 ∷ pos 1 ∷ [])
 
@@ -97,7 +97,7 @@ repeating test value = record {
 abbrev pub InputsAreTaken : Type 0
 InputsAreTaken =
     HasOutputAndTrap (computing (emit_all (More ∷ Take ∷ More ∷ Take ∷ []) Empty)) (negsuc 5 ∷ []) (pos 1 ∷ negsuc 5 ∷ pos 0 ∷ [])
-        (Some (trap_in_final traps.InputEnd))
+    (Some (trap_in_final traps.InputEnd))
     × HasOutputAndTrap (repeating (less (Name n) (number 2)) Take) (pos 5 ∷ []) (pos 5 ∷ []) (Some (trap_at traps.InputEnd 1 0 (pos 0)))
     × HasOutputAndTrap (repeating More Take) (pos 5 ∷ negsuc 6 ∷ []) (pos 5 ∷ negsuc 6 ∷ []) None
 

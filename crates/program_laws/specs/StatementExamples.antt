@@ -91,10 +91,10 @@ StagesAreNamed =
 abbrev pub StagesTrap : Type 0
 StagesTrap =
     HasOutputAndTrap (staged 3 (Then (Stage stage_kinds.Wait (number 1)) (Then (Stage stage_kinds.Continue (number 1)) Empty))) [] []
-        (Some (trap_at traps.StageOrder 0 1 (pos 1)))
+    (Some (trap_at traps.StageOrder 0 1 (pos 1)))
     × HasOutputAndTrap (staged 3 (Then (Stage stage_kinds.Wait (number 0)) Empty)) [] [] (Some (trap_at traps.StageOrder 0 0 (pos 0)))
     × HasOutputAndTrap (staged 2 (Then (Stage stage_kinds.Wait (number 1)) (Then (NextStage stage_kinds.Continue) Empty))) [] []
-        (Some (trap_at traps.StageLimit 0 1 (pos 1)))
+    (Some (trap_at traps.StageLimit 0 1 (pos 1)))
     × HasOutputAndTrap (staged 3 (Then (Stage stage_kinds.Wait (number 9223372036854775807)) (Then (NextStage stage_kinds.Wait) Empty))) [] []
     (Some (trap_at traps.Overflow 0 1 (pos 9223372036854775807)))
 
@@ -131,5 +131,5 @@ waiting other = record {
 abbrev pub WaitsEmit : Type 0
 WaitsEmit =
     HasOutputAndTrap (waiting (Then (Stage stage_kinds.Wait (number 5)) (Then (Stage stage_kinds.Wait (number 6))
-        (Then (Stage stage_kinds.Wait (number 7)) (Then (Emit (Name c)) Empty))))) [] (pos 7 ∷ []) None
+    (Then (Stage stage_kinds.Wait (number 7)) (Then (Emit (Name c)) Empty))))) [] (pos 7 ∷ []) None
     × HasOutputAndTrap (waiting (Then (Stage stage_kinds.Wait (number 6)) (Then (Emit (Name c)) Empty))) [] (pos 7 ∷ []) None

@@ -56,7 +56,7 @@ placed_more : (ranges grown : BTreeMap (Bor (List ℕ)) DeclaredRange) (ds : Lis
 placed_more ranges grown ds d key range table named new is updates = λ x.
     ap range_in (updates x)
     ∙ ap (λ b. range_in (cond b (Some range) (get (λ a b. slice_cmp nat_cmp a.now b.now) ranges x)))
-        (is_eq-slice_cmp key.now x.now ∙ ap (λ name. bytes_eq name x.now) named)
+    (is_eq-slice_cmp key.now x.now ∙ ap (λ name. bytes_eq name x.now) named)
     ∙ found_by ds d x.now range (get (λ a b. slice_cmp nat_cmp a.now b.now) ranges x) (bytes_eq d.name x.now) refl new is (table x)
 
 -- what is left to declare
@@ -95,7 +95,7 @@ half_more ranges grown next i size cells d key range half h e named sized is upd
     let shown : range_in (Some range) ≡ Some (record { first = 2 + cell_total (take i cells); size = declared_size d.size }) =
     ap (λ (r : DeclaredRange). Some (record { first = r.first.0; size = r.size })) is
     ∙ ap (λ (k : ℕ). Some (record { first = k; size = size })) half.counted
-        ∙ ap (λ (k : ℕ). Some (record { first = 2 + cell_total (take i cells); size = k })) sized in
+    ∙ ap (λ (k : ℕ). Some (record { first = 2 + cell_total (take i cells); size = k })) sized in
     record {
       table = subst (λ (ds : List Declaration). HasRanges grown ds) (sym (take_next cells i d h e))
           (placed_more ranges grown (take i cells) d key range half.table named fresh.0 shown updates);

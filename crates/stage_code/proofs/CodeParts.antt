@@ -42,5 +42,9 @@ parts_are_in tree =
     let all : HasAt code 0 (init ++ (pipe ++ last)) = has_all code in
     let from : 0 + length init ≡ length init = omega arith in
     let after_it : HasAt code (length init) (pipe ++ last) = subst (λ n. HasAt code n (pipe ++ last)) from (rest_at code 0 init (pipe ++ last) all) in
-    record { init = first_at code 0 init (pipe ++ last) all; pipe = first_at code (length init) pipe last after_it; last =
-        rest_at code (length init) pipe last after_it }
+    record {
+      init = first_at code 0 init (pipe ++ last) all;
+      pipe = first_at code (length init) pipe last after_it;
+      last =
+          rest_at code (length init) pipe last after_it;
+    }

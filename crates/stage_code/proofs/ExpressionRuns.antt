@@ -70,9 +70,9 @@ element_run : (p : CodeSetting) (n : ℕ) (c : CodeState) (v : ℤ) (cell : Opti
 element_run p n c v None k is room h = elim is [ ]
 element_run p n c v (Some a) k is room h =
     step_over p n _ _ (λ l lt. subst (λ d. Follows p l (bind (element_in a.first a.size v) (read_effect p c)) d)
-        (sym (bind-assoc (element_in a.first a.size v) (λ a. Get a Return) k))
+    (sym (bind-assoc (element_in a.first a.size v) (λ a. Get a Return) k))
     (element_follows p l a.first a.size v _ _ (λ b within. cells_run p l (b + 1) _ _ (omega (arith, within, is))
-        (Gets b (λ w. pushes p l c c.stack w (k w) room (h l (omega arith) w))))))
+    (Gets b (λ w. pushes p l c c.stack w (k w) room (h l (omega arith) w))))))
 
 truth_run : (p : CodeSetting) (n : ℕ) (c : CodeState) (q : ℕ) (y : ℤ) (k : ℤ → Interaction ColumnEnd) → slice_get p.code q ≡ Some instrs.Truth
     → FollowsWithValue p n c (q + 1) k → FollowsAt p n (record c { place = q; stack = y ∷ c.stack }) (k (truth_of y))
@@ -109,22 +109,22 @@ expression_runs p cells turns ls (Number v) n c k holds good has h =
     at_instr p n c (instrs.Push v) _ has.0 (step_over p n _ _ (λ l lt. pushes p l c c.stack v (k v) good (h l (omega arith) v)))
 expression_runs p cells turns ls (Name x) n c k holds good has h =
     at_instr p n c (name_code (slot_of (names_of ls) x) (cells x)) _ has.0
-        (name_run p n c (slot_of (names_of ls) x) (local_value ls x) (cells x) k (finds ls c.slots x holds) good.1 good.0 h)
+    (name_run p n c (slot_of (names_of ls) x) (local_value ls x) (cells x) k (finds ls c.slots x holds) good.1 good.0 h)
 expression_runs p cells turns ls (Element x i) n c k holds good has h =
     let ci = expression_code cells (names_of ls) c.place i in
     let len : c.place + length (ci ++ element_code (cells x) ∷ []) ≡ c.place + length ci + 1 = omega (arith, length-append ci (element_code (cells x) ∷ [])) in
     subst (FollowsAt p n c) (sym (bind-assoc (evaluate (setting_with p cells turns) ls i) (λ v. Step (bind (element_of (cells x) v) (λ a. Get a Return))) k))
     (expression_runs p cells turns ls i n c (λ v. bind (Step (bind (element_of (cells x) v) (λ a. Get a Return))) k) holds good.2
-        (first_at p.code c.place ci _ has) (λ m le v.
+    (first_at p.code c.place ci _ has) (λ m le v.
     at_instr p m (record c { place = c.place + length ci; stack = v ∷ c.stack }) (element_code (cells x)) _ (rest_at p.code c.place ci _ has).0
     (element_run p m (record c { place = c.place + length ci }) v (cells x) k good.1 good.0
-        (λ j le' w. moved p j c _ _ (w ∷ c.stack) (k w) len (h j (omega arith) w)))))
+    (λ j le' w. moved p j c _ _ (w ∷ c.stack) (k w) len (h j (omega arith) w)))))
 expression_runs p cells turns ls (And a b) n c k holds good has h =
     let ca = expression_code cells (names_of ls) c.place a in
     let cb = expression_code cells (names_of ls) (c.place + length ca + 1) b in
     let end = c.place + length ca + 1 + length cb + 1 in
     let len : c.place + length (ca ++ instrs.AndTest end ∷ (cb ++ instrs.Truth ∷ [])) ≡ end =
-        omega (arith, length-append ca (instrs.AndTest end ∷ (cb ++ instrs.Truth ∷ [])), length-append cb (instrs.Truth ∷ [])) in
+    omega (arith, length-append ca (instrs.AndTest end ∷ (cb ++ instrs.Truth ∷ [])), length-append cb (instrs.Truth ∷ [])) in
     let hb = rest_at p.code c.place ca _ has in
     let g = λ (x : ℤ). Step (if_zero x (Return (pos 0)) (bind (evaluate (setting_with p cells turns) ls b) (λ y. Return (truth_of y)))) in
     subst (FollowsAt p n c) (sym (bind-assoc (evaluate (setting_with p cells turns) ls a) g k))
@@ -133,17 +133,17 @@ expression_runs p cells turns ls (And a b) n c k holds good has h =
     (step_over p m _ _ (λ l lt. and_run p cells turns ls b c (c.place + length ca) end x l k
     (moved p l c _ _ (pos 0 ∷ c.stack) (k (pos 0)) len (h l (omega arith) (pos 0)))
     (subst (FollowsAt p l (record c { place = c.place + length ca + 1; stack = c.stack }))
-        (sym (bind-assoc (evaluate (setting_with p cells turns) ls b) (λ y. Return (truth_of y)) k))
+    (sym (bind-assoc (evaluate (setting_with p cells turns) ls b) (λ y. Return (truth_of y)) k))
     (expression_runs p cells turns ls b l (record c { place = c.place + length ca + 1; stack = c.stack }) (λ y. k (truth_of y)) holds good.2
-        (first_at p.code _ cb _ hb.1) (λ j le' y.
+    (first_at p.code _ cb _ hb.1) (λ j le' y.
     truth_run p j c (c.place + length ca + 1 + length cb) y k (rest_at p.code _ cb _ hb.1).0
-        (λ i le'' w. moved p i c _ _ (w ∷ c.stack) (k w) len (h i (omega arith) w)))))))))
+    (λ i le'' w. moved p i c _ _ (w ∷ c.stack) (k w) len (h i (omega arith) w)))))))))
 expression_runs p cells turns ls (Or a b) n c k holds good has h =
     let ca = expression_code cells (names_of ls) c.place a in
     let cb = expression_code cells (names_of ls) (c.place + length ca + 1) b in
     let end = c.place + length ca + 1 + length cb + 1 in
     let len : c.place + length (ca ++ instrs.OrTest end ∷ (cb ++ instrs.Truth ∷ [])) ≡ end =
-        omega (arith, length-append ca (instrs.OrTest end ∷ (cb ++ instrs.Truth ∷ [])), length-append cb (instrs.Truth ∷ [])) in
+    omega (arith, length-append ca (instrs.OrTest end ∷ (cb ++ instrs.Truth ∷ [])), length-append cb (instrs.Truth ∷ [])) in
     let hb = rest_at p.code c.place ca _ has in
     let g = λ (x : ℤ). Step (if_zero x (bind (evaluate (setting_with p cells turns) ls b) (λ y. Return (truth_of y))) (Return (pos 1))) in
     subst (FollowsAt p n c) (sym (bind-assoc (evaluate (setting_with p cells turns) ls a) g k))
@@ -152,28 +152,28 @@ expression_runs p cells turns ls (Or a b) n c k holds good has h =
     (step_over p m _ _ (λ l lt. or_run p cells turns ls b c (c.place + length ca) end x l k
     (moved p l c _ _ (pos 1 ∷ c.stack) (k (pos 1)) len (h l (omega arith) (pos 1)))
     (subst (FollowsAt p l (record c { place = c.place + length ca + 1; stack = c.stack }))
-        (sym (bind-assoc (evaluate (setting_with p cells turns) ls b) (λ y. Return (truth_of y)) k))
+    (sym (bind-assoc (evaluate (setting_with p cells turns) ls b) (λ y. Return (truth_of y)) k))
     (expression_runs p cells turns ls b l (record c { place = c.place + length ca + 1; stack = c.stack }) (λ y. k (truth_of y)) holds good.2
-        (first_at p.code _ cb _ hb.1) (λ j le' y.
+    (first_at p.code _ cb _ hb.1) (λ j le' y.
     truth_run p j c (c.place + length ca + 1 + length cb) y k (rest_at p.code _ cb _ hb.1).0
-        (λ i le'' w. moved p i c _ _ (w ∷ c.stack) (k w) len (h i (omega arith) w)))))))))
+    (λ i le'' w. moved p i c _ _ (w ∷ c.stack) (k w) len (h i (omega arith) w)))))))))
 expression_runs p cells turns ls (Binary code a b) n c k holds good has h =
     let ca = expression_code cells (names_of ls) c.place a in
     let cb = expression_code cells (names_of ls) (c.place + length ca) b in
     let len : c.place + length (ca ++ (cb ++ instrs.Binary code ∷ [])) ≡ c.place + length ca + length cb + 1 =
-        omega (arith, length-append ca (cb ++ instrs.Binary code ∷ []), length-append cb (instrs.Binary code ∷ [])) in
+    omega (arith, length-append ca (cb ++ instrs.Binary code ∷ []), length-append cb (instrs.Binary code ∷ [])) in
     let hb = rest_at p.code c.place ca _ has in
     subst (FollowsAt p n c) (sym (bind-assoc (evaluate (setting_with p cells turns) ls a)
-        (λ x. bind (evaluate (setting_with p cells turns) ls b) (λ y. Step (operate code x y))) k))
+    (λ x. bind (evaluate (setting_with p cells turns) ls b) (λ y. Step (operate code x y))) k))
     (expression_runs p cells turns ls a n c (λ x. bind (bind (evaluate (setting_with p cells turns) ls b) (λ y. Step (operate code x y))) k)
-        holds good.1 (first_at p.code c.place ca _ has) (λ m le x.
+    holds good.1 (first_at p.code c.place ca _ has) (λ m le x.
     let c1 = record c { place = c.place + length ca; stack = x ∷ c.stack } in
     subst (FollowsAt p m c1) (sym (bind-assoc (evaluate (setting_with p cells turns) ls b) (λ y. Step (operate code x y)) k))
     (expression_runs p cells turns ls b m c1 (λ y. bind (Step (operate code x y)) k) holds good.2 (first_at p.code _ cb _ hb) (λ j le' y.
     let c2 = record c { place = c.place + length ca + length cb; stack = y ∷ x ∷ c.stack } in
     at_instr p j c2 (instrs.Binary code) _ (rest_at p.code _ cb _ hb).0
     (step_over p j _ _ (λ l lt. follow_then p l (operate code x y) _ _ (λ i le'' w. pushes p i c2 c.stack w (k w) good.0
-        (moved p i c _ _ (w ∷ c.stack) (k w) len (h i (omega arith) w)))))))))
+    (moved p i c _ _ (w ∷ c.stack) (k w) len (h i (omega arith) w)))))))))
 expression_runs p cells turns ls (Unary code a) n c k holds good has h =
     let ca = expression_code cells (names_of ls) c.place a in
     let len : c.place + length (ca ++ instrs.Unary code ∷ []) ≡ c.place + length ca + 1 = omega (arith, length-append ca (instrs.Unary code ∷ [])) in
@@ -182,12 +182,12 @@ expression_runs p cells turns ls (Unary code a) n c k holds good has h =
     let c1 = record c { place = c.place + length ca; stack = x ∷ c.stack } in
     at_instr p m c1 (instrs.Unary code) _ (rest_at p.code c.place ca _ has).0
     (step_over p m _ _ (λ l lt. follow_then p l (operate_one code x) _ _ (λ i le'' w. pushes p i c1 c.stack w (k w) good.0
-        (moved p i c _ _ (w ∷ c.stack) (k w) len (h i (omega arith) w)))))))
+    (moved p i c _ _ (w ∷ c.stack) (k w) len (h i (omega arith) w)))))))
 expression_runs p cells turns ls More n c k holds good has h =
     at_instr p n c instrs.More _ has.0 (step_over p n _ _ (λ l lt. cells_run p l 2 _ _ good.1
-        (Gets 0 (λ v. pushes p l c c.stack _ _ good.0 (h l (omega arith) _)))))
+    (Gets 0 (λ v. pushes p l c c.stack _ _ good.0 (h l (omega arith) _)))))
 expression_runs p cells turns ls Take n c k holds good has h =
     at_instr p n c instrs.Take _ has.0 (step_over p n _ _ (λ l lt. cells_run p l 2 _ _ good.1
-        (Gets 0 (λ v. follow_then p l (take_at p.world.input v) _ _ (λ m le w. pushes p m c c.stack w (k w) good.0 (h m (omega arith) w))))))
+    (Gets 0 (λ v. follow_then p l (take_at p.world.input v) _ _ (λ m le w. pushes p m c c.stack w (k w) good.0 (h m (omega arith) w))))))
 expression_runs p cells turns ls Iter n c k holds good has h =
     at_instr p n c instrs.Iter _ has.0 (step_over p n _ _ (λ l lt. pushes p l c c.stack _ _ good (h l (omega arith) _)))

@@ -102,7 +102,7 @@ mutual
       lead_then code at _ _ (expression_leads code cells scope e at at) (assign_leads code _ (slot_of scope x) (cells x), tt)
   statement_leads code cells scope at (AssignElement x i e) h =
       lead_then code at _ _ (expression_leads code cells scope i at at) (lead_then code _ _ _ (expression_leads code cells scope e _ _)
-          (assign_element_leads code _ (cells x), tt))
+      (assign_element_leads code _ (cells x), tt))
   statement_leads code cells scope at (Emit e) h = lead_then code at _ _ (expression_leads code cells scope e at at) (tt, tt)
   statement_leads code cells scope at (If e a b) h =
       let test = expression_code cells scope at e in

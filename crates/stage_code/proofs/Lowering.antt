@@ -82,8 +82,15 @@ pub last_fits : (tree : SyntaxTree) (cells : List ℕ → Option CellRange) (c0 
     → c2 ≡ c1 ++ iteration_code cells (length c1) tree.test tree.body → CodeFits c2 (part_code cells (length c2) tree.last)
 last_fits tree cells c0 c1 c2 few e0 e1 e2 =
     let short = parts_short tree cells (length c1) (length c2) in
-    omega (arith, few, short.all, ap length (init_is tree cells c0 c1 e0 e1), ap length e2, length-append c1
-        (iteration_code cells (length c1) tree.test tree.body))
+    omega (
+      arith,
+      few,
+      short.all,
+      ap length (init_is tree cells c0 c1 e0 e1),
+      ap length e2,
+      length-append c1
+          (iteration_code cells (length c1) tree.test tree.body),
+    )
 
 -- ---- the whole
 

@@ -24,12 +24,12 @@ flat_runs tree obeys =
     record {
       init = λ input bounds slots n room few.
           GoesOn _ (part_runs (setting_of_code code bounds input 0) cells turns n code.init slots tree.init few room.locals
-              (in_bounds tree bounds slots obeys room).init parts.init);
+          (in_bounds tree bounds slots obeys room).init parts.init);
       pipe = λ input i bounds slots n room few.
           GoesOn _ (iteration_runs (setting_of_code code bounds input i) cells turns n code.pipe slots tree.test tree.body few room.locals
-              (in_bounds tree bounds slots obeys room).test
+          (in_bounds tree bounds slots obeys room).test
           (in_bounds tree bounds slots obeys room).body parts.pipe);
       last = λ input bounds slots n room few.
           GoesOn _ (part_runs (setting_of_code code bounds input 0) cells turns n code.last slots tree.last few room.locals
-              (in_bounds tree bounds slots obeys room).last parts.last);
+          (in_bounds tree bounds slots obeys room).last parts.last);
     }

@@ -36,7 +36,7 @@ passing_patched jump base first c1 c2 c3 c4 second x end hole to e1 m e2 e3 e4 e
 short_either : (cells : List ℕ → Option CellRange) (scope : List (List ℕ)) (at code : ℕ) (a b : Expression) (first second : Bool) → (first || second) ≡ true
     → expression_code cells scope at (if first then Or a b else (if second then And a b else Binary code a b))
     ≡ passing_code (λ to. if first then instrs.OrTest to else instrs.AndTest to) at (expression_code cells scope at a)
-        (λ n. expression_code cells scope n b) instrs.Truth
+    (λ n. expression_code cells scope n b) instrs.Truth
 short_either cells scope at code a b true second h = refl
 short_either cells scope at code a b false true h = refl
 short_either cells scope at code a b false false h = absurd (let e : false ≡ true = h in cc (e))
@@ -70,9 +70,9 @@ choosing_patched base test c1 c2 c3 c4 c5 c6 first second x y hole hole2 to to2 
     let all : c4 ≡ ((c1 ++ x ∷ []) ++ a) ++ y ∷ [] = cc in
     let flat : ((c1 ++ x ∷ []) ++ a) ++ y ∷ [] ≡ c1 ++ x ∷ (a ++ y ∷ []) = simp append_assoc in
     let e5' : c5 ≡ c1 ++ i ∷ (a ++ y ∷ []) = e5 ∙ ap (λ l. slice_set l hole i) (all ∙ flat) ∙ ap (λ n. slice_set (c1 ++ x ∷ (a ++ y ∷ [])) n i) m
-        ∙ set-append_seam c1 x (a ++ y ∷ []) i in
+    ∙ set-append_seam c1 x (a ++ y ∷ []) i in
     let l5 : length c5 ≡ at + length test + 1 + length a + 1 = ap length e5' ∙ length-append c1 (i ∷ (a ++ y ∷ []))
-        ∙ omega (arith, l1, length-append a (y ∷ [])) in
+    ∙ omega (arith, l1, length-append a (y ∷ [])) in
     let b = second (at + length test + 1 + length a + 1) in
     let e6' : c6 ≡ c5 ++ b = subst (λ n. c6 ≡ c5 ++ second n) l5 e6 in
     let l6 : to2 ≡ at + length test + 1 + length a + 1 + length b = m4 ∙ ap length e6' ∙ length-append c5 b ∙ omega (arith, l5) in

@@ -225,7 +225,7 @@ mutual
       let first = leaves cells bounds scope (after_statements scope a) s (continue_all cells bounds a scope s (all_front Obeys ma mb blocks)) in
       let second = continue_all cells bounds b (after_block scope a) first.is_scope (all_back Obeys ma mb blocks) in
       leaves cells bounds scope (after_statements (after_block scope a) b) s
-          (then_continues cells bounds scope (after_block scope a) (after_statements (after_block scope a) b) first second)
+      (then_continues cells bounds scope (after_block scope a) (after_statements (after_block scope a) b) first second)
   continues cells bounds (While e a) scope s o =
       let es = marks_of_expression scope e in
       leaves cells bounds scope (after_statements scope a) s (continue_all cells bounds a scope s (all_back Obeys es (marks_of_statements scope a) o))
@@ -259,13 +259,17 @@ mutual
       → height_of_statement t ≤ bounds.depth → StatementStaysInBounds bounds (range_of 2 cells) scope.visible t
   statement_in_bounds cells bounds (Let x e) scope s o low =
       let es = marks_of_expression scope e in
-      let room = let_room cells bounds scope x s (all_first Obeys (mark_at scope (DeclaredLocal x)) es o) in
-      (expression_in_bounds cells bounds scope s e 0 (all_rest Obeys (mark_at scope (DeclaredLocal x)) es o) (omega (arith, low)), omega
-          (arith, room, s.covered))
+      let room = let_room cells bounds scope x s (all_first Obeys (mark_at scope (DeclaredLocal x)) es o) in (
+        expression_in_bounds cells bounds scope s e 0 (all_rest Obeys (mark_at scope (DeclaredLocal x)) es o) (omega (arith, low)),
+        omega
+            (arith, room, s.covered),
+      )
   statement_in_bounds cells bounds (Assign x e) scope s o low =
-      let es = marks_of_expression scope e in
-      (expression_in_bounds cells bounds scope s e 0 (all_rest Obeys (mark_at scope (Plain x)) es o) (omega (arith, low)), known cells bounds
-          scope x s (all_first Obeys (mark_at scope (Plain x)) es o))
+      let es = marks_of_expression scope e in (
+        expression_in_bounds cells bounds scope s e 0 (all_rest Obeys (mark_at scope (Plain x)) es o) (omega (arith, low)),
+        known cells bounds
+            scope x s (all_first Obeys (mark_at scope (Plain x)) es o),
+      )
   statement_in_bounds cells bounds (AssignElement x i e) scope s o low =
       let is = marks_of_expression scope i in
       let es = marks_of_expression scope e in

@@ -22,19 +22,37 @@ expression_short cells scope at (And a b) =
     let left = expression_code cells scope at a in
     let right = expression_code cells scope (at + length left + 1) b in
     let i = instrs.AndTest (at + length left + 1 + length right + 1) in
-    omega (arith, expression_short cells scope at a, expression_short cells scope (at + length left + 1) b, length-append left
-        (i ∷ (right ++ instrs.Truth ∷ [])), length-append right (instrs.Truth ∷ []))
+    omega (
+      arith,
+      expression_short cells scope at a,
+      expression_short cells scope (at + length left + 1) b,
+      length-append left
+          (i ∷ (right ++ instrs.Truth ∷ [])),
+      length-append right (instrs.Truth ∷ []),
+    )
 expression_short cells scope at (Or a b) =
     let left = expression_code cells scope at a in
     let right = expression_code cells scope (at + length left + 1) b in
     let i = instrs.OrTest (at + length left + 1 + length right + 1) in
-    omega (arith, expression_short cells scope at a, expression_short cells scope (at + length left + 1) b, length-append left
-        (i ∷ (right ++ instrs.Truth ∷ [])), length-append right (instrs.Truth ∷ []))
+    omega (
+      arith,
+      expression_short cells scope at a,
+      expression_short cells scope (at + length left + 1) b,
+      length-append left
+          (i ∷ (right ++ instrs.Truth ∷ [])),
+      length-append right (instrs.Truth ∷ []),
+    )
 expression_short cells scope at (Binary code a b) =
     let left = expression_code cells scope at a in
     let right = expression_code cells scope (at + length left) b in
-    omega (arith, expression_short cells scope at a, expression_short cells scope (at + length left) b, length-append left
-        (right ++ instrs.Binary code ∷ []), length-append right (instrs.Binary code ∷ []))
+    omega (
+      arith,
+      expression_short cells scope at a,
+      expression_short cells scope (at + length left) b,
+      length-append left
+          (right ++ instrs.Binary code ∷ []),
+      length-append right (instrs.Binary code ∷ []),
+    )
 expression_short cells scope at (Unary code a) =
     omega (arith, expression_short cells scope at a, length-append (expression_code cells scope at a) (instrs.Unary code ∷ []))
 expression_short cells scope at More = omega arith
@@ -57,8 +75,13 @@ mutual
   statement_short cells scope at (Let x e) =
       omega (arith, one_node e, expression_short cells scope at e, length-append (expression_code cells scope at e) (instrs.SetLocal (length scope) ∷ []))
   statement_short cells scope at (Assign x e) =
-      omega (arith, one_node e, expression_short cells scope at e, length-append (expression_code cells scope at e)
-          (assign_code (slot_of scope x) (cells x) ∷ []))
+      omega (
+        arith,
+        one_node e,
+        expression_short cells scope at e,
+        length-append (expression_code cells scope at e)
+            (assign_code (slot_of scope x) (cells x) ∷ []),
+      )
   statement_short cells scope at (AssignElement x i e) =
       let index = expression_code cells scope at i in
       let value = expression_code cells scope (at + length index) e in
@@ -128,8 +151,14 @@ iteration_short : (cells : List ℕ → Option CellRange) (at : ℕ) (test : Exp
 iteration_short cells at test body =
     let first = expression_code cells [] at test in
     let rest = statements_code cells [] (at + length first + 1) body in
-    omega (arith, expression_short cells [] at test, statements_short cells [] (at + length first + 1) body, length-append first
-        (instrs.LoopTest ∷ (rest ++ instrs.End ∷ [])), length-append rest (instrs.End ∷ []))
+    omega (
+      arith,
+      expression_short cells [] at test,
+      statements_short cells [] (at + length first + 1) body,
+      length-append first
+          (instrs.LoopTest ∷ (rest ++ instrs.End ∷ [])),
+      length-append rest (instrs.End ∷ []),
+    )
 
 -- the lengths of the parts of a program's code
 pub record ArePartsShort (tree : SyntaxTree) (init pipe last : ℕ) : Type 0 where
@@ -202,20 +231,20 @@ mutual
   statement_low (Assign x e) h = omega (arith, low e (all_first IsShort e [] h))
   statement_low (AssignElement x i e) h =
       greater_least (height_of i) (suc (height_of e)) HIGHEST_STACK (omega (arith, low i (all_first IsShort i (e ∷ []) h)))
-          (omega (arith, low e (all_first IsShort e [] (all_rest IsShort i (e ∷ []) h))))
+      (omega (arith, low e (all_first IsShort e [] (all_rest IsShort i (e ∷ []) h))))
   statement_low (Emit e) h = omega (arith, low e (all_first IsShort e [] h))
   statement_low (If e a b) h =
       let xs = expressions_of_statements a in
       let ys = expressions_of_statements b in
       let rest = all_rest IsShort e (xs ++ ys) h in
       greater_least (height_of e) (greater (height_of_statements a) (height_of_statements b)) HIGHEST_STACK
-          (omega (arith, low e (all_first IsShort e (xs ++ ys) h)))
+      (omega (arith, low e (all_first IsShort e (xs ++ ys) h)))
       (greater_least (height_of_statements a) (height_of_statements b) HIGHEST_STACK (statements_low a (all_front IsShort xs ys rest))
-          (statements_low b (all_back IsShort xs ys rest)))
+      (statements_low b (all_back IsShort xs ys rest)))
   statement_low (While e a) h =
       let xs = expressions_of_statements a in
       greater_least (height_of e) (height_of_statements a) HIGHEST_STACK (omega (arith, low e (all_first IsShort e xs h)))
-          (statements_low a (all_rest IsShort e xs h))
+      (statements_low a (all_rest IsShort e xs h))
   statement_low (Stage kind e) h = omega (arith, low e (all_first IsShort e [] h))
   statement_low (NextStage kind) h = omega arith
 
@@ -225,7 +254,7 @@ mutual
       let xs = expressions_of_statement s in
       let ys = expressions_of_statements ss in
       greater_least (height_of_statement s) (height_of_statements ss) HIGHEST_STACK (statement_low s (all_front IsShort xs ys h))
-          (statements_low ss (all_back IsShort xs ys h))
+      (statements_low ss (all_back IsShort xs ys h))
 
 -- the stack of a program with short expressions
 pub program_low : (tree : SyntaxTree) → All (λ e. node_count e ≤ LONGEST_EXPRESSION) (expressions_of tree) → greatest_height tree ≤ HIGHEST_STACK
@@ -238,4 +267,4 @@ program_low tree h =
     greater_least (height_of_statements tree.init) _ HIGHEST_STACK (statements_low tree.init (all_front IsShort is (tree.test ∷ (bs ++ ls)) h))
     (greater_least (height_of tree.test) _ HIGHEST_STACK (omega (arith, low tree.test (all_first IsShort tree.test (bs ++ ls) after_it)))
     (greater_least (height_of_statements tree.body) (height_of_statements tree.last) HIGHEST_STACK
-        (statements_low tree.body (all_front IsShort bs ls loops)) (statements_low tree.last (all_back IsShort bs ls loops))))
+    (statements_low tree.body (all_front IsShort bs ls loops)) (statements_low tree.last (all_back IsShort bs ls loops))))

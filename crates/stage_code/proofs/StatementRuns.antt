@@ -57,8 +57,8 @@ expression_on : (p : CodeSetting) (cells : List ℕ → Option CellRange) (turns
     → FollowsAt p n c (bind (evaluate (setting_with p cells turns) ls e) k)
 expression_on p cells turns ls scope names e n c k holds =
     subst (λ s. StaysInBounds p.bounds cells s (length c.stack) e → HasAt p.code c.place (expression_code cells s c.place e)
-        → FollowsWithValue p n c (c.place + length (expression_code cells s c.place e)) k
-        → FollowsAt p n c (bind (evaluate (setting_with p cells turns) ls e) k)) names
+    → FollowsWithValue p n c (c.place + length (expression_code cells s c.place e)) k
+    → FollowsAt p n c (bind (evaluate (setting_with p cells turns) ls e) k)) names
     (λ good has h. expression_runs p cells turns ls e n c k holds good has h)
 
 sets : (p : CodeSetting) (n : ℕ) (c : CodeState) (j : ℕ) (v : ℤ) (rest : List ℤ) (d : Interaction ColumnEnd) → j < length c.slots
@@ -66,7 +66,7 @@ sets : (p : CodeSetting) (n : ℕ) (c : CodeState) (j : ℕ) (v : ℤ) (rest : L
 sets p n c j v rest d within f =
     let t : nat_lt j (length c.slots) ≡ true = grind arith in
     subst (λ b. Follows p n (if b then Return (Next (record c { place = c.place + 1; stack = rest; slots = slice_set c.slots j v })) else Return
-        Stuck) d) (sym t) (GoesOn _ f)
+    Stuck) d) (sym t) (GoesOn _ f)
 
 let_run : (p : CodeSetting) (n at : ℕ) (scope : List (List ℕ)) (env : Environment) (slots : List ℤ) (x : List ℕ) (v : ℤ)
     (k : Environment → Interaction ColumnEnd) → HoldsLocals scope env slots → length scope < MOST_LOCALS
@@ -108,9 +108,9 @@ put_run p n at scope env slots j v None k fits is h = elim is [ ]
 put_run p n at scope env slots j v (Some a) k fits is h =
     let c = state_at (at) (v ∷ j ∷ []) slots env in
     step_over p n _ _ (λ l lt. subst (λ d. Follows p l (bind (element_in a.first a.size j) (write_effect p (with_stack c []) v)) d)
-        (sym (bind-assoc (element_in a.first a.size j) (λ b. Set b v (Return env)) k))
+    (sym (bind-assoc (element_in a.first a.size j) (λ b. Set b v (Return env)) k))
     (element_follows p l a.first a.size j _ _ (λ b within. cells_run p l (b + 1) _ _ (omega (arith, within, is))
-        (Sets b v (GoesOn _ (h l (omega arith) env slots fits))))))
+    (Sets b v (GoesOn _ (h l (omega arith) env slots fits))))))
 
 -- the effect of a stage statement
 stage_effect : (p : CodeSetting) (n : ℕ) (scope : List (List ℕ)) (c : CodeState) (env : Environment) (d : Interaction StagePosition)
@@ -119,7 +119,7 @@ stage_effect : (p : CodeSetting) (n : ℕ) (scope : List (List ℕ)) (c : CodeSt
 stage_effect p n scope c env d k fits h =
     step_over p n _ _ (λ l lt. subst (λ t. Follows p l (bind d (in_stage c [])) t) (sym (bind-assoc d (λ s. Return (record env { stage = s })) k))
     (follow_then p l d _ _ (λ m le s. GoesOn _ (h m (omega arith) (record env { stage = s }) c.slots
-        (record { holds = fits.holds; room = fits.room; names = fits.names })))))
+    (record { holds = fits.holds; room = fits.room; names = fits.names })))))
 
 stage_run : (p : CodeSetting) (n at : ℕ) (scope : List (List ℕ)) (env : Environment) (slots : List ℤ) (s : StageKind) (v : ℤ)
     (k : Environment → Interaction ColumnEnd) → HoldsLocals scope env slots → FollowsAtEnd p n scope (at + 1) k
@@ -195,35 +195,35 @@ while_run p cells turns e b body (suc t) n at scope env slots k lt few fits good
     let cb = statements_code cells scope (at + length ct + 1) b in
     let end = at + length ct + 1 + length cb + 1 in
     let len : at + length (ct ++ instrs.Branch end ∷ (cb ++ instrs.Jump at ∷ [])) ≡ end =
-        omega (arith, length-append ct (instrs.Branch end ∷ (cb ++ instrs.Jump at ∷ [])), length-append cb (instrs.Jump at ∷ [])) in
+    omega (arith, length-append ct (instrs.Branch end ∷ (cb ++ instrs.Jump at ∷ [])), length-append cb (instrs.Jump at ∷ [])) in
     let hb = rest_at p.code at ct _ has in
     let again = λ (after : Environment). loop_turns t (λ v. evaluate (setting_with p cells turns) v.locals e)
-        (execute_all (setting_with p cells turns) b) (leave_block env after) in
+    (execute_all (setting_with p cells turns) b) (leave_block env after) in
     let go = bind (execute_all (setting_with p cells turns) b env) again in
     subst (FollowsAt p n (ready at slots env)) (sym (bind-assoc (evaluate (setting_with p cells turns) env.locals e) (λ v. Step (if_zero v (Return env) go)) k))
     (expression_on p cells turns env.locals scope fits.names e n (ready at slots env) (λ v. bind (Step (if_zero v (Return env) go)) k) fits.holds
-        good.0 (first_at p.code at ct _ has) (λ m le v.
+    good.0 (first_at p.code at ct _ has) (λ m le v.
     let c = state_at (at + length ct) (v ∷ []) slots env in
     at_instr p m c (instrs.Branch end) _ hb.0
     (step_over p m _ _ (λ l less. branch p l c end [] v (Return env) go k
     (subst (λ q. FollowsAt p l (ready q slots env) (k env)) len (h l (omega arith) env slots fits))
     (subst (FollowsAt p l (ready (at + length ct + 1) slots env)) (sym (bind-assoc (execute_all (setting_with p cells turns) b env) again k))
     (body l (at + length ct + 1) scope env slots (λ after. bind (again after) k) (omega (arith, few)) fits good.1 (first_at p.code _ cb _ hb.1)
-        (λ j le' after now f.
+    (λ j le' after now f.
     at_instr p j (ready (at + length ct + 1 + length cb) now after) (instrs.Jump at) _ (rest_at p.code _ cb _ hb.1).0
     (GoesOn _ (while_run p cells turns e b body t j at scope (leave_block env after) now k (omega (arith, lt)) (omega (arith, few))
-        (leaves scope b env after slots now fits f) good has (λ i le'' x y z. h i (omega arith) x y z))))))))))
+    (leaves scope b env after slots now fits f) good has (λ i le'' x y z. h i (omega arith) x y z))))))))))
 
 mutual
   pub statement_runs : (p : CodeSetting) (cells : List ℕ → Option CellRange) (turns : ℕ) (s : Statement) → StatementRuns p cells turns s
   statement_runs p cells turns (Let x e) n at scope env slots k few fits good has h =
       let ce = expression_code cells scope at e in
       let len : at + length ce + 1 ≡ at + length (ce ++ instrs.SetLocal (length scope) ∷ []) =
-          omega (arith, length-append ce (instrs.SetLocal (length scope) ∷ [])) in
+      omega (arith, length-append ce (instrs.SetLocal (length scope) ∷ [])) in
       subst (FollowsAt p n (ready at slots env)) (sym
-          (bind-assoc (evaluate (setting_with p cells turns) env.locals e) (λ v. Step (Return (declare_local env x v))) k))
+      (bind-assoc (evaluate (setting_with p cells turns) env.locals e) (λ v. Step (Return (declare_local env x v))) k))
       (expression_on p cells turns env.locals scope fits.names e n (ready at slots env) (λ v. Step (k (declare_local env x v))) fits.holds good.0
-          (first_at p.code at ce _ has) (λ m le v.
+      (first_at p.code at ce _ has) (λ m le v.
       at_instr p m (state_at (at + length ce) (v ∷ []) slots env) (instrs.SetLocal (length scope)) _ (rest_at p.code at ce _ has).0
       (let_run p m (at + length ce) scope env slots x v k fits good.1 (fewer p n m _ _ k le (ends_at p n _ _ _ k len h)))))
   statement_runs p cells turns (Assign x e) n at scope env slots k few fits good has h =
@@ -232,43 +232,43 @@ mutual
       let len : at + length ce + 1 ≡ at + length (ce ++ i ∷ []) = omega (arith, length-append ce (i ∷ [])) in
       let found = subst (λ s. FoundTogether (slot_of s x) (local_value env.locals x) slots) fits.names (finds env.locals slots x fits.holds) in
       subst (FollowsAt p n (ready at slots env)) (sym
-          (bind-assoc (evaluate (setting_with p cells turns) env.locals e) (λ v. Step (assign env (local_value env.locals x) (cells x) x v)) k))
+      (bind-assoc (evaluate (setting_with p cells turns) env.locals e) (λ v. Step (assign env (local_value env.locals x) (cells x) x v)) k))
       (expression_on p cells turns env.locals scope fits.names e n (ready at slots env)
-          (λ v. bind (Step (assign env (local_value env.locals x) (cells x) x v)) k) fits.holds good.0 (first_at p.code at ce _ has) (λ m le v.
+      (λ v. bind (Step (assign env (local_value env.locals x) (cells x) x v)) k) fits.holds good.0 (first_at p.code at ce _ has) (λ m le v.
       at_instr p m (state_at (at + length ce) (v ∷ []) slots env) i _ (rest_at p.code at ce _ has).0
       (assign_run p m (at + length ce) scope env slots x v (slot_of scope x) (local_value env.locals x) (cells x) k fits
-          (ap (λ s. slot_of s x) fits.names) found good.1 (fewer p n m _ _ k le (ends_at p n _ _ _ k len h)))))
+      (ap (λ s. slot_of s x) fits.names) found good.1 (fewer p n m _ _ k le (ends_at p n _ _ _ k len h)))))
   statement_runs p cells turns (AssignElement x i e) n at scope env slots k few fits good has h =
       let ci = expression_code cells scope at i in
       let ce = expression_code cells scope (at + length ci) e in
       let o = assign_element_code (cells x) in
       let len : at + length ci + length ce + 1 ≡ at + length (ci ++ (ce ++ o ∷ [])) =
-          omega (arith, length-append ci (ce ++ o ∷ []), length-append ce (o ∷ [])) in
+      omega (arith, length-append ci (ce ++ o ∷ []), length-append ce (o ∷ [])) in
       let hb = rest_at p.code at ci _ has in
       let put = λ (j v : ℤ). Step (bind (element_of (cells x) j) (λ c. Set c v (Return env))) in
       subst (FollowsAt p n (ready at slots env)) (sym
-          (bind-assoc (evaluate (setting_with p cells turns) env.locals i) (λ j. bind (evaluate (setting_with p cells turns) env.locals e)
-          (put j)) k))
+      (bind-assoc (evaluate (setting_with p cells turns) env.locals i) (λ j. bind (evaluate (setting_with p cells turns) env.locals e)
+      (put j)) k))
       (expression_on p cells turns env.locals scope fits.names i n (ready at slots env)
-          (λ j. bind (bind (evaluate (setting_with p cells turns) env.locals e) (put j)) k) fits.holds good.0 (first_at p.code at ci _ has) (λ m le j.
+      (λ j. bind (bind (evaluate (setting_with p cells turns) env.locals e) (put j)) k) fits.holds good.0 (first_at p.code at ci _ has) (λ m le j.
       let c = state_at (at + length ci) (j ∷ []) slots env in
       subst (FollowsAt p m c) (sym (bind-assoc (evaluate (setting_with p cells turns) env.locals e) (put j) k))
       (expression_on p cells turns env.locals scope fits.names e m c (λ v. bind (put j v) k) fits.holds good.1 (first_at p.code _ ce _ hb) (λ l le' v.
       at_instr p l (state_at (at + length ci + length ce) (v ∷ j ∷ []) slots env) o _ (rest_at p.code _ ce _ hb).0
       (put_run p l (at + length ci + length ce) scope env slots j v (cells x) k fits good.2
-          (fewer p n l _ _ k (omega (arith, le, le')) (ends_at p n _ _ _ k len h)))))))
+      (fewer p n l _ _ k (omega (arith, le, le')) (ends_at p n _ _ _ k len h)))))))
   statement_runs p cells turns (Emit e) n at scope env slots k few fits good has h =
       let ce = expression_code cells scope at e in
       let len : at + length ce + 1 ≡ at + length (ce ++ instrs.Emit ∷ []) = omega (arith, length-append ce (instrs.Emit ∷ [])) in
       let f = λ (v : ℤ). Step (bind (emit p.world.emits v) (λ u. Return env)) in
       subst (FollowsAt p n (ready at slots env)) (sym (bind-assoc (evaluate (setting_with p cells turns) env.locals e) f k))
       (expression_on p cells turns env.locals scope fits.names e n (ready at slots env) (λ v. bind (f v) k) fits.holds good.0
-          (first_at p.code at ce _ has) (λ m le v.
+      (first_at p.code at ce _ has) (λ m le v.
       let c = state_at (at + length ce) (v ∷ []) slots env in
       at_instr p m c instrs.Emit _ (rest_at p.code at ce _ has).0
       (step_over p m _ _ (λ l lt. cells_run p l 2 _ _ good.1 (subst
-          (λ d. Follows p l (bind (emit p.world.emits v) (λ u. goes_to c (at + length ce + 1) [])) d)
-          (sym (bind-assoc (emit p.world.emits v) (λ u. Return env) k))
+      (λ d. Follows p l (bind (emit p.world.emits v) (λ u. goes_to c (at + length ce + 1) [])) d)
+      (sym (bind-assoc (emit p.world.emits v) (λ u. Return env) k))
       (follow_then p l (emit p.world.emits v) _ _ (λ j le' u. GoesOn _ (ends_at p n _ _ _ k len h j (omega arith) env slots fits))))))))
   statement_runs p cells turns (If e a b) n at scope env slots k few fits good has h =
       let ct = expression_code cells scope at e in
@@ -277,7 +277,7 @@ mutual
       let other = at + length ct + 1 + length ca + 1 in
       let end = other + length cb in
       let len : at + length (ct ++ instrs.Branch other ∷ (ca ++ instrs.Jump end ∷ cb)) ≡ end =
-          omega (arith, length-append ct (instrs.Branch other ∷ (ca ++ instrs.Jump end ∷ cb)), length-append ca (instrs.Jump end ∷ cb)) in
+      omega (arith, length-append ct (instrs.Branch other ∷ (ca ++ instrs.Jump end ∷ cb)), length-append ca (instrs.Jump end ∷ cb)) in
       let hb = rest_at p.code at ct _ has in
       let hj = rest_at p.code _ ca _ hb.1 in
       let da = execute_all (setting_with p cells turns) a env in
@@ -285,18 +285,18 @@ mutual
       let out = λ (after : Environment). Return (leave_block env after) in
       let done = ends_at p n _ _ _ k (sym len) h in
       subst (FollowsAt p n (ready at slots env)) (sym
-          (bind-assoc (evaluate (setting_with p cells turns) env.locals e) (λ v. Step (bind (if_zero v db da) out)) k))
+      (bind-assoc (evaluate (setting_with p cells turns) env.locals e) (λ v. Step (bind (if_zero v db da) out)) k))
       (expression_on p cells turns env.locals scope fits.names e n (ready at slots env) (λ v. bind (Step (bind (if_zero v db da) out)) k)
-          fits.holds good.0 (first_at p.code at ct _ has) (λ m le v.
+      fits.holds good.0 (first_at p.code at ct _ has) (λ m le v.
       let c = state_at (at + length ct) (v ∷ []) slots env in
       at_instr p m c (instrs.Branch other) _ hb.0
       (step_over p m _ _ (λ l lt. subst (λ d. Follows p l (if_zero v (goes_to c other []) (goes_to c (at + length ct + 1) [])) d)
-          (sym (bind-assoc (if_zero v db da) out k))
+      (sym (bind-assoc (if_zero v db da) out k))
       (branch p l c other [] v db da (λ after. k (leave_block env after))
       (statements_run p cells turns b l other scope env slots (λ after. k (leave_block env after)) (omega (arith, few)) fits good.2 hj.1
-          (λ j le' after now f. done j (omega arith) (leave_block env after) now (leaves scope b env after slots now fits f)))
+      (λ j le' after now f. done j (omega arith) (leave_block env after) now (leaves scope b env after slots now fits f)))
       (statements_run p cells turns a l (at + length ct + 1) scope env slots (λ after. k (leave_block env after)) (omega (arith, few)) fits
-          good.1 (first_at p.code _ ca _ hb.1) (λ j le' after now f.
+      good.1 (first_at p.code _ ca _ hb.1) (λ j le' after now f.
       at_instr p j (ready (at + length ct + 1 + length ca) now after) (instrs.Jump end) _ hj.0
       (GoesOn _ (done j (omega arith) (leave_block env after) now (leaves scope a env after slots now fits f))))))))))
   statement_runs p cells turns (While e a) n at scope env slots k few fits good has h =
@@ -307,7 +307,7 @@ mutual
       let f = λ (v : ℤ). Step (bind (go_to_stage p.world.stages s env.stage v) (λ s. Return (record env { stage = s }))) in
       subst (FollowsAt p n (ready at slots env)) (sym (bind-assoc (evaluate (setting_with p cells turns) env.locals e) f k))
       (expression_on p cells turns env.locals scope fits.names e n (ready at slots env) (λ v. bind (f v) k) fits.holds good
-          (first_at p.code at ce _ has) (λ m le v.
+      (first_at p.code at ce _ has) (λ m le v.
       at_instr p m (state_at (at + length ce) (v ∷ []) slots env) (stage_code s) _ (rest_at p.code at ce _ has).0
       (stage_run p m (at + length ce) scope env slots s v k fits (fewer p n m _ _ k le (ends_at p n _ _ _ k len h)))))
   statement_runs p cells turns (NextStage s) n at scope env slots k few fits good has h =
@@ -321,11 +321,11 @@ mutual
       let cr = statements_code cells (locals_after scope s) (at + length cs) rest in
       let len : at + length cs + length cr ≡ at + length (cs ++ cr) = omega (arith, length-append cs cr) in
       subst (FollowsAt p n (ready at slots env)) (sym
-          (bind-assoc (execute (setting_with p cells turns) s env) (execute_all (setting_with p cells turns) rest) k))
+      (bind-assoc (execute (setting_with p cells turns) s env) (execute_all (setting_with p cells turns) rest) k))
       (statement_runs p cells turns s n at scope env slots (λ after. bind (execute_all (setting_with p cells turns) rest after) k) few fits
-          good.0 (first_at p.code at cs _ has) (λ m le after now f.
+      good.0 (first_at p.code at cs _ has) (λ m le after now f.
       statements_run p cells turns rest m (at + length cs) (locals_after scope s) after now k (omega (arith, few)) f good.1
-          (rest_at p.code at cs _ has) (fewer p n m _ _ k le (ends_at p n _ _ _ k len h))))
+      (rest_at p.code at cs _ has) (fewer p n m _ _ k le (ends_at p n _ _ _ k len h))))
 
 loop_test : (p : CodeSetting) (n : ℕ) (c : CodeState) (v : ℤ) (body : Interaction ColumnEnd)
     → FollowsAt p n (record c { place = c.place + 1; stack = [] }) body
@@ -352,11 +352,11 @@ iteration_runs p cells turns n at slots test body few room_is good_test good has
     let hb = rest_at p.code at ct _ has in
     let rest = bind (execute_all (setting_with p cells turns) body first_environment) (λ env. Return ends.End) in
     expression_on p cells turns [] [] refl test n (ready at slots first_environment) (λ v. Step (after_test p.world v rest)) tt good_test
-        (first_at p.code at ct _ has) (λ m le v.
+    (first_at p.code at ct _ has) (λ m le v.
     at_instr p m (state_at (at + length ct) (v ∷ []) slots first_environment) instrs.LoopTest _ hb.0
     (step_over p m _ _ (λ l lt. loop_test p l (state_at (at + length ct) (v ∷ []) slots first_environment) v rest
     (statements_run p cells turns body l (at + length ct + 1) [] first_environment slots (λ env. Return ends.End) (omega (arith, few))
-        (record { holds = tt; room = room_is; names = refl }) good (first_at p.code _ cb _ hb.1) (λ j le' env now f.
+    (record { holds = tt; room = room_is; names = refl }) good (first_at p.code _ cb _ hb.1) (λ j le' env now f.
     at_instr p j (ready (at + length ct + 1 + length cb) now env) instrs.End _ (rest_at p.code _ cb _ hb.1).0 (Finishes _))))))
 
 -- the code of a part without a loop runs it
@@ -367,5 +367,5 @@ pub part_runs : (p : CodeSetting) (cells : List ℕ → Option CellRange) (turns
 part_runs p cells turns n at slots body few room_is good has =
     let cb = statements_code cells [] at body in
     statements_run p cells turns body n at [] first_environment slots (λ env. Return ends.End) few
-        (record { holds = tt; room = room_is; names = refl }) good (first_at p.code at cb _ has) (λ j le' env now f.
+    (record { holds = tt; room = room_is; names = refl }) good (first_at p.code at cb _ has) (λ j le' env now f.
     at_instr p j (ready (at + length cb) now env) instrs.End _ (rest_at p.code at cb _ has).0 (Finishes _))

@@ -84,13 +84,22 @@ if_fits cells scope e a b whole base test body other is few e1 e2 e3 =
     let other_at = at + length test' + 1 + length body' + 1 in
     let other' = statements_code cells scope other_at b in
     let all : length (statement_code cells scope at whole) ≡ length (test' ++ instrs.Branch other_at
-        ∷ (body' ++ instrs.Jump (other_at + length other') ∷ other')) = ap (λ s. length (statement_code cells scope at s)) is in
+    ∷ (body' ++ instrs.Jump (other_at + length other') ∷ other')) = ap (λ s. length (statement_code cells scope at s)) is in
     let l1 : length test ≡ length test' = ap length e1 in
     let l2 : length body ≡ length body' = ap length e2 ∙ ap (λ n. length (statements_code cells scope (at + n + 1) a)) l1 in
     let at2 : at + length test + 1 + length body + 1 ≡ other_at = omega (arith, l1, l2) in
     let l3 : length other ≡ length other' = ap length e3 ∙ ap (λ n. length (statements_code cells scope n b)) at2 in
-    omega (arith, few, all, l1, l2, l3, length-append test' (instrs.Branch other_at
-        ∷ (body' ++ instrs.Jump (other_at + length other') ∷ other')), length-append body' (instrs.Jump (other_at + length other') ∷ other'))
+    omega (
+      arith,
+      few,
+      all,
+      l1,
+      l2,
+      l3,
+      length-append test' (instrs.Branch other_at
+          ∷ (body' ++ instrs.Jump (other_at + length other') ∷ other')),
+      length-append body' (instrs.Jump (other_at + length other') ∷ other'),
+    )
 
 -- how long the code is after each step of an `if`
 pub record IfFits (cells : List ℕ → Option CellRange) (scope : List (List ℕ)) (a b : Statements) (at first second : ℕ) : Type 0 where
@@ -156,8 +165,14 @@ body_fits cells scope e a whole base c1 c2 x is few e1 e2 =
     let first = at + length test + 1 in
     let body = statements_code cells scope first a in
     let all : length (statement_code cells scope at whole) ≡ length (test ++ instrs.Branch (first + length body + 1)
-        ∷ (body ++ instrs.Jump at ∷ [])) = ap (λ s. length (statement_code cells scope at s)) is in
+    ∷ (body ++ instrs.Jump at ∷ [])) = ap (λ s. length (statement_code cells scope at s)) is in
     let l2 : length c2 ≡ first = omega (arith, ap length e2, length-append c1 (x ∷ []), ap length e1, length-append base test) in
     subst (λ n. n + length (statements_code cells scope n a) + 1 ≤ LONGEST_CODE) (sym l2)
-    (omega (arith, few, all, length-append test (instrs.Branch (first + length body + 1) ∷ (body ++ instrs.Jump at ∷ [])), length-append body
-        (instrs.Jump at ∷ [])))
+    (omega (
+      arith,
+      few,
+      all,
+      length-append test (instrs.Branch (first + length body + 1) ∷ (body ++ instrs.Jump at ∷ [])),
+      length-append body
+          (instrs.Jump at ∷ []),
+    ))

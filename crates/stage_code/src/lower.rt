@@ -53,7 +53,7 @@ fn put_iteration(
     requires slots { HaveSlots [] (statements_of body.now.statements.items) }
     ensures { OnOk result (code.new.items
         ≡ code.old.items ++ iteration_code (range_of 2 cells.now) (length code.old.items) (expression_of test.now)
-            (statements_of body.now.statements.items)) }
+        (statements_of body.now.statements.items)) }
 {
     let mut locals = Locals::new(alloc);
     put_expression(code, cells, &locals, test)?;

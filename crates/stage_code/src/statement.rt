@@ -91,7 +91,7 @@ fn put_assign_element(
         (AssignElement name.now (expression_of index.now) (expression_of e.now))) }
     ensures { OnOk result (code.new.items
         ≡ code.old.items ++ statement_code (range_of 2 cells.now) locals.now (length code.old.items)
-            (AssignElement name.now (expression_of index.now) (expression_of e.now))) }
+        (AssignElement name.now (expression_of index.now) (expression_of e.now))) }
 {
     put_expression(code, cells, locals, index)?;
     put_expression(code, cells, locals, e)?;

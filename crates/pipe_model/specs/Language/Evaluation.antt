@@ -169,7 +169,7 @@ abbrev pub go_to_stage : ℕ → StageKind → StagePosition → ℤ → Interac
 go_to_stage stages kind here n =
     if int_lt here.number n
     then (if nat_lt here.count stages then interactions.Stage (kind_of_stage kind) n (Return (record { number = n; count = here.count + 1 }))
-        else Raise traps.StageLimit)
+    else Raise traps.StageLimit)
     else Raise traps.StageOrder
 
 -- a missing stage number is the current one plus 1
@@ -193,15 +193,15 @@ abbrev mutual
   execute setting (Assign x e) env = bind (evaluate setting env.locals e) (λ v. Step (assign env (local_value env.locals x) (setting.cells x) x v))
   execute setting (AssignElement x i e) env =
       bind (evaluate setting env.locals i) (λ j. bind (evaluate setting env.locals e)
-          (λ v. Step (bind (element_of (setting.cells x) j) (λ cell. Set cell v (Return env)))))
+      (λ v. Step (bind (element_of (setting.cells x) j) (λ cell. Set cell v (Return env)))))
   execute setting (Emit e) env = bind (evaluate setting env.locals e) (λ v. Step (bind (emit setting.world.emits v) (λ done. Return env)))
   execute setting (If e a b) env =
       bind (evaluate setting env.locals e) (λ v. Step (bind (if_zero v (execute_all setting b env) (execute_all setting a env))
-          (λ after. Return (leave_block env after))))
+      (λ after. Return (leave_block env after))))
   execute setting (While e a) env = loop_turns setting.turns (λ now. evaluate setting now.locals e) (execute_all setting a) env
   execute setting (Stage kind e) env =
       bind (evaluate setting env.locals e) (λ n. Step (bind (go_to_stage setting.world.stages kind env.stage n)
-          (λ stage. Return (record env { stage = stage }))))
+      (λ stage. Return (record env { stage = stage }))))
   execute setting (NextStage kind) env = Step (bind (go_to_next_stage setting.world.stages kind env.stage) (λ stage. Return (record env { stage = stage })))
 
   -- statements one after the other

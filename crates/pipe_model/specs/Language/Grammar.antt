@@ -124,7 +124,7 @@ limits_before iterations stages steps emits ps =
 pub data DerivesProgram : List Piece → SyntaxTree → Type 0 where
   ProgramIs : {cs is bs ls : List Piece} {ts : List Symbol} {cells : List Declaration} {init body last : Statements} {test : Expression}
       (iterations stages steps emits : ℤ) → DerivesCells cs cells → DerivesPart word_init is init → Derives any_expression ts test
-          → DerivesBlock bs body → DerivesPart word_final ls last
+      → DerivesBlock bs body → DerivesPart word_final ls last
       → DerivesProgram
       (limits_before iterations stages steps emits
       (cs ++ (is ++ Single word_pipe_while ∷ Single open_round ∷ FullExpression ts ∷ Single close_round ∷ (bs ++ ls))))

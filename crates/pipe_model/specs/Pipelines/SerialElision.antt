@@ -16,7 +16,7 @@ use Rattle.pipe_model.specs.Pipelines.Store.{InitialStore, value_after}
 abbrev pub serial_trace : InitialStore → Behaviour → List Access → List Action
 serial_trace store (Reading c go) before =
     Accessed (read_access c (value_after store before c)) ∷ serial_trace store (go (value_after store before c))
-        (before ++ read_access c (value_after store before c) ∷ [])
+    (before ++ read_access c (value_after store before c) ∷ [])
 serial_trace store (Writing c v d) before = Accessed (write_access c v) ∷ serial_trace store d (before ++ write_access c v ∷ [])
 serial_trace store (Staging k n d) before = Staged k n ∷ serial_trace store d before
 serial_trace store (Ending e) before = Ended e ∷ []
@@ -31,7 +31,7 @@ abbrev pub serial_traces_from : Pipeline → ℕ → ℕ → List Access → Lis
 serial_traces_from p zero i before = []
 serial_traces_from p (suc n) i before =
     serial_trace p.store (p.behaviour i) before ∷ unless (closes_loop (serial_trace p.store (p.behaviour i) before))
-        (serial_traces_from p n (i + 1) (before ++ accesses_in (serial_trace p.store (p.behaviour i) before)))
+    (serial_traces_from p n (i + 1) (before ++ accesses_in (serial_trace p.store (p.behaviour i) before)))
 
 -- the traces of the serial elision, iteration after iteration
 abbrev pub serial_traces : Pipeline → List (List Action)

@@ -133,7 +133,7 @@ reports_below_cell : (columns : List (List Node)) (starts : List NodeId) (access
 reports_below_cell columns starts accesses zero r m = absurd (none_among r m)
 reports_below_cell columns starts accesses (suc c) r m =
     elim (among_either r (reports_below columns starts accesses c) (report_found columns c (accesses_to c accesses)
-        (found_race_of_cell columns starts accesses c)) m) [
+    (found_race_of_cell columns starts accesses c)) m) [
       | inl old ↦ (let l = reports_below_cell columns starts accesses c r old in omega (arith, l))
       | inr new ↦ of_cell (found_race_of_cell columns starts accesses c) new
     ]

@@ -12,7 +12,7 @@ check_block-returns-in_err-next-clause-marks t c =
     let p = err_from_is_err_and c.from_residual.result c.from_residual.ensures.1 in
     let w : c.loop-s.s-index < length c.deref-s-items.result.now = omega arith in
     rw (p.1, p.2) (block_refused c.loop-s.scope c.deref-s-items.result.now c.loop-s.s-index c.loop-s.next c.s-item.result _ _ w c.s-item.is
-        c.loop-s.invariant.faults
+    c.loop-s.invariant.faults
     c.in_err-next.ensures.marks)
 
 pub check_block-check_statement-requires : goal.check_block-check_statement-requires
@@ -30,7 +30,7 @@ pub check_block-loop-s-preserved : goal.check_block-loop-s-preserved
 check_block-loop-s-preserved t c =
     let w : c.loop-s.s-index < length c.deref-s-items.result.now = omega arith in
     let step = statement_passed c.loop-s.scope c.check_statement.new.scope c.deref-s-items.result.now c.loop-s.s-index c.loop-s.next
-        c.in_ok-next.next c.s-item.result w c.s-item.is
+    c.in_ok-next.next c.s-item.result w c.s-item.is
     c.in_ok-next.ensures.marks c.in_ok-next.ensures.scope_after in
     record {
       faults = step.faults ∙ c.loop-s.invariant.faults;
@@ -82,9 +82,9 @@ pub check_statement-returns-in_ok-next-in-If-2-clause-scope_after : goal.check_s
 check_statement-returns-in_ok-next-in-If-2-clause-scope_after t c =
     let is = ap statement_of c.in-If.is ∙ if_seen c.in-If.e c.in-If.a c.in-If.b in
     on_ok_weaker c.check_block-in-If.result (λ left. branch_left c.args.scope.now c.check_block.new.scope c.check_block-in-If.new.scope
-        (expression_of c.in-If.e)
+    (expression_of c.in-If.e)
     (statements_of c.in-If.a.statements.items) (statements_of c.in-If.b.statements.items) _ is c.in_ok-next-in-If-2.ensures.scope_after left)
-        c.check_block-in-If.ensures.scope_after
+    c.check_block-in-If.ensures.scope_after
 
 pub check_statement-returns-in_err-next-in-While-clause-marks : goal.check_statement-returns-in_err-next-in-While-clause-marks
 check_statement-returns-in_err-next-in-While-clause-marks t c =

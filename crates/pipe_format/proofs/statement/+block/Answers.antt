@@ -24,7 +24,7 @@ push_statement-returns-after-not-is_empty t c =
     ] in
     rw whole (on_ok c.push_line-in-If.result
     (λ h. if_by_parts c.args.indent (expression_of c.in-If.test) then other c.args.text.now.items c.push_between-in-If.new.text.items
-        c.push_block.new.text.items _ _
+    c.push_block.new.text.items _ _
     c.in_ok-push_between-in-If.ensures c.in_ok-push_block-in-If.ensures chosen h)
     c.push_line-in-If.ensures)
 
@@ -34,6 +34,6 @@ push_statement-returns-in_ok-push_block-in-While t c =
     let whole : statement_of c.args.s.now ≡ While (expression_of c.in-While.test) body = rw c.in-While.is (while_seen c.in-While.test c.in-While.body) in
     rw whole (on_ok c.push_line-in-While.result
     (λ h. while_by_parts c.args.indent (expression_of c.in-While.test) body c.args.text.now.items c.push_between-in-While.new.text.items
-        c.push_block-in-While.new.text.items _
+    c.push_block-in-While.new.text.items _
     c.in_ok-push_between-in-While.ensures c.in_ok-push_block-in-While.ensures h)
     c.push_line-in-While.ensures)

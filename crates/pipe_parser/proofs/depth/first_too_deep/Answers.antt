@@ -9,14 +9,30 @@ loop-first-init c =
 pub overflow_add-opened : goal.overflow_add-opened
 overflow_add-opened c =
     let within = counted_within _ _ _ _ c.loop-first.invariant in
-    omega (arith, within.0, c.len-all.ensures, c.len-all.type_inv, c.one_where-opened.ensures, one_at_most c.is_opening_bracket.result, ap length
-        c.in-Some.ensures.some)
+    omega (
+      arith,
+      within.0,
+      c.len-all.ensures,
+      c.len-all.type_inv,
+      c.one_where-opened.ensures,
+      one_at_most c.is_opening_bracket.result,
+      ap length
+          c.in-Some.ensures.some,
+    )
 
 pub overflow_add-closed : goal.overflow_add-closed
 overflow_add-closed c =
     let within = counted_within _ _ _ _ c.loop-first.invariant in
-    omega (arith, within.1, c.len-all.ensures, c.len-all.type_inv, c.one_where-closed.ensures, one_at_most c.is_closing_bracket.result, ap length
-        c.in-Some.ensures.some)
+    omega (
+      arith,
+      within.1,
+      c.len-all.ensures,
+      c.len-all.type_inv,
+      c.one_where-closed.ensures,
+      one_at_most c.is_closing_bracket.result,
+      ap length
+          c.in-Some.ensures.some,
+    )
 
 pub overflow_sub-result : goal.overflow_sub-result
 overflow_sub-result c =

@@ -15,7 +15,7 @@ returns-in_err-rest-clause-err c =
     let p = err_from_is_err_and c.from_residual-in_err-rest.result c.from_residual-in_err-rest.ensures.1 in
     rw (p.1, p.2)
     (fault_cell_end _ _ _ _ _ _ _ _ c.in-Some.ensures.some c.in_ok-size.ensures.ok c.in_ok-third.ensures.ok c.in_ok-value.ensures.ok _
-        c.in_err-rest.ensures.err)
+    c.in_err-rest.ensures.err)
 
 pub returns-clause-ok : goal.returns-clause-ok
 returns-clause-ok c =

@@ -27,16 +27,16 @@ pub returns-in_err-last-clause-err : goal.returns-in_err-last-clause-err
 returns-in_err-last-clause-err c =
     let p = err_from_is_err_and c.from_residual-in_err-last.result c.from_residual-in_err-last.ensures.1 in
     rw (p.1, p.2) (refuses_last _ _ _ _ _ _ _ _ _ _ c.in_ok-limits.ensures.ok c.in_ok-cells.ensures.ok c.in_ok-init.ensures.ok
-        c.in_ok-test.ensures.ok _ c.in_err-last.ensures.err)
+    c.in_ok-test.ensures.ok _ c.in_err-last.ensures.err)
 
 pub returns-then-len-gt0-clause-err : goal.returns-then-len-gt0-clause-err
 returns-then-len-gt0-clause-err c =
     let some : 0 < length c.in_ok-last.rest = omega (arith, c.if-len-gt0.true, c.len.ensures) in
     rw c.len-then-len-gt0.ensures (refuses_more c.in_ok-limits.limits c.in_ok-cells.cells _ _ _ _ _ _ _ _ _ _ c.in_ok-limits.ensures.ok
-        c.in_ok-cells.ensures.ok c.in_ok-init.ensures.ok c.in_ok-test.ensures.ok c.in_ok-last.ensures.ok some)
+    c.in_ok-cells.ensures.ok c.in_ok-init.ensures.ok c.in_ok-test.ensures.ok c.in_ok-last.ensures.ok some)
 
 pub returns-clause-ok : goal.returns-clause-ok
 returns-clause-ok c =
     let none : length c.in_ok-last.rest ≡ 0 = omega (arith, c.if-len-gt0.false, c.len.ensures) in
     program_read c.in_ok-limits.limits c.in_ok-cells.cells _ _ _ _ _ _ _ _ _ _ c.in_ok-limits.ensures.ok c.in_ok-cells.ensures.ok
-        c.in_ok-init.ensures.ok c.in_ok-test.ensures.ok c.in_ok-last.ensures.ok none
+    c.in_ok-init.ensures.ok c.in_ok-test.ensures.ok c.in_ok-last.ensures.ok none

@@ -22,7 +22,7 @@ returns-in_ok-put-in-Binary-2 t c =
     ∙ passing_patched (test_code op) base (expression_code cells scope (length base) a) c.put_expression-in-Binary.new.code.items c.put-in-Binary.new.code.items
     c.put_expression-in-Binary-2.new.code.items c.put-in-Binary-2.new.code.items (λ n. expression_code cells scope n b) c.test_code.result instrs.Truth
     c.len-test.result c.place.result c.in_ok-put_expression-in-Binary.ensures (search rules) c.in_ok-put-in-Binary.ensures
-        c.in_ok-put_expression-in-Binary-3.ensures
+    c.in_ok-put_expression-in-Binary-3.ensures
     c.in_ok-put-in-Binary-2.ensures c.place.ensures
     ∙ ap (λ l. base ++ l) (sym (short_joined cells scope (length base) op a b short))
     ∙ ap (λ e. base ++ expression_code cells scope (length base) e) (sym is)

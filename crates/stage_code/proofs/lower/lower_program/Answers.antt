@@ -16,7 +16,7 @@ of-requires-clause-new c =
 pub of-requires-clause-few : goal.of-requires-clause-few
 of-requires-clause-few c =
     subst (λ (ds : List Declaration). cell_total ds ≤ MOST_CELLS) (sym c.as_slice.ensures)
-        (ready (tree_of c.args.program.now) c.requires.spellable c.requires.obeys).few
+    (ready (tree_of c.args.program.now) c.requires.spellable c.requires.obeys).few
 
 pub put_part-requires-clause-fits : goal.put_part-requires-clause-fits
 put_part-requires-clause-fits c =
@@ -42,7 +42,7 @@ put_iteration-requires-clause-slots c = (ready (tree_of c.args.program.now) c.re
 pub place-last-requires : goal.place-last-requires
 place-last-requires c =
     let fits = last_fits (tree_of c.args.program.now) (range_of 2 c.in_ok-cells.cells) c.new-instrs.result.items c.put_part.new.code.items
-        c.put_iteration.new.code.items
+    c.put_iteration.new.code.items
     c.requires.spellable.bounded c.new-instrs.ensures.items c.in_ok-put_part.ensures c.in_ok-put_iteration.ensures in
     omega (arith, fits)
 
@@ -62,7 +62,7 @@ new-requires c =
     let program = c.args.program.now in
     let table : c.in_ok-cells.cells ≡ program.cells = c.in_ok-cells.ensures ∙ c.as_slice.ensures in
     subst IsSoundCode (sym (flat_is (tree_of program) c.in_ok-cells.cells c.new-instrs.result.items c.put_part.new.code.items
-        c.put_iteration.new.code.items c.put_part-2.new.code.items
+    c.put_iteration.new.code.items c.put_part-2.new.code.items
     c.place-pipe.result c.place-last.result c.greatest_height-depth.result table c.new-instrs.ensures.items c.in_ok-put_part.ensures c.place-pipe.ensures
     c.in_ok-put_iteration.ensures c.place-last.ensures c.in_ok-put_part-2.ensures c.greatest_height-depth.ensures))
     (flat_sound (tree_of program) c.requires.spellable c.requires.obeys)
@@ -73,6 +73,6 @@ returns c =
     let table : c.in_ok-cells.cells ≡ program.cells = c.in_ok-cells.ensures ∙ c.as_slice.ensures in
     c.new.ensures
     ∙ flat_is (tree_of program) c.in_ok-cells.cells c.new-instrs.result.items c.put_part.new.code.items c.put_iteration.new.code.items
-        c.put_part-2.new.code.items
+    c.put_part-2.new.code.items
     c.place-pipe.result c.place-last.result c.greatest_height-depth.result table c.new-instrs.ensures.items c.in_ok-put_part.ensures c.place-pipe.ensures
     c.in_ok-put_iteration.ensures c.place-last.ensures c.in_ok-put_part-2.ensures c.greatest_height-depth.ensures

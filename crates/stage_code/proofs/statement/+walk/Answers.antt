@@ -30,7 +30,7 @@ put_block-returns-clause-after t c =
     let w : length items ≤ c.loop-s.s-index = omega arith in
     let visible : c.len-visible.result ≡ length c.args.locals.now = c.len-visible.ensures in
     c.leave.ensures ∙ rw visible (block_left c.args.locals.now c.loop-s.locals items c.loop-s.s-index
-        (statements_of c.args.block.now.statements.items) w c.loop-s.invariant.after)
+    (statements_of c.args.block.now.statements.items) w c.loop-s.invariant.after)
 
 pub put_statement-put_block-requires : goal.put_statement-put_block-requires
 put_statement-put_block-requires t c =
@@ -41,7 +41,7 @@ put_statement-put_block-requires t c =
         first_fits (range_of 2 c.args.cells.now) c.args.locals.now (expression_of c.in-If.e) (statements_of c.in-If.a.statements.items)
             (statements_of c.in-If.b.statements.items) _
             c.args.code.now.items c.put_expression.new.code.items c.put.new.code.items (instrs.Branch 0) is c.requires.fits
-                c.in_ok-put_expression-in-If.ensures c.in_ok-put-in-If.ensures,
+            c.in_ok-put_expression-in-If.ensures c.in_ok-put-in-If.ensures,
         (if_slots c.args.locals.now (expression_of c.in-If.e) _ _ _ is c.requires.slots).0,
       ),
     )
@@ -50,9 +50,9 @@ pub put_statement-place-requires : goal.put_statement-place-requires
 put_statement-place-requires t c =
     let is = ap statement_of c.in-If.is ∙ if_seen c.in-If.e c.in-If.a c.in-If.b in
     let fits = between_fits (range_of 2 c.args.cells.now) c.args.locals.now (expression_of c.in-If.e) (statements_of c.in-If.a.statements.items)
-        (statements_of c.in-If.b.statements.items) _
+    (statements_of c.in-If.b.statements.items) _
     c.args.code.now.items c.put_expression.new.code.items c.put.new.code.items c.put_block.new.code.items c.put-in-If.new.code.items
-        (instrs.Branch 0) (instrs.Jump 0) is c.requires.fits
+    (instrs.Branch 0) (instrs.Jump 0) is c.requires.fits
     c.in_ok-put_expression-in-If.ensures c.in_ok-put-in-If.ensures c.in_ok-put_block-in-If.ensures.code c.in_ok-put-in-If-2.ensures in
     omega (arith, fits)
 
@@ -64,7 +64,7 @@ put_statement-put_block-requires-in-If t c =
     let b = statements_of c.in-If.b.statements.items in
     let fits = between_fits (range_of 2 c.args.cells.now) c.args.locals.now (expression_of c.in-If.e) a b _
     c.args.code.now.items c.put_expression.new.code.items c.put.new.code.items c.put_block.new.code.items c.put-in-If.new.code.items
-        (instrs.Branch 0) (instrs.Jump 0) is c.requires.fits
+    (instrs.Branch 0) (instrs.Jump 0) is c.requires.fits
     c.in_ok-put_expression-in-If.ensures c.in_ok-put-in-If.ensures c.in_ok-put_block-in-If.ensures.code c.in_ok-put-in-If-2.ensures in
     let left : c.put_block.new.locals ≡ c.args.locals.now = c.in_ok-put_block-in-If.ensures.after in (
       omega (arith, c.decreases, counted),
@@ -83,13 +83,13 @@ put_statement-place-requires-in-If t c =
     let b = statements_of c.in-If.b.statements.items in
     let fits = between_fits cells c.args.locals.now (expression_of c.in-If.e) a b _
     c.args.code.now.items c.put_expression.new.code.items c.put.new.code.items c.put_block.new.code.items c.put-in-If.new.code.items
-        (instrs.Branch 0) (instrs.Jump 0) is c.requires.fits
+    (instrs.Branch 0) (instrs.Jump 0) is c.requires.fits
     c.in_ok-put_expression-in-If.ensures c.in_ok-put-in-If.ensures c.in_ok-put_block-in-If.ensures.code c.in_ok-put-in-If-2.ensures in
     let c5 = slice_set c.put-in-If.new.code.items c.len-test.result (instrs.Branch c.place.result) in
     let more = statements_code cells c.put_block.new.locals (length c5) b in
     let left : c.put_block.new.locals ≡ c.args.locals.now = c.in_ok-put_block-in-If.ensures.after in
     let few = second_fits cells c.args.locals.now c.put_block.new.locals b c.put-in-If.new.code.items c.len-test.result
-        (instrs.Branch c.place.result) left fits in
+    (instrs.Branch c.place.result) left fits in
     let grown : c.put_block-in-If.new.code.items ≡ c5 ++ more = c.in_ok-put_block-in-If-2.ensures.code in
     omega (arith, few, ap length grown, length-append c5 more)
 
@@ -115,8 +115,15 @@ put_statement-place-requires-in-While t c =
     let c2 = c.put-in-While.new.code.items in
     let body = statements_code cells c.args.locals.now (length c2) a in
     let grown : c.put_block-in-While.new.code.items ≡ c2 ++ body = c.in_ok-put_block-in-While.ensures.code in
-    omega (arith, fits, ap length grown, length-append c2 body, ap length c.in_ok-put-in-While-2.ensures, length-append
-        c.put_block-in-While.new.code.items (instrs.Jump c.place-start.result ∷ []))
+    omega (
+      arith,
+      fits,
+      ap length grown,
+      length-append c2 body,
+      ap length c.in_ok-put-in-While-2.ensures,
+      length-append
+          c.put_block-in-While.new.code.items (instrs.Jump c.place-start.result ∷ []),
+    )
 
 pub put_statement-returns-in_ok-put_block-in-If-2-clause-code : goal.put_statement-returns-in_ok-put_block-in-If-2-clause-code
 put_statement-returns-in_ok-put_block-in-If-2-clause-code t c =
@@ -131,10 +138,10 @@ put_statement-returns-in_ok-put_block-in-If-2-clause-code t c =
     let grown : c.put_block-in-If.new.code.items ≡ c5 ++ statements_code cells scope (length c5) b =
     c.in_ok-put_block-in-If-2.ensures.code ∙ ap (λ (names : List (List ℕ)). c5 ++ statements_code cells names (length c5) b) left in
     choosing_patched base (expression_code cells scope (length base) (expression_of c.in-If.e)) c.put_expression.new.code.items
-        c.put.new.code.items c.put_block.new.code.items c.put-in-If.new.code.items
+    c.put.new.code.items c.put_block.new.code.items c.put-in-If.new.code.items
     c5 c.put_block-in-If.new.code.items (λ n. statements_code cells scope n a) (λ n. statements_code cells scope n b) (instrs.Branch 0) (instrs.Jump 0)
     c.len-test.result c.len-end.result c.place.result c.place-in-If.result c.in_ok-put_expression-in-If.ensures (search rules)
-        c.in_ok-put-in-If.ensures c.in_ok-put_block-in-If.ensures.code
+    c.in_ok-put-in-If.ensures c.in_ok-put_block-in-If.ensures.code
     (search rules) c.in_ok-put-in-If-2.ensures c.place.ensures refl grown c.place-in-If.ensures
     ∙ ap (λ s. base ++ statement_code cells scope (length base) s) (sym is)
 
@@ -148,9 +155,9 @@ put_statement-returns-in_ok-put-in-While-2-clause-code t c =
     let start : c.put-in-While-2.new.code.items ≡ c.put_block-in-While.new.code.items ++ instrs.Jump (length base) ∷ [] =
     c.in_ok-put-in-While-2.ensures ∙ ap (λ (n : ℕ). c.put_block-in-While.new.code.items ++ instrs.Jump n ∷ []) c.place-start.ensures in
     passing_patched (λ n. instrs.Branch n) base (expression_code cells scope (length base) (expression_of c.in-While.e))
-        c.put_expression-in-While.new.code.items c.put-in-While.new.code.items
+    c.put_expression-in-While.new.code.items c.put-in-While.new.code.items
     c.put_block-in-While.new.code.items c.put-in-While-2.new.code.items (λ n. statements_code cells scope n a) (instrs.Branch 0) (instrs.Jump (length base))
     c.len-test-in-While.result c.place-in-While.result c.in_ok-put_expression-in-While.ensures (search rules) c.in_ok-put-in-While.ensures
-        c.in_ok-put_block-in-While.ensures.code
+    c.in_ok-put_block-in-While.ensures.code
     start c.place-in-While.ensures
     ∙ ap (λ s. base ++ statement_code cells scope (length base) s) (sym is)

@@ -29,5 +29,5 @@ returns-clause-state c store before was =
     let output = c.push_within.new.output in
     let pushed = simp to_z-of_z at c.push_within.ensures.output in
     rw c.slot_of-slot.ensures (writes_found_output store before (the_view c.self.inside) output.items c.args.value cell _
-        (is_output cell (sym c.ne.ensures ∙ c.if-ne.false))
+    (is_output cell (sym c.ne.ensures ∙ c.if-ne.false))
     (to_z_pos w64 c.len.result (omega (arith, output.small, output.ok.1, c.len.ensures)) ∙ ap pos (c.len.ensures ∙ output.ok.0)) own there pushed after)

@@ -6,5 +6,5 @@ use Rattle.pipe_parser.proofs.symbols.Symbols.skip.Goals as goal
 pub returns : goal.returns
 returns c =
     ap (map (symbol_in c.self.inside.source.now)) c.suffix_of.ensures
-        ∙ sym (drop-map (symbol_in c.self.inside.source.now) c.args.count c.self.inside.tokens.now)
+    ∙ sym (drop-map (symbol_in c.self.inside.source.now) c.args.count c.self.inside.tokens.now)
     ∙ ap (drop c.args.count) c.self.view_is

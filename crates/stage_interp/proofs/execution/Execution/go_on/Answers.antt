@@ -17,11 +17,13 @@ returns-in-Some-clause-ran g c = λ t h. ended c.args.code.now (g.M.Memory.serve
 pub run_on-requires-clause-before : goal.run_on-requires-clause-before
 run_on-requires-clause-before g c =
     let s = served c.args.code.now (g.M.Memory.served c.args.memory.now) c.args.input.now c.args.self.now c.serve.new.self c.requires.before.0 _
-        _ c.args.self.now.pending (let k = c.in_default.ensures.keeps in record { depth = k.depth; slots = k.slots; iteration = k.iteration })
-        c.requires.before.1.pending c.in_default.ensures.ran c.in_default.ensures.counts in
-    (behaviour_after_all c.requires.before.0 (map Accessed s.accesses), subst
-        (λ k. IsPending c.args.code.now k c.args.input.now (run_of c.serve.new.self) pendings.Nothing
-        (behaviour_after_all c.requires.before.0 (map Accessed s.accesses))) (sym c.in_default.ensures.serves) s.within)
+    _ c.args.self.now.pending (let k = c.in_default.ensures.keeps in record { depth = k.depth; slots = k.slots; iteration = k.iteration })
+    c.requires.before.1.pending c.in_default.ensures.ran c.in_default.ensures.counts in (
+      behaviour_after_all c.requires.before.0 (map Accessed s.accesses),
+      subst
+          (λ k. IsPending c.args.code.now k c.args.input.now (run_of c.serve.new.self) pendings.Nothing
+          (behaviour_after_all c.requires.before.0 (map Accessed s.accesses))) (sym c.in_default.ensures.serves) s.within,
+    )
 
 pub returns-clause-ran : goal.returns-clause-ran
 returns-clause-ran g c = λ t h. let s = served c.args.code.now (g.M.Memory.served c.args.memory.now) c.args.input.now c.args.self.now
