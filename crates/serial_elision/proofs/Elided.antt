@@ -67,7 +67,7 @@ first_of_three None b c = refl
 first_of_three (Some t) b c = refl
 
 -- of two traps the first
-pub or_is_first : (a b : Option TrapAt) → option_or a b ≡ first_of_both a b
+or_is_first : (a b : Option TrapAt) → option_or a b ≡ first_of_both a b
 or_is_first None b = refl
 or_is_first (Some t) b = refl
 
@@ -117,3 +117,15 @@ elided_more p n m i columns trap log now column h one closed open' =
           ∙ append_assoc log.events (events.Begin i ∷ trace_events i t) (trace_events_from (i + 1) rest) ∙ h.all_events;
       cells = subst (λ l. IsStateAfter p.store l now.cells) (sym grown) one.cells;
     }
+
+-- one iteration more, as the loop keeps it
+pub elided_push : (p : Pipeline) (n m i : ℕ) (columns pushed : List Column) (trap last least : Option TrapAt) (log now : Log) (column : Column) (closes : Bool)
+    → Elided p (suc n) i columns trap log
+    → PartRan p.store (p.preamble ++ accesses_of log.accesses) (serial_trace p.store (p.behaviour i) (p.preamble ++ accesses_of log.accesses)) i log column now
+    → closes ≡ column_closes column → (closes ≡ true → m ≡ zero) → (closes ≡ false → m ≡ n)
+    → pushed ≡ columns ++ column ∷ [] → least ≡ option_or trap last → last ≡ column_trap i column
+    → Elided p m (i + 1) pushed least now
+elided_push p n m i columns pushed trap last least log now column closes h one is closed open' push first own =
+    let trapped : least ≡ first_of_both trap (column_trap i column) = first ∙ or_is_first trap last ∙ ap (first_of_both trap) own in
+    subst (λ x. Elided p m (i + 1) x least now) (sym push) (subst (λ x. Elided p m (i + 1) (columns ++ column ∷ []) x now) (sym trapped)
+    (elided_more p n m i columns trap log now column h one (λ e. closed (is ∙ e)) (λ e. open' (is ∙ e))))
