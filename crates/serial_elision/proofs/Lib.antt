@@ -1,12 +1,5 @@
-pub mod LimitRanges
-pub mod Cells
-pub mod Scopes
-pub mod Ranges
-pub mod Performing
-pub mod Expressions
-pub mod Statements
-pub mod Traces
+pub mod Recording
+pub mod InstanceRuns
+pub mod PartRuns
 pub mod Elided
-pub mod Iterations
-pub mod FirstForm
-pub mod EventLaws
+pub mod Elisions

@@ -1,8 +1,5 @@
-pub mod FirstForm
-pub mod ElisionState
-pub mod Runnable
-pub mod Caching
-pub mod Elided
-pub mod ColumnEvents
-pub mod TreeResults
-pub mod LocalValues
+pub mod Recording
+pub mod InstanceRuns
+pub mod PartRuns
+pub mod LoopRuns
+pub mod Elisions

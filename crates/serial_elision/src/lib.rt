@@ -1,11 +1,12 @@
-//! The serial elision of a program: its iterations one after the other, by recursion over its tree.
+//! The serial elision of a program: `init`, the iterations one after the other, each to its end,
+//! and `final`. The machine runs the code of the program over the cells, and accesses and events
+//! are recorded as they happen.
 #![tactic(auto)]
 
 pub mod elision;
-pub mod events;
-mod halt;
-mod locals;
-mod place;
-mod statement;
-mod store;
-mod value;
+mod instance;
+mod iterations;
+mod log;
+mod part;
+mod prepared;
+mod recorder;

@@ -2,10 +2,11 @@
 
 ghost use Rattle.std.specs.Prelude.{◌≡◌, ◌≤◌, ◌+◌, ℕ, ℤ, List, Some, IfOk};
 ghost use Rattle.pipe_model.specs.Language.CheckingRules.{cell_total};
+ghost use Rattle.pipe_model.specs.Language.Programs.{natural};
 ghost use Rattle.pipe_model.specs.Language.SyntaxTree.{SyntaxTree};
 ghost use Rattle.pipe_model.specs.Pipelines.Behaviour.{Behaviour};
 ghost use Rattle.stage_code.specs.FlatCode.{FlatCode};
-ghost use Rattle.stage_interp.specs.Executions.{StopsOnly};
+ghost use Rattle.stage_interp.specs.Executions.{Counts, StopsOnly};
 ghost use Rattle.stage_interp.specs.MachineState.{IsMadeFor, iteration_in, start_in};
 ghost use Rattle.stage_interp.specs.Standing.{IsCodeOf, IsStopped, RanInstance, StandsFor, behaviour_in};
 
@@ -109,6 +110,7 @@ impl Machine {
         ensures ran { (t : Behaviour) → StandsFor code.now (M.served memory.old) input.now self.old.run t
             → RanInstance code.now (M.served memory.old) input.now t (M.made memory.old) (M.made memory.new) self.new.run result }
         ensures made { (c : FlatCode) → IsMadeFor c self.old → IsMadeFor c self.new }
+        ensures counts { Counts (Some result) self.old.run.state.stage.count self.new.run.state.stage.count (natural code.now.limits.stages) }
         ensures stops { StopsOnly (Some result) (M.stopped memory.new) }
         ensures serves { M.served memory.new ≡ M.served memory.old }
     {
@@ -133,6 +135,7 @@ impl Machine {
         ensures ran { (t : Behaviour) → IsStopped code.now (M.served memory.old) input.now self.old.run t
             → RanInstance code.now (M.served memory.old) input.now t (M.made memory.old) (M.made memory.new) self.new.run result }
         ensures made { (c : FlatCode) → IsMadeFor c self.old → IsMadeFor c self.new }
+        ensures counts { Counts (Some result) self.old.run.state.stage.count self.new.run.state.stage.count (natural code.now.limits.stages) }
         ensures stops { StopsOnly (Some result) (M.stopped memory.new) }
         ensures serves { M.served memory.new ≡ M.served memory.old }
     {
