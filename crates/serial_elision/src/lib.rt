@@ -1,11 +1,4 @@
-//! The serial elision of a program: its iterations one after the other, by recursion over its tree.
+//! The serial elision of a program: its parts and its iterations one after the other.
 #![tactic(auto)]
 
 pub mod elision;
-pub mod events;
-mod halt;
-mod locals;
-mod place;
-mod statement;
-mod store;
-mod value;
