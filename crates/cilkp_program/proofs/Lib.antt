@@ -11,5 +11,5 @@ pub mod HeadlineLaws
 pub mod AnswerStatus
 pub mod FormatLaws
 pub mod SourceFaults
-pub mod FirstFormTests
-pub mod LoopsAlone
+pub mod ElisionOutcomes
+pub mod SerialCallLaws

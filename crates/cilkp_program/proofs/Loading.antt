@@ -15,7 +15,6 @@ use Rattle.cilkp_program.specs.Rows.{InputRefusal, InputMissing, InputNotEmpty, 
 use Rattle.cilkp_program.specs.LoadedFiles.{IsLoadOf, IsSourceFrom, IsSourceResult}
 use Rattle.cilkp_program.specs.declared.load.Source.{Source}
 use Rattle.cilkp_program.specs.declared.load.Source.TheVariants as sources
-use Rattle.cilkp_program.proofs.OneRow.{one_held}
 use Rattle.cilkp_program.specs.WholeFiles.{IsUpTo, IsWholeOf}
 
 -- some content of the file explains the result; where the content is known, it is that one
@@ -60,13 +59,8 @@ source_is_missing file name line limit e h = rw e (SourceMissing (missing_is_non
 -- the result of loading the bytes of a file is that of loading the file
 pub file_gave : (file : Option (List ℕ)) (name bytes : List ℕ) (limit : ℕ) (source : Source) → IsWholeOf file limit (whole.Bytes bytes) → IsLoadOf bytes source
     → IsSourceFrom name file source
-file_gave file name bytes limit (sources.Accepted loaded) h g =
-    let held = bytes_are_held file limit bytes h in
-    record {
-      source = record { bytes = bytes; held = held; accepted = g.accepted };
-      plain = λ yes. record { bytes = bytes; held = held; form = g.plain yes };
-      other = λ no s. g.other no (rw (one_held file s.bytes bytes s.held held) at s.form);
-    }
+file_gave file name bytes limit (sources.Accepted checked) h g =
+    record { bytes = bytes; held = bytes_are_held file limit bytes h; accepted = g }
 file_gave file name bytes limit (sources.Refused line) h g =
     rw g.line_is (NotAccepted bytes g.refusal (bytes_are_held file limit bytes h) g.refused)
 file_gave file name bytes limit sources.Failed h g = absurd g
@@ -80,9 +74,9 @@ source_answer holds name limit bytes (Err m) f g = g
 -- the lexer refuses the first bytes of a source that is too long, so the source is refused
 prefix_gave : (file : Option (List ℕ)) (name bytes : List ℕ) (source : Source) → IsWholeOf file LONGEST_SOURCE (whole.TooLong bytes) → IsLoadOf bytes source
     → IsSourceFrom name file source
-prefix_gave file name bytes (sources.Accepted loaded) h g =
+prefix_gave file name bytes (sources.Accepted checked) h g =
     let f = too_long_is_held file LONGEST_SOURCE bytes h in
-    let short = g.accepted.spelled.lexed.short in
+    let short = g.spelled.lexed.short in
     absurd (omega (arith, f.3, short))
 prefix_gave file name bytes (sources.Refused line) h g =
     let f = too_long_is_held file LONGEST_SOURCE bytes h in

@@ -1,5 +1,5 @@
 -- A call has at most one row of the table.
-use Rattle.std.proofs.Common.{◌≡◌, ◌≢◌, ◌∙◌, ℕ, List, [], ◌++◌, Option, Some, None, refl, ap, sym}
+use Rattle.std.proofs.Common.{◌≡◌, ◌≢◌, ◌∙◌, ℕ, List, [], ◌++◌, Option, Some, None, refl, ap, sym, arith, length, codes}
 use Rattle.pipe_model.specs.declared.event.RunLog.{RunLog}
 use Rattle.pipe_model.specs.declared.report.Report.{Report}
 use Rattle.pipe_model.specs.Language.SyntaxTree.{SyntaxTree}
@@ -8,7 +8,7 @@ use Rattle.pipe_model.specs.Texts.{refusal_line, trap_line}
 use Rattle.grammar_laws.proofs.SourceRefusals.{one_accepted, one_refusal, refused_not_accepted}
 use Rattle.cilkp_program.proofs.OneReports.{one_first_races}
 use Rattle.cilkp_program.specs.CellNames.{race_lines}
-use Rattle.cilkp_program.specs.Rows.{FileContents, run_words, format_words, NamesSource, ByRun, ByFormat, IsSourceOf, IsPlainSourceOf, SourceRefusal, SourceMissing, NotAccepted, InputRefusal, InputMissing, InputNotEmpty, RunResult, Races, Finishes, Traps, elision_columns, elision_accesses, elision_log, elision_output_text, Row, NoCommand, SourceRefused, Formats, NotBuilt, InputRefused, Runs}
+use Rattle.cilkp_program.specs.Rows.{FileContents, run_words, serial_words, format_words, NamesFiles, ByRun, BySerial, NamesSource, WithInput, ByFormat, IsSourceOf, SourceRefusal, SourceMissing, NotAccepted, InputRefusal, InputMissing, InputNotEmpty, RunResult, Races, Finishes, Traps, elision_columns, elision_accesses, elision_log, elision_output_text, Row, NoCommand, SourceRefused, Formats, InputRefused, Runs, RunsSerially}
 
 -- two results have the same status, text and reports
 abbrev pub AreOneRow : (status other : ℕ) (text other_text : List ℕ) (reports other_reports : List Report) → Type 0
@@ -35,10 +35,6 @@ pub refused_not_accepted_file : {file : Option (List ℕ)} {name text : List ℕ
 refused_not_accepted_file tree (SourceMissing m) s = missing_not_held _ s.bytes m s.held
 refused_not_accepted_file tree (NotAccepted bytes refusal h r) s =
     let same : s.bytes ≡ bytes = one_held _ s.bytes bytes s.held h in refused_not_accepted tree r (rw same at s.accepted)
-
--- a source of the first form is accepted
-pub plain_is_source : {file : Option (List ℕ)} {tree : SyntaxTree} → IsPlainSourceOf file tree → IsSourceOf file tree
-plain_is_source s = record { bytes = s.bytes; held = s.held; accepted = s.form.accepted }
 
 -- an input has at most one line of refusal
 one_input_refusal : {file : Option (List ℕ)} {name text other : List ℕ} → InputRefusal name file text → InputRefusal name file other → text ≡ other
@@ -81,68 +77,78 @@ one_run {tree} {other_tree} {status} {other} {text} {other_text} {reports} {othe
     let one : AreOneRow status other text other_text reports other_reports = one_outcome r (rw same r') in
     (one.0, one.1, ap (λ t. Some (elision_log t [])) same, one.2)
 
--- the source and the input of a `run` command are unique
-pub sources_same : (words : List (List ℕ)) (source source' input input' : List ℕ) → words ≡ run_words source input → words ≡ run_words source' input' → source ≡ source'
-sources_same words source source' input input' w w' = let e : run_words source input ≡ run_words source' input' = sym w ∙ w' in cc (e)
+-- equal programs have the same results
+one_elision : {tree other_tree : SyntaxTree} {status other : ℕ} {text other_text : List ℕ} {reports other_reports : List Report} → tree ≡ other_tree
+    → RunResult tree [] status text reports → RunResult other_tree [] other other_text other_reports
+    → (status ≡ other) × (text ≡ other_text) × (None {RunLog} ≡ None) × (reports ≡ other_reports)
+one_elision same r r' = let one = one_run same r r' in (one.0, one.1, refl, one.3)
 
-pub inputs_same : (words : List (List ℕ)) (source source' input input' : List ℕ) → words ≡ run_words source input → words ≡ run_words source' input' → input ≡ input'
-inputs_same words source source' input input' w w' = let e : run_words source input ≡ run_words source' input' = sym w ∙ w' in cc (e)
+-- a `run` command is not a `serial` command
+pub run_is_not_serial : {words : List (List ℕ)} {source input other other_input : List ℕ} → words ≡ run_words source input → words ≡ serial_words other other_input → ⊥
+run_is_not_serial {words} {source} {input} {other} {other_input} w v =
+    let e : run_words source input ≡ serial_words other other_input = sym w ∙ v in
+    let first : codes "run" ≡ codes "serial" = cc (e) in
+    absurd (omega (arith, ap length first))
 
--- a `run` command is not a `format` command
-pub run_is_no_format : {words : List (List ℕ)} {source input other : List ℕ} → words ≡ run_words source input → words ≡ format_words other → ⊥
-run_is_no_format {words} {source} {input} {other} w v = let e : run_words source input ≡ format_words other = sym w ∙ v in cc (e)
+-- the source and the input of a command are unique
+pub one_pair : {words : List (List ℕ)} {source other input other_input : List ℕ} → NamesFiles words source input → NamesFiles words other other_input
+    → (source ≡ other) × (input ≡ other_input)
+one_pair {words} {source} {other} {input} {other_input} (ByRun w) (ByRun v) =
+    let e : run_words source input ≡ run_words other other_input = sym w ∙ v in (cc (e), cc (e))
+one_pair (ByRun w) (BySerial v) = absurd (run_is_not_serial w v)
+one_pair (BySerial w) (ByRun v) = absurd (run_is_not_serial v w)
+one_pair {words} {source} {other} {input} {other_input} (BySerial w) (BySerial v) =
+    let e : serial_words source input ≡ serial_words other other_input = sym w ∙ v in (cc (e), cc (e))
+
+-- a command with an input is not a `format` command
+pub files_are_no_format : {words : List (List ℕ)} {source input other : List ℕ} → NamesFiles words source input → words ≡ format_words other → ⊥
+files_are_no_format {words} {source} {input} {other} (ByRun w) v = let e : run_words source input ≡ format_words other = sym w ∙ v in cc (e)
+files_are_no_format {words} {source} {input} {other} (BySerial w) v = let e : serial_words source input ≡ format_words other = sym w ∙ v in cc (e)
 
 -- a command has at most one source
 pub one_name : {words : List (List ℕ)} {source other : List ℕ} → NamesSource words source → NamesSource words other → source ≡ other
-one_name (ByRun input w) (ByRun input' w') = sources_same _ _ _ input input' w w'
-one_name (ByRun input w) (ByFormat v) = absurd (run_is_no_format w v)
-one_name (ByFormat v) (ByRun input w) = absurd (run_is_no_format w v)
+one_name (WithInput input n) (WithInput other_input m) = (one_pair n m).0
+one_name (WithInput input n) (ByFormat v) = absurd (files_are_no_format n v)
+one_name (ByFormat v) (WithInput input n) = absurd (files_are_no_format n v)
 one_name {source = source} {other = other} (ByFormat v) (ByFormat v') = let e : format_words source ≡ format_words other = sym v ∙ v' in cc (e)
-
--- words that are no command have no source
-pub unnamed : {words : List (List ℕ)} {source : List ℕ} → ((source input : List ℕ) → words ≢ run_words source input) → ((source : List ℕ) → words ≢ format_words source)
-    → NamesSource words source → ⊥
-unnamed {source = source} n m (ByRun input w) = n source input w
-unnamed {source = source} n m (ByFormat v) = m source v
 
 -- two rows of a call are equal
 pub one_row : {words : List (List ℕ)} {held : FileContents} {status other : ℕ} {text other_text : List ℕ} {log other_log : Option RunLog} {reports other_reports : List Report}
     → Row words held status text log reports → Row words held other other_text other_log other_reports
     → (status ≡ other) × (text ≡ other_text) × (log ≡ other_log) × (reports ≡ other_reports)
-one_row (NoCommand n m) (NoCommand n' m') = (refl, refl, refl, refl)
-one_row (NoCommand n m) (SourceRefused s w r) = absurd (unnamed n m w)
-one_row (NoCommand n m) (Formats s tree w o) = absurd (m s w)
-one_row (NoCommand n m) (NotBuilt s i tree w o r) = absurd (n s i w)
-one_row (NoCommand n m) (InputRefused s i tree w o r) = absurd (n s i w)
-one_row (NoCommand n m) (Runs s i tree w o e r) = absurd (n s i w)
-one_row (SourceRefused s w r) (NoCommand n m) = absurd (unnamed n m w)
+one_row (NoCommand n) (NoCommand n') = (refl, refl, refl, refl)
+one_row (NoCommand n) (SourceRefused s w r) = absurd (n s w)
+one_row (NoCommand n) (Formats s tree w o) = absurd (n s (ByFormat w))
+one_row (NoCommand n) (InputRefused s i tree w o r) = absurd (n s (WithInput i w))
+one_row (NoCommand n) (Runs s i tree w o e r) = absurd (n s (WithInput i (ByRun w)))
+one_row (NoCommand n) (RunsSerially s i tree w o e r) = absurd (n s (WithInput i (BySerial w)))
+one_row (SourceRefused s w r) (NoCommand n) = absurd (n s w)
 one_row (SourceRefused s w r) (SourceRefused s' w' r') = (refl, one_source_refusal r (rw (one_name w w') r'), refl, refl)
 one_row (SourceRefused s w r) (Formats s' tree w' o) = absurd (refused_not_accepted_file tree r o)
-one_row (SourceRefused s w r) (NotBuilt s' i tree w' o n) = absurd (refused_not_accepted_file tree r o)
-one_row (SourceRefused s w r) (InputRefused s' i tree w' o r') = absurd (refused_not_accepted_file tree r (plain_is_source o))
-one_row (SourceRefused s w r) (Runs s' i tree w' o e r') = absurd (refused_not_accepted_file tree r (plain_is_source o))
-one_row (Formats s tree w o) (NoCommand n m) = absurd (m s w)
+one_row (SourceRefused s w r) (InputRefused s' i tree w' o r') = absurd (refused_not_accepted_file tree r o)
+one_row (SourceRefused s w r) (Runs s' i tree w' o e r') = absurd (refused_not_accepted_file tree r o)
+one_row (SourceRefused s w r) (RunsSerially s' i tree w' o e r') = absurd (refused_not_accepted_file tree r o)
+one_row (Formats s tree w o) (NoCommand n) = absurd (n s (ByFormat w))
 one_row (Formats s tree w o) (SourceRefused s' w' r') = absurd (refused_not_accepted_file tree r' o)
 one_row (Formats s tree w o) (Formats s' tree' w' o') = (refl, ap program_text (one_source tree tree' o o'), refl, refl)
-one_row (Formats s tree w o) (NotBuilt s' i tree' w' o' r') = absurd (run_is_no_format w' w)
-one_row (Formats s tree w o) (InputRefused s' i tree' w' o' r') = absurd (run_is_no_format w' w)
-one_row (Formats s tree w o) (Runs s' i tree' w' o' e r') = absurd (run_is_no_format w' w)
-one_row (NotBuilt s i tree w o n) (NoCommand n' m) = absurd (n' s i w)
-one_row (NotBuilt s i tree w o n) (SourceRefused s' w' r') = absurd (refused_not_accepted_file tree r' o)
-one_row (NotBuilt s i tree w o n) (Formats s' tree' w' o') = absurd (run_is_no_format w w')
-one_row (NotBuilt s i tree w o n) (NotBuilt s' i' tree' w' o' n') = (refl, refl, refl, refl)
-one_row (NotBuilt s i tree w o n) (InputRefused s' i' tree' w' o' r') = absurd (n (rw (one_source tree tree' o (plain_is_source o')) o'))
-one_row (NotBuilt s i tree w o n) (Runs s' i' tree' w' o' e r') = absurd (n (rw (one_source tree tree' o (plain_is_source o')) o'))
-one_row (InputRefused s i tree w o r) (NoCommand n m) = absurd (n s i w)
-one_row (InputRefused s i tree w o r) (SourceRefused s' w' r') = absurd (refused_not_accepted_file tree r' (plain_is_source o))
-one_row (InputRefused s i tree w o r) (Formats s' tree' w' o') = absurd (run_is_no_format w w')
-one_row (InputRefused s i tree w o r) (NotBuilt s' i' tree' w' o' n') = absurd (n' (rw (one_source tree' tree o' (plain_is_source o)) o))
-one_row (InputRefused s i tree w o r) (InputRefused s' i' tree' w' o' r') = (refl, one_input_refusal r (rw (inputs_same _ s s' i i' w w') r'), refl, refl)
+one_row (Formats s tree w o) (InputRefused s' i tree' w' o' r') = absurd (files_are_no_format w' w)
+one_row (Formats s tree w o) (Runs s' i tree' w' o' e r') = absurd (files_are_no_format (ByRun w') w)
+one_row (Formats s tree w o) (RunsSerially s' i tree' w' o' e r') = absurd (files_are_no_format (BySerial w') w)
+one_row (InputRefused s i tree w o r) (NoCommand n) = absurd (n s (WithInput i w))
+one_row (InputRefused s i tree w o r) (SourceRefused s' w' r') = absurd (refused_not_accepted_file tree r' o)
+one_row (InputRefused s i tree w o r) (Formats s' tree' w' o') = absurd (files_are_no_format w w')
+one_row (InputRefused s i tree w o r) (InputRefused s' i' tree' w' o' r') = (refl, one_input_refusal r (rw ((one_pair w w').1) r'), refl, refl)
 one_row (InputRefused s i tree w o r) (Runs s' i' tree' w' o' e r') = absurd (refused_not_empty r e)
-one_row (Runs s i tree w o e r) (NoCommand n m) = absurd (n s i w)
-one_row (Runs s i tree w o e r) (SourceRefused s' w' r') = absurd (refused_not_accepted_file tree r' (plain_is_source o))
-one_row (Runs s i tree w o e r) (Formats s' tree' w' o') = absurd (run_is_no_format w w')
-one_row (Runs s i tree w o e r) (NotBuilt s' i' tree' w' o' n') = absurd (n' (rw (one_source tree' tree o' (plain_is_source o)) o))
+one_row (InputRefused s i tree w o r) (RunsSerially s' i' tree' w' o' e r') = absurd (refused_not_empty r e)
+one_row (Runs s i tree w o e r) (NoCommand n) = absurd (n s (WithInput i (ByRun w)))
+one_row (Runs s i tree w o e r) (SourceRefused s' w' r') = absurd (refused_not_accepted_file tree r' o)
+one_row (Runs s i tree w o e r) (Formats s' tree' w' o') = absurd (files_are_no_format (ByRun w) w')
 one_row (Runs s i tree w o e r) (InputRefused s' i' tree' w' o' r') = absurd (refused_not_empty r' e)
-one_row (Runs s i tree w o e r) (Runs s' i' tree' w' o' e' r') =
-    one_run (one_source tree tree' (plain_is_source o) (plain_is_source o')) r r'
+one_row (Runs s i tree w o e r) (Runs s' i' tree' w' o' e' r') = one_run (one_source tree tree' o o') r r'
+one_row (Runs s i tree w o e r) (RunsSerially s' i' tree' w' o' e' r') = absurd (run_is_not_serial w w')
+one_row (RunsSerially s i tree w o e r) (NoCommand n) = absurd (n s (WithInput i (BySerial w)))
+one_row (RunsSerially s i tree w o e r) (SourceRefused s' w' r') = absurd (refused_not_accepted_file tree r' o)
+one_row (RunsSerially s i tree w o e r) (Formats s' tree' w' o') = absurd (files_are_no_format (BySerial w) w')
+one_row (RunsSerially s i tree w o e r) (InputRefused s' i' tree' w' o' r') = absurd (refused_not_empty r' e)
+one_row (RunsSerially s i tree w o e r) (Runs s' i' tree' w' o' e' r') = absurd (run_is_not_serial w' w)
+one_row (RunsSerially s i tree w o e r) (RunsSerially s' i' tree' w' o' e' r') = one_elision (one_source tree tree' o o') r r'

@@ -1,23 +1,23 @@
 -- Which row a call has.
-use Rattle.std.proofs.Common.{◌≡◌, ◌≢◌, ◌∙◌, ℕ, true, false, List, [], ◌∷◌, length, get_or, Option, Some, None, Result, Ok, Err, IfOk, IfSome, IsTrue, IsFalse, refl, ap, arith}
+use Rattle.std.proofs.Common.{◌≡◌, ◌≢◌, ◌∙◌, ℕ, true, false, List, [], ◌∷◌, length, get_or, Option, Some, None, Result, Ok, Err, IfOk, IfSome, refl, ap, arith}
 use Rattle.std.specs.Prelude.{String, string_bytes}
 use Rattle.std.specs.declared.alloc.Global.{Global}
 use Rattle.pipe_model.specs.declared.memory.NoMemory.{NoMemory}
 use Rattle.pipe_model.specs.declared.report.Report.{Report}
 use Rattle.pipe_model.specs.Language.CanonicalText.{program_text}
-use Rattle.pipe_model.specs.Language.SyntaxTree.{tree_of}
+use Rattle.pipe_model.specs.Language.SyntaxTree.{SyntaxTree, tree_of}
+use Rattle.pipe_model.specs.declared.tree.Program.{Program}
 use Rattle.pipe_model.specs.Texts.{fault_read, refused_usage}
-use Rattle.cilkp_program.specs.NotYetBuilt.{refused_program}
 use Rattle.cilkp_program.specs.declared.call.Answer.{Answer}
-use Rattle.cilkp_program.specs.declared.load.Loaded.{Loaded}
 use Rattle.cilkp_program.specs.declared.load.Source.TheVariants as sources
 use Rattle.cilkp_program.specs.declared.load.Input.TheVariants as inputs
 use Rattle.cilkp_program.specs.CallResults.{IsCallResult, OfRow, SourceFault, InputFault}
 use Rattle.cilkp_program.specs.Faults.{CountsFault}
 use Rattle.cilkp_program.specs.LoadedFiles.{IsInputResult, IsSourceResult}
 use Rattle.cilkp_program.specs.Reads.{Content}
-use Rattle.cilkp_program.specs.Rows.{AreHeldBy, FileContents, NamesSource, ByRun, ByFormat, NoCommand, SourceRefused, Formats, NotBuilt, InputRefused, Runs, RunResult, elision_log, words_of, run_words, format_words}
-use Rattle.cilkp_program.proofs.OneRow.{inputs_same, one_name, run_is_no_format, unnamed}
+use Rattle.cilkp_program.specs.Rows.{AreHeldBy, FileContents, NamesFiles, ByRun, BySerial, NamesSource, WithInput, ByFormat, NoCommand, SourceRefused, Formats, InputRefused, Runs, RunsSerially, RunResult, elision_log, words_of, run_words, serial_words, format_words}
+use Rattle.cilkp_program.specs.PreparedFiles.{AreReady}
+use Rattle.cilkp_program.proofs.OneRow.{files_are_no_format, one_name, one_pair}
 
 -- a list of three texts, by its length and its items
 pub three_words : (ws : List (String Global)) (a b c : String Global) → length ws ≡ 3 → a ≡ get_or ws 0 a → b ≡ get_or ws 1 b → c ≡ get_or ws 2 c
@@ -37,13 +37,14 @@ two_words (x ∷ y ∷ z ∷ ws) a b h p q = absurd (omega (arith, h))
 
 -- ---- the content of the files, which does not change during the call
 
--- the content of the files of a `run`, if it is known
-run_told : (holds : Option Content) (source input : List ℕ) (held : FileContents) → IfSome holds (λ content. content source ≡ held.source)
-    → IfSome holds (λ content. content input ≡ held.input) → IfSome holds (λ content. AreHeldBy content (run_words source input) held)
-run_told None source input held s i = tt
-run_told (Some content) source input held s i = record {
-  source = λ name named. ap content (one_name named (ByRun input refl)) ∙ s;
-  input = λ name named. ap content (inputs_same _ named.0 source name input named.1 refl) ∙ i;
+-- the content of the files of a command with an input, if it is known
+files_told : (words : List (List ℕ)) (holds : Option Content) (source input : List ℕ) (held : FileContents) → NamesFiles words source input
+    → IfSome holds (λ content. content source ≡ held.source) → IfSome holds (λ content. content input ≡ held.input)
+    → IfSome holds (λ content. AreHeldBy content words held)
+files_told words None source input held n s i = tt
+files_told words (Some content) source input held n s i = record {
+  source = λ name named. ap content (one_name named (WithInput input n)) ∙ s;
+  input = λ name named. ap content ((one_pair named.1 n).1) ∙ i;
 }
 
 -- the content of the file of a `format`, if it is known
@@ -52,7 +53,7 @@ format_told : (holds : Option Content) (source : List ℕ) (held : FileContents)
 format_told None source held s = tt
 format_told (Some content) source held s = record {
   source = λ name named. ap content (one_name named (ByFormat refl)) ∙ s;
-  input = λ name named. absurd (run_is_no_format named.1 refl);
+  input = λ name named. absurd (files_are_no_format named.1 refl);
 }
 
 -- the content of a file that is not read, if it is known
@@ -69,22 +70,19 @@ unread_told (Some content) name = refl
 
 -- words that are no command
 pub answer_no_command : (words : List (List ℕ)) (holds : Option Content) (faults : ℕ) (text : List ℕ) → ((source input : List ℕ) → words ≢ run_words source input)
-    → ((source : List ℕ) → words ≢ format_words source) → text ≡ refused_usage → IsCallResult words holds faults faults 1 text None []
-answer_no_command words holds faults text no_run no_format t =
-    rw t (OfRow refl (record { held = record { source = None; input = None }; told = told holds; row = NoCommand no_run no_format }))
+    → ((source input : List ℕ) → words ≢ serial_words source input) → ((source : List ℕ) → words ≢ format_words source) → text ≡ refused_usage
+    → IsCallResult words holds faults faults 1 text None []
+answer_no_command words holds faults text no_run no_serial no_format t =
+    rw t (OfRow refl (record { held = record { source = None; input = None }; told = told holds; row = NoCommand none }))
   where
+    none : (source : List ℕ) → NamesSource words source → ⊥
+    none source (WithInput input (ByRun w)) = no_run source input w
+    none source (WithInput input (BySerial w)) = no_serial source input w
+    none source (ByFormat w) = no_format source w
+
     told : (holds : Option Content) → IfSome holds (λ content. AreHeldBy content words (record { source = None; input = None }))
     told None = tt
-    told (Some content) = record { source = λ name named. absurd (unnamed no_run no_format named); input = λ name named. absurd (no_run named.0 name named.1) }
-
--- a `run` whose source is refused
-pub run_refused : (holds : Option Content) (before now : ℕ) (source input text : List ℕ) → CountsFault false before now
-    → IsSourceResult holds source (sources.Refused text) → IsCallResult (run_words source input) holds before now 1 text None []
-run_refused holds before now source input text same s = OfRow same (record {
-  held = record { source = s.file; input = unread holds input };
-  told = run_told holds source input _ s.told (unread_told holds input);
-  row = SourceRefused source (ByRun input refl) s.gave;
-})
+    told (Some content) = record { source = λ name named. absurd (none name named); input = λ name named. absurd (none named.0 (WithInput name named.1)) }
 
 -- a `format` whose source is refused
 pub format_refused : (holds : Option Content) (before now : ℕ) (source text : List ℕ) → CountsFault false before now
@@ -96,56 +94,82 @@ format_refused holds before now source text same s = OfRow same (record {
 })
 
 -- a source that could not be read
-pub source_failed : (words : List (List ℕ)) (holds : Option Content) (before now : ℕ) (source text : List ℕ) → NamesSource words source
-    → CountsFault true before now → text ≡ fault_read source → IsCallResult words holds before now 4 text None []
-source_failed words holds before now source text w rose t = rw t (SourceFault source rose.0 rose.1 w)
+pub source_failed : (words : List (List ℕ)) (holds : Option Content) (before now : ℕ) (source : List ℕ) → NamesSource words source
+    → CountsFault true before now → IsCallResult words holds before now 4 (fault_read source) None []
+source_failed words holds before now source w rose = SourceFault source rose.0 rose.1 w
 
 -- a program that is printed
-pub program_printed : (holds : Option Content) (before now : ℕ) (source : List ℕ) (loaded : Loaded) → CountsFault false before now
-    → IsSourceResult holds source (sources.Accepted loaded) → IsCallResult (format_words source) holds before now 0 (program_text (tree_of loaded.program)) None []
-program_printed holds before now source loaded same s = OfRow same (record {
+pub program_printed : (holds : Option Content) (before now : ℕ) (source : List ℕ) (checked : Program) → CountsFault false before now
+    → IsSourceResult holds source (sources.Accepted checked) → IsCallResult (format_words source) holds before now 0 (program_text (tree_of checked)) None []
+program_printed holds before now source checked same s = OfRow same (record {
   held = record { source = s.file; input = None };
   told = format_told holds source _ s.told;
-  row = Formats source (tree_of loaded.program) refl s.gave.source;
+  row = Formats source (tree_of checked) refl s.gave;
 })
 
--- a `run` of a program that is not of the first form
-pub not_built : (holds : Option Content) (before now : ℕ) (source input text : List ℕ) (loaded : Loaded) → text ≡ refused_program → CountsFault false before now
-    → IsFalse loaded.is_first_form → IsSourceResult holds source (sources.Accepted loaded) → IsCallResult (run_words source input) holds before now 1 text None []
-not_built holds before now source input text loaded t same other s = rw t (OfRow same (record {
+-- ---- the files of a command with an input
+
+-- a source that is refused
+pub source_refused : (holds : Option Content) (before now : ℕ) (source input text : List ℕ) → CountsFault false before now
+    → IsSourceResult holds source (sources.Refused text) → (words : List (List ℕ)) → NamesFiles words source input → IsCallResult words holds before now 1 text None []
+source_refused holds before now source input text same s words n = OfRow same (record {
   held = record { source = s.file; input = unread holds input };
-  told = run_told holds source input _ s.told (unread_told holds input);
-  row = NotBuilt source input (tree_of loaded.program) refl s.gave.source (s.gave.other other);
-}))
+  told = files_told words holds source input _ n s.told (unread_told holds input);
+  row = SourceRefused source (WithInput input n) s.gave;
+})
 
 -- an input that is refused
-pub input_refused : (holds later : Option Content) (before mid now : ℕ) (source input text : List ℕ) (loaded : Loaded) → later ≡ holds
-    → CountsFault false before mid → CountsFault false mid now → IsTrue loaded.is_first_form → IsSourceResult holds source (sources.Accepted loaded)
-    → IsInputResult later input (inputs.Refused text) → IsCallResult (run_words source input) holds before now 1 text None []
-input_refused holds later before mid now source input text loaded keeps same same' plain s i = OfRow (same' ∙ same) (record {
+pub input_refused : (holds later : Option Content) (before mid now : ℕ) (source input text : List ℕ) (checked : Program) → later ≡ holds
+    → CountsFault false before mid → CountsFault false mid now → IsSourceResult holds source (sources.Accepted checked)
+    → IsInputResult later input (inputs.Refused text) → (words : List (List ℕ)) → NamesFiles words source input → IsCallResult words holds before now 1 text None []
+input_refused holds later before mid now source input text checked keeps same same' s i words n = OfRow (same' ∙ same) (record {
   held = record { source = s.file; input = i.file };
-  told = run_told holds source input _ s.told (rw keeps at i.told);
-  row = InputRefused source input (tree_of loaded.program) refl (s.gave.plain plain) i.gave;
+  told = files_told words holds source input _ n s.told (rw keeps at i.told);
+  row = InputRefused source input (tree_of checked) n s.gave i.gave;
 })
 
 -- an input that could not be read
-pub input_failed : (holds : Option Content) (before mid now : ℕ) (source input text : List ℕ) (loaded : Loaded) → CountsFault false before mid
-    → CountsFault true mid now → IsTrue loaded.is_first_form → IsSourceResult holds source (sources.Accepted loaded) → text ≡ fault_read input
-    → IsCallResult (run_words source input) holds before now 4 text None []
-input_failed holds before mid now source input text loaded same rose plain s t =
-    let at_mid : IsCallResult (run_words source input) holds mid now 4 (fault_read input) None [] =
-    InputFault source input s.file (tree_of loaded.program) rose.0 rose.1 refl s.told (s.gave.plain plain) in
-    rw (t, ← same) at_mid
+pub input_failed : (holds : Option Content) (before mid now : ℕ) (source input : List ℕ) (checked : Program) → CountsFault false before mid
+    → CountsFault true mid now → IsSourceResult holds source (sources.Accepted checked) → (words : List (List ℕ)) → NamesFiles words source input
+    → IsCallResult words holds before now 4 (fault_read input) None []
+input_failed holds before mid now source input checked same rose s words n =
+    let at_mid : IsCallResult words holds mid now 4 (fault_read input) None [] =
+    InputFault source input s.file (tree_of checked) rose.0 rose.1 n s.told s.gave in
+    rw (← same) at_mid
 
--- a `run` that runs its program
-pub answer_of_run : (holds later : Option Content) (before mid now : ℕ) (source input text : List ℕ) (status : ℕ) (reports : List Report) (loaded : Loaded)
-    → later ≡ holds → CountsFault false before mid → CountsFault false mid now → IsTrue loaded.is_first_form → IsSourceResult holds source (sources.Accepted loaded)
-    → IsInputResult later input inputs.Empty → RunResult (tree_of loaded.program) [] status text reports
-    → IsCallResult (run_words source input) holds before now status text (Some (elision_log (tree_of loaded.program) [])) reports
-answer_of_run holds later before mid now source input text status reports loaded keeps same same' plain s i outcome = OfRow (same' ∙ same) (record {
+-- an accepted source and an empty input
+pub files_ready : (holds later : Option Content) (before mid now : ℕ) (source input : List ℕ) (checked : Program) → later ≡ holds
+    → CountsFault false before mid → CountsFault false mid now → IsSourceResult holds source (sources.Accepted checked) → IsInputResult later input inputs.Empty
+    → AreReady holds before now source input (tree_of checked)
+files_ready holds later before mid now source input checked keeps same same' s i = record {
   held = record { source = s.file; input = i.file };
-  told = run_told holds source input _ s.told (rw keeps at i.told);
-  row = Runs source input (tree_of loaded.program) refl (s.gave.plain plain) i.gave outcome;
+  calm = same' ∙ same;
+  source_told = s.told;
+  input_told = rw keeps at i.told;
+  program = s.gave;
+  empty = i.gave;
+}
+
+-- ---- a program that is run
+
+-- by `run`, with the run log
+pub answer_of_run : (holds : Option Content) (before now : ℕ) (source input : List ℕ) (tree : SyntaxTree) (r : Result Answer NoMemory) → AreReady holds before now source input tree
+    → IfOk r (λ a. RunResult tree [] a.status a.text a.reports) → IfOk r (λ a. a.run_log ≡ Some (elision_log tree []))
+    → IfOk r (λ a. IsCallResult (run_words source input) holds before now a.status a.text a.run_log a.reports)
+answer_of_run holds before now source input tree (Ok a) ready outcome log = rw log (OfRow ready.calm (record {
+  held = ready.held;
+  told = files_told _ holds source input _ (ByRun refl) ready.source_told ready.input_told;
+  row = Runs source input tree refl ready.program ready.empty outcome;
+}))
+answer_of_run holds before now source input tree (Err m) ready outcome log = outcome
+
+-- by `serial`, without it
+pub answer_of_serial : (holds : Option Content) (before now : ℕ) (source input : List ℕ) (tree : SyntaxTree) {status : ℕ} {text : List ℕ} {reports : List Report}
+    → AreReady holds before now source input tree → RunResult tree [] status text reports → IsCallResult (serial_words source input) holds before now status text None reports
+answer_of_serial holds before now source input tree ready outcome = OfRow ready.calm (record {
+  held = ready.held;
+  told = files_told _ holds source input _ (BySerial refl) ready.source_told ready.input_told;
+  row = RunsSerially source input tree refl ready.program ready.empty outcome;
 })
 
 -- a call that returns this

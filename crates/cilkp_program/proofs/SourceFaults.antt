@@ -1,5 +1,5 @@
 -- A fault of the lexer, the parser or the checker refuses the source, with the line of that fault.
-use Rattle.std.proofs.Common.{◌≡◌, ◌∙◌, ◌↔◌, ℕ, List, Some, None, IsTrue, IsFalse, Bool, true, false, sym}
+use Rattle.std.proofs.Common.{◌≡◌, ℕ, List, Some, None}
 use Rattle.pipe_check.specs.declared.fault.CheckFault.{CheckFault}
 use Rattle.pipe_check.specs.declared.fault.CheckFault.TheVariants as checks
 use Rattle.pipe_check.specs.Passing.{IsFirstFaultOf}
@@ -9,9 +9,8 @@ use Rattle.pipe_lexer.specs.Faults.{IsFaultOf}
 use Rattle.pipe_model.specs.declared.token.Token.{Token}
 use Rattle.pipe_model.specs.Language.CheckingRules as checking
 use Rattle.pipe_model.specs.Language.CheckingRules.{Broken, fault_of}
-use Rattle.serial_elision.specs.FirstForm.{IsPlain}
 use Rattle.pipe_model.specs.Language.MarkPlaces.{mark_places}
-use Rattle.pipe_model.specs.Language.SourceRefusals.{Lexical, Syntactic, LimitOut, RuleBroken, ForItsText, ForAToken, ForALimit, ForARule}
+use Rattle.pipe_model.specs.Language.SourceRefusals.{IsAccepted, Lexical, Syntactic, LimitOut, RuleBroken, ForItsText, ForAToken, ForALimit, ForARule}
 use Rattle.pipe_model.specs.Language.SourceSpelling.{SourceSpells}
 use Rattle.pipe_model.specs.Language.Spelling as grammar
 use Rattle.pipe_model.specs.Language.Spelling.{Spells}
@@ -21,8 +20,7 @@ use Rattle.pipe_parser.specs.declared.parse.ParseFault.{ParseFault}
 use Rattle.pipe_parser.specs.declared.parse.ParseFault.TheVariants as parser
 use Rattle.pipe_parser.specs.Parses.{IsFault}
 use Rattle.language_laws.proofs.MarkPlaces.{place_of_broken}
-use Rattle.grammar_laws.proofs.SourceRefusals.{one_lexed}
-use Rattle.cilkp_program.specs.LoadedFiles.{AreLoaded, AreRefused}
+use Rattle.cilkp_program.specs.LoadedFiles.{AreRefused}
 use Rattle.cilkp_program.specs.RefusalLines.{HasPlace, IsCheckLine, IsLexicalLine, IsRuleLine, IsSyntaxLine}
 
 -- tokens whose symbols spell the program
@@ -82,18 +80,6 @@ program_refused source tree s (checks.NeedsIndex mark) line t r = rule_refused s
 program_refused source tree s (checks.ZeroSize mark) line t r = rule_refused source tree s _ mark line t r
 program_refused source tree s checks.NoMemory line t e = absurd e
 
--- a Boolean is not both true and false
-not_both : {b : Bool} → IsTrue b → IsFalse b → ⊥
-not_both h g = let e : true ≡ false = sym h ∙ g in cc (e)
-
--- a program that breaks no rule is accepted, and `is_first_form` is true exactly if it is of the first form
-pub program_accepted : (source : List ℕ) (tree : SyntaxTree) (s : SourceSpells source tree) (is_first_form : Bool) → fault_of tree ≡ None
-    → ((source : List ℕ) → IsTrue is_first_form ↔ IsPlain (symbols_in source s.tokens) tree) → AreLoaded source tree is_first_form
-program_accepted source tree s is_first_form obeys plain =
-    record {
-      accepted = record { spelled = s; obeys = obeys };
-      plain = λ h. record { accepted = record { spelled = s; obeys = obeys }; plain = (plain source).0 h };
-      other = λ h form.
-          let yes = (plain source).1 (rw (one_lexed source form.accepted.spelled.tokens s.tokens form.accepted.spelled.lexed s.lexed) at form.plain) in
-          not_both yes h;
-    }
+-- a program that breaks no rule is accepted
+pub program_accepted : (source : List ℕ) (tree : SyntaxTree) → SourceSpells source tree → fault_of tree ≡ None → IsAccepted source tree
+program_accepted source tree s obeys = record { spelled = s; obeys = obeys }

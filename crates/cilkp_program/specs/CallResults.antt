@@ -7,7 +7,7 @@ use Rattle.pipe_model.specs.Language.SyntaxTree.{SyntaxTree}
 use Rattle.pipe_model.specs.Texts.{fault_read}
 use Rattle.cilkp_program.specs.Faults.{CountRose}
 use Rattle.cilkp_program.specs.Reads.{Content}
-use Rattle.cilkp_program.specs.Rows.{AreHeldBy, FileContents, IsPlainSourceOf, NamesSource, Row, run_words}
+use Rattle.cilkp_program.specs.Rows.{AreHeldBy, FileContents, IsSourceOf, NamesFiles, NamesSource, Row}
 
 -- the result of a call in which no read failed: the row of its words and of some content of its files; where the content is known, it is that one
 pub record IsRow (words : List (List ℕ)) (holds : Option Content) (status : ℕ) (text : List ℕ) (log : Option RunLog) (reports : List Report) : Type 0 where
@@ -16,13 +16,13 @@ pub record IsRow (words : List (List ℕ)) (holds : Option Content) (status : �
   pub row : Row words held status text log reports
 
 -- the status, the text, the run log and the reports of a call: those of its row if no read failed, and otherwise the line of the fault, which is the
--- input's only if the source is a program to run. `before` and `now` are the counts of faults before and after the call
+-- input's only if the source is an accepted program to run. `before` and `now` are the counts of faults before and after the call
 pub data IsCallResult (words : List (List ℕ)) (holds : Option Content) (before now : ℕ) : ℕ → List ℕ → Option RunLog → List Report → Type 0 where
   OfRow : {status : ℕ} {text : List ℕ} {log : Option RunLog} {reports : List Report} → now ≡ before → IsRow words holds status text log reports
       → IsCallResult words holds before now status text log reports
   SourceFault : (source : List ℕ) → before ≤ now → CountRose before now → NamesSource words source → IsCallResult words holds before now 4 (fault_read source) None []
-  InputFault : (source input : List ℕ) (file : Option (List ℕ)) (tree : SyntaxTree) → before ≤ now → CountRose before now → words ≡ run_words source input
-      → IfSome holds (λ content. content source ≡ file) → IsPlainSourceOf file tree → IsCallResult words holds before now 4 (fault_read input) None []
+  InputFault : (source input : List ℕ) (file : Option (List ℕ)) (tree : SyntaxTree) → before ≤ now → CountRose before now → NamesFiles words source input
+      → IfSome holds (λ content. content source ≡ file) → IsSourceOf file tree → IsCallResult words holds before now 4 (fault_read input) None []
 
 -- the sink took the first `count` bytes of the text; `before` and `now` are its content, if it is known
 abbrev pub HasTaken : ℕ → List ℕ → Option (List ℕ) → Option (List ℕ) → Type 0

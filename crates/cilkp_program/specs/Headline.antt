@@ -1,4 +1,4 @@
--- The headline: what a call guarantees for an accepted program of the first form with an empty input, for every throttling limit of at least 1.
+-- The headline: what a call guarantees for an accepted program with an empty input, for every throttling limit of at least 1.
 use Rattle.std.specs.Prelude.{◌≡◌, ◌≢◌, ◌≤◌, ◌⊎◌, ◌↔◌, ◌++◌, ℕ, ℤ, List, [], length, Option, Some, None}
 use Rattle.pipe_model.specs.declared.event.RunLog.{RunLog}
 use Rattle.pipe_model.specs.declared.report.Report.{Report}
@@ -12,22 +12,18 @@ use Rattle.pipe_model.specs.Runs.WholeProgramRuns.{IsFinishedProgramRun}
 use Rattle.cilkp_program.specs.CallResults.{HasTaken}
 use Rattle.cilkp_program.specs.CellNames.{race_lines}
 use Rattle.cilkp_program.specs.Reads.{Content}
-use Rattle.cilkp_program.specs.Rows.{ElisionHasNoRace, IsPlainSourceOf, elision_output_text, run_words, elision_trap}
+use Rattle.cilkp_program.specs.Rows.{ElisionHasNoRace, IsSourceOf, elision_output_text, run_words, elision_trap}
 
--- the words are `run SOURCE INPUT`, the source is accepted as the program and is of the first form, and the input is empty
+-- the words are `run SOURCE INPUT`, the source is accepted as the program, and the input is empty
 pub record IsToRun (words : List (List ℕ)) (content : Content) (tree : SyntaxTree) : Type 0 where
   pub source : List ℕ
   pub input : List ℕ
   pub command : words ≡ run_words source input
-  pub program : IsPlainSourceOf (content source) tree
+  pub program : IsSourceOf (content source) tree
   pub empty : content input ≡ Some []
 
--- a run of the program under the throttling limit: its log, its reports, and the status and the text of the call
-pub record MeetsHeadline (tree : SyntaxTree) (input : List ℤ) (limit : ℕ) (log : RunLog) (reports : List Report) (status : ℕ) (text : List ℕ) : Type 0 where
-  -- the log is that of a finished run of the program on its input, with the run's own columns
-  pub run : IsFinishedProgramRun (whole_of tree input) limit log
-  -- a cell has a report exactly if two conflicting accesses to it are parallel in the run's own dag; it has at most one, and the reports rise by cell
-  pub reported : AreRight (columns_after log.events) (accesses_after log.events) reports
+-- the reports, the status and the text of a call agree with the serial elision of the program on its input
+pub record AgreesWithElision (tree : SyntaxTree) (input : List ℤ) (reports : List Report) (status : ℕ) (text : List ℕ) : Type 0 where
   -- no cell is reported exactly if the dag of the serial elision has no race
   pub silent : (reports ≡ []) ↔ ElisionHasNoRace tree input
   -- the status is 2 exactly if the dag of the serial elision has a race, and then the races are printed
@@ -37,16 +33,29 @@ pub record MeetsHeadline (tree : SyntaxTree) (input : List ℤ) (limit : ℕ) (l
   pub otherwise : ElisionHasNoRace tree input → text ≡ elision_output_text tree input ++ trap_lines (elision_trap tree input)
   pub trapped : (status ≡ 3) ↔ (ElisionHasNoRace tree input × (elision_trap tree input ≢ None))
   pub untrapped : (status ≡ 0) ↔ (ElisionHasNoRace tree input × (elision_trap tree input ≡ None))
+
+-- a run of the program under the throttling limit: its log, its reports, and the status and the text of the call
+pub record MeetsHeadline (tree : SyntaxTree) (input : List ℤ) (limit : ℕ) (log : RunLog) (reports : List Report) (status : ℕ) (text : List ℕ) : Type 0 where
+  -- the log is that of a finished run of the program on its input, with the run's own columns
+  pub run : IsFinishedProgramRun (whole_of tree input) limit log
+  -- a cell has a report exactly if two conflicting accesses to it are parallel in the run's own dag; it has at most one, and the reports rise by cell
+  pub reported : AreRight (columns_after log.events) (accesses_after log.events) reports
+  -- whether races are reported, and what is printed, is as the serial elision says
+  pub agrees : AgreesWithElision tree input reports status text
   -- at most the throttling limit of iterations are alive at any event
   pub throttled : IsThrottled limit log.events
 
+-- the status is that of a program that was run: 0, 2 or 3
+abbrev pub IsRunStatus : ℕ → Type 0
+IsRunStatus status = (status ≡ 0) ⊎ ((status ≡ 2) ⊎ (status ≡ 3))
+
 -- the call returned the log of a run that meets the headline for every limit of at least 1, and its text was written completely.
--- The status is 0, 2 or 3: an accepted program of the first form with an empty input has no other result
+-- An accepted program with an empty input has no other result
 pub record ReturnsRun (tree : SyntaxTree) (status written : ℕ) (run_log : Option RunLog) (reports : List Report) (taken_before taken_now : Option (List ℕ)) : Type 0 where
   pub log : RunLog
   pub logged : run_log ≡ Some log
   pub text : List ℕ
   pub whole : written ≡ length text
   pub taken : HasTaken written text taken_before taken_now
-  pub complete : (status ≡ 0) ⊎ ((status ≡ 2) ⊎ (status ≡ 3))
+  pub complete : IsRunStatus status
   pub meets : (limit : ℕ) → 1 ≤ limit → MeetsHeadline tree [] limit log reports status text

@@ -8,9 +8,11 @@ pub mod CellNames
 pub mod RowLaws
 pub mod RunTexts
 pub mod Headline
+pub mod SerialCalls
 pub mod Formatting
 pub mod RefusalLines
 pub mod CallResults
+pub mod PreparedFiles
 pub mod LoadedFiles
 pub mod WholeFiles
 pub mod MemoryFiles

@@ -1,27 +1,20 @@
 -- The results of loading a source and an input.
-use Rattle.std.specs.Prelude.{◌≡◌, ℕ, List, [], Option, Some, IfSome, IsTrue, IsFalse, Bool, true, false}
-use Rattle.serial_elision.specs.FirstForm.{IsFirstForm}
+use Rattle.std.specs.Prelude.{◌≡◌, ℕ, List, [], Option, Some, IfSome, Bool, true, false}
 use Rattle.pipe_model.specs.Language.SourceRefusals.{IsAccepted, IsRefused, Refusal}
-use Rattle.pipe_model.specs.Language.SyntaxTree.{SyntaxTree, tree_of}
+use Rattle.pipe_model.specs.Language.SyntaxTree.{tree_of}
 use Rattle.pipe_model.specs.Texts.{refusal_line}
 use Rattle.cilkp_program.specs.declared.load.Source.{Source}
 use Rattle.cilkp_program.specs.declared.load.Source.TheVariants as sources
 use Rattle.cilkp_program.specs.declared.load.Input.{Input}
 use Rattle.cilkp_program.specs.declared.load.Input.TheVariants as inputs
 use Rattle.cilkp_program.specs.Reads.{Content}
-use Rattle.cilkp_program.specs.Rows.{InputRefusal, IsPlainSourceOf, IsSourceOf, SourceRefusal}
+use Rattle.cilkp_program.specs.Rows.{InputRefusal, IsSourceOf, SourceRefusal}
 
 -- whether a read of the source failed
 abbrev pub is_source_fault : Source → Bool
-is_source_fault (sources.Accepted loaded) = false
+is_source_fault (sources.Accepted checked) = false
 is_source_fault (sources.Refused line) = false
 is_source_fault sources.Failed = true
-
--- the bytes are accepted as the program, and `is_first_form` is true exactly if they are of the first form
-pub record AreLoaded (bytes : List ℕ) (tree : SyntaxTree) (is_first_form : Bool) : Type 0 where
-  pub accepted : IsAccepted bytes tree
-  pub plain : IsTrue is_first_form → IsFirstForm bytes tree
-  pub other : IsFalse is_first_form → IsFirstForm bytes tree → ⊥
 
 -- the bytes are refused, with this line
 pub record AreRefused (bytes line : List ℕ) : Type 0 where
@@ -31,19 +24,13 @@ pub record AreRefused (bytes line : List ℕ) : Type 0 where
 
 -- the result of loading these bytes
 abbrev pub IsLoadOf : List ℕ → Source → Type 0
-IsLoadOf bytes (sources.Accepted loaded) = AreLoaded bytes (tree_of loaded.program) loaded.is_first_form
+IsLoadOf bytes (sources.Accepted checked) = IsAccepted bytes (tree_of checked)
 IsLoadOf bytes (sources.Refused line) = AreRefused bytes line
 IsLoadOf bytes sources.Failed = ⊥
 
--- the file holds a source of the program, and `is_first_form` is true exactly if it is of the first form
-pub record IsLoaded (file : Option (List ℕ)) (tree : SyntaxTree) (is_first_form : Bool) : Type 0 where
-  pub source : IsSourceOf file tree
-  pub plain : IsTrue is_first_form → IsPlainSourceOf file tree
-  pub other : IsFalse is_first_form → IsPlainSourceOf file tree → ⊥
-
 -- the result of loading this file as a source: its program, or the line that refuses it
 abbrev pub IsSourceFrom : List ℕ → Option (List ℕ) → Source → Type 0
-IsSourceFrom name file (sources.Accepted loaded) = IsLoaded file (tree_of loaded.program) loaded.is_first_form
+IsSourceFrom name file (sources.Accepted checked) = IsSourceOf file (tree_of checked)
 IsSourceFrom name file (sources.Refused line) = SourceRefusal name file line
 IsSourceFrom name file sources.Failed = Unit {0}
 

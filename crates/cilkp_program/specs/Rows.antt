@@ -7,7 +7,6 @@ use Rattle.pipe_model.specs.declared.node.Node.{Node}
 use Rattle.pipe_model.specs.declared.report.Report.{Report}
 use Rattle.pipe_model.specs.declared.trap.TrapAt.{TrapAt}
 use Rattle.pipe_model.specs.Language.CanonicalText.{program_text}
-use Rattle.serial_elision.specs.FirstForm.{IsFirstForm}
 use Rattle.pipe_model.specs.Races.FirstRaces.{AreFirstRaces}
 use Rattle.pipe_model.specs.Pipelines.Behaviour.{column_of}
 use Rattle.pipe_model.specs.Pipelines.WholePrograms.{loop_accesses, loop_traces, program_log, program_output, program_trap}
@@ -17,7 +16,7 @@ use Rattle.pipe_model.specs.Language.SourceRefusals.{IsAccepted, IsRefused, Refu
 use Rattle.pipe_model.specs.Language.SyntaxTree.{SyntaxTree}
 use Rattle.pipe_model.specs.Texts.{output_lines, trap_line, refusal_line, refused_usage, refused_missing}
 use Rattle.cilkp_program.specs.CellNames.{race_lines}
-use Rattle.cilkp_program.specs.NotYetBuilt.{refused_program, refused_input}
+use Rattle.cilkp_program.specs.NotYetBuilt.{refused_input}
 use Rattle.cilkp_program.specs.Reads.{Content}
 
 -- the words of a call, as bytes
@@ -28,6 +27,10 @@ words_of words = map string_bytes words
 abbrev pub run_words : (source input : List ℕ) → List (List ℕ)
 run_words source input = codes "run" ∷ source ∷ input ∷ []
 
+-- the words of `serial SOURCE INPUT`, which runs the serial elision of a source on an input, and keeps no run log
+abbrev pub serial_words : (source input : List ℕ) → List (List ℕ)
+serial_words source input = codes "serial" ∷ source ∷ input ∷ []
+
 -- the words of `format SOURCE`, which prints the canonical text of a source's program
 abbrev pub format_words : (source : List ℕ) → List (List ℕ)
 format_words source = codes "format" ∷ source ∷ []
@@ -36,14 +39,23 @@ format_words source = codes "format" ∷ source ∷ []
 abbrev pub IsFormat : List (List ℕ) → Type 0
 IsFormat words = (source : List ℕ) × (words ≡ format_words source)
 
--- the words are a command with this source
+-- the words are a `serial` command
+abbrev pub IsSerial : List (List ℕ) → Type 0
+IsSerial words = (source input : List ℕ) × (words ≡ serial_words source input)
+
+-- the words are a `run` or a `serial` command with this source and this input
+pub data NamesFiles (words : List (List ℕ)) (source input : List ℕ) : Type 0 where
+  ByRun : words ≡ run_words source input → NamesFiles words source input
+  BySerial : words ≡ serial_words source input → NamesFiles words source input
+
+-- the words are one of the three commands, with this source
 pub data NamesSource (words : List (List ℕ)) (source : List ℕ) : Type 0 where
-  ByRun : (input : List ℕ) → words ≡ run_words source input → NamesSource words source
+  WithInput : (input : List ℕ) → NamesFiles words source input → NamesSource words source
   ByFormat : words ≡ format_words source → NamesSource words source
 
--- the words are a `run` command with this input
+-- the words are a `run` or a `serial` command with this input
 abbrev pub NamesInput : (words : List (List ℕ)) (input : List ℕ) → Type 0
-NamesInput words input = (source : List ℕ) × (words ≡ run_words source input)
+NamesInput words input = (source : List ℕ) × NamesFiles words source input
 
 -- the content of a command's source and input; none for a file that does not exist
 pub record FileContents : Type 0 where
@@ -60,12 +72,6 @@ pub record IsSourceOf (file : Option (List ℕ)) (tree : SyntaxTree) : Type 0 wh
   pub bytes : List ℕ
   pub held : file ≡ Some bytes
   pub accepted : IsAccepted bytes tree
-
--- the file holds a source of the first form that is accepted as the program
-pub record IsPlainSourceOf (file : Option (List ℕ)) (tree : SyntaxTree) : Type 0 where
-  pub bytes : List ℕ
-  pub held : file ≡ Some bytes
-  pub form : IsFirstForm bytes tree
 
 -- the line that refuses a source of this name: there is no such file, or it is not accepted
 pub data SourceRefusal (name : List ℕ) (file : Option (List ℕ)) : List ℕ → Type 0 where
@@ -108,16 +114,16 @@ pub data RunResult (tree : SyntaxTree) (input : List ℤ) : ℕ → List ℕ →
   Finishes : ElisionHasNoRace tree input → elision_trap tree input ≡ None → RunResult tree input 0 (elision_output_text tree input) []
   Traps : (t : TrapAt) → ElisionHasNoRace tree input → elision_trap tree input ≡ Some t → RunResult tree input 3 (elision_output_text tree input ++ trap_line t) []
 
--- the row of a call by its words and its files: its status, its text, its run log if the program is run, and its reports.
--- The words are refused before the source, and the source before the input. Only programs of the first form are run
+-- the row of a call by its words and its files: its status, its text, its run log if it keeps one, and its reports.
+-- The words are refused before the source, and the source before the input. A `serial` command has the status, the text and the reports of a `run`,
+-- and no run log
 pub data Row (words : List (List ℕ)) (held : FileContents) : ℕ → List ℕ → Option RunLog → List Report → Type 0 where
-  NoCommand : ((source input : List ℕ) → words ≢ run_words source input) → ((source : List ℕ) → words ≢ format_words source)
-      → Row words held 1 refused_usage None []
+  NoCommand : ((source : List ℕ) → NamesSource words source → ⊥) → Row words held 1 refused_usage None []
   SourceRefused : (source : List ℕ) {text : List ℕ} → NamesSource words source → SourceRefusal source held.source text → Row words held 1 text None []
   Formats : (source : List ℕ) (tree : SyntaxTree) → words ≡ format_words source → IsSourceOf held.source tree → Row words held 0 (program_text tree) None []
-  NotBuilt : (source input : List ℕ) (tree : SyntaxTree) → words ≡ run_words source input → IsSourceOf held.source tree
-      → (IsPlainSourceOf held.source tree → ⊥) → Row words held 1 refused_program None []
-  InputRefused : (source input : List ℕ) {text : List ℕ} (tree : SyntaxTree) → words ≡ run_words source input → IsPlainSourceOf held.source tree
+  InputRefused : (source input : List ℕ) {text : List ℕ} (tree : SyntaxTree) → NamesFiles words source input → IsSourceOf held.source tree
       → InputRefusal input held.input text → Row words held 1 text None []
   Runs : (source input : List ℕ) {status : ℕ} {text : List ℕ} {reports : List Report} (tree : SyntaxTree) → words ≡ run_words source input
-      → IsPlainSourceOf held.source tree → held.input ≡ Some [] → RunResult tree [] status text reports → Row words held status text (Some (elision_log tree [])) reports
+      → IsSourceOf held.source tree → held.input ≡ Some [] → RunResult tree [] status text reports → Row words held status text (Some (elision_log tree [])) reports
+  RunsSerially : (source input : List ℕ) {status : ℕ} {text : List ℕ} {reports : List Report} (tree : SyntaxTree) → words ≡ serial_words source input
+      → IsSourceOf held.source tree → held.input ≡ Some [] → RunResult tree [] status text reports → Row words held status text None reports

@@ -1,25 +1,28 @@
-//! The top call: runs a program, or prints its canonical text.
+//! The top call: runs a program, runs its serial elision alone, or prints its canonical text.
 
-ghost use Rattle.std.specs.Prelude.{◌≡◌, ◌≢◌, ℕ, ◌≤◌, ◌⊎◌, ◌↔◌, List, [], IfOk, IfSome, IfNone, OnErr};
+ghost use Rattle.std.specs.Prelude.{◌≡◌, ◌≢◌, ◌∷◌, ℕ, ◌≤◌, ◌⊎◌, ◌↔◌, List, [], IfOk, IfSome, IfNone, OnErr};
 ghost use Rattle.pipe_model.specs.Language.CanonicalText.{program_text};
-ghost use Rattle.serial_elision.specs.FirstForm.{IsFirstForm};
+ghost use Rattle.pipe_model.specs.Language.SourceRefusals.{IsAccepted};
 ghost use Rattle.pipe_model.specs.Language.SyntaxTree.{SyntaxTree, tree_of};
 ghost use Rattle.pipe_model.specs.Texts.{fault_read};
 ghost use Rattle.cilkp_program.specs.CallResults.{IsCallResult, IsPrinted, IsCutShort, IsGivenUp};
 ghost use Rattle.cilkp_program.specs.Faults.{CountGrew, CountRose};
 ghost use Rattle.cilkp_program.specs.Formatting.{ReturnsText, IsToFormat};
 ghost use Rattle.cilkp_program.specs.Headline.{ReturnsRun, IsToRun};
-ghost use Rattle.cilkp_program.specs.Rows.{IsFormat, RunResult, elision_log, words_of, run_words, format_words};
+ghost use Rattle.cilkp_program.specs.PreparedFiles.{IsPreparation};
+ghost use Rattle.cilkp_program.specs.Rows.{IsFormat, IsSerial, RunResult, elision_log, words_of, run_words, serial_words, format_words};
 ghost use Rattle.cilkp_program.specs.RunTexts.{IsPrintedAs};
+ghost use Rattle.cilkp_program.specs.SerialCalls.{ReturnsElision, IsToRunSerially};
 
 use crate::files::Files;
 use crate::gate::Gate;
-use crate::load::{Input, Loaded, Source, load_input, load_source};
+use crate::load::{Input, Source, load_input, load_source};
 use crate::race_text::race_text;
 use crate::sink::Sink;
 use crate::text::{line, named_line, outcome_text};
 use crate::whole::{WriteEnd, write_text};
 use dag_build::dag::Dag;
+use pipe_check::checked::Checked;
 use pipe_format::program::format;
 use pipe_model::event::RunLog;
 use pipe_model::list::{Bytes, Numbers};
@@ -27,8 +30,8 @@ use pipe_model::memory::NoMemory;
 use pipe_model::report::Reports;
 use pipe_model::trap::TrapAt;
 use pipe_model::tree::{Declaration, Program};
-use serial_elision::elision::{SerialRun, run_tree};
-use serial_elision::events::serial_events;
+use serial_elision::elision::{SerialRun, run_serial};
+use stage_code::lower::lower;
 use std::alloc::Global;
 
 const FINISHED: u8 = 0;
@@ -50,7 +53,8 @@ pub struct Ended {
     /// words, the source or the input were refused. 2: the program has a race. 3: the run trapped.
     /// 4: a read failed. 5: a write failed.
     pub status: u8,
-    /// The events of the run and its columns; `None` if no program was run.
+    /// The events of the run and its columns; `None` if no program was run, or only its serial
+    /// elision.
     pub run_log: Option<RunLog>,
     /// The first race of each cell that has one, rising by cell; empty if no program was run.
     pub reports: Reports,
@@ -67,14 +71,23 @@ struct Answer {
     reports: Reports,
 }
 
-// The names of the source and the input, if the words are `run SOURCE INPUT`.
-fn run_names(words: &[String]) -> Option<(&str, &str)>
-    ensures some { IfSome result (λ names. words_of words.now ≡ run_words names.0.now names.1.now) }
-    ensures none { IfNone result ((source input : List ℕ) → words_of words.now ≢ run_words source input) }
+// The files of a command before its program runs.
+#[derive(Drop)]
+enum Prepared {
+    // The source is accepted and the input is empty.
+    Ready(Checked),
+    // The source or the input is refused or cannot be read.
+    Answered(Answer),
+}
+
+// The names of the source and the input, if the words are `COMMAND SOURCE INPUT`.
+fn names_after<'a>(words: &'a [String], command: &str) -> Option<(&'a str, &'a str)>
+    ensures some { IfSome result (λ names. words_of words.now ≡ command.now ∷ names.0.now ∷ names.1.now ∷ []) }
+    ensures none { IfNone result ((source input : List ℕ) → words_of words.now ≢ command.now ∷ source ∷ input ∷ []) }
 {
     match words {
-        [run, source, input] => {
-            if run.as_str() == "run" {
+        [first, source, input] => {
+            if first.as_str() == command {
                 Some((source.as_str(), input.as_str()))
             } else {
                 None
@@ -121,21 +134,23 @@ fn printed_run(
     }
 }
 
-// Runs the program serially, one iteration after the other: status, text, log and reports.
-fn run_program(alloc: Global, program: &Program) -> Result<Answer, NoMemory>
-    requires { (source : List ℕ) × IsFirstForm source (tree_of program.now) }
-    ensures outcome { IfOk result (λ a. RunResult (tree_of program.now) [] a.status a.text a.reports) }
-    ensures log { IfOk result (λ a. a.run_log ≡ Some (elision_log (tree_of program.now) [])) }
+// Runs a program serially, one iteration after the other: status, text, log and reports.
+fn run_program(alloc: Global, checked: &Checked) -> Result<Answer, NoMemory>
+    requires { (source : List ℕ) × IsAccepted source (tree_of checked.now) }
+    ensures outcome { IfOk result (λ a. RunResult (tree_of checked.now) [] a.status a.text a.reports) }
+    ensures log { IfOk result (λ a. a.run_log ≡ Some (elision_log (tree_of checked.now) [])) }
 {
+    let code = lower(alloc, checked)?;
     let SerialRun {
         output,
         trap,
         columns,
         accesses,
-    } = run_tree(alloc, program, &Numbers::new(alloc))?;
+        events,
+    } = run_serial(alloc, checked, &code, &Numbers::new(alloc))?;
     let reports = Dag::of(alloc, &columns)?.races(alloc, &accesses)?;
-    let events = serial_events(alloc, &columns, &accesses)?;
-    let (status, text) = printed_run(alloc, program.cells.as_slice(), &output, trap, &reports)?;
+    let cells = checked.program().cells.as_slice();
+    let (status, text) = printed_run(alloc, cells, &output, trap, &reports)?;
     Ok(Answer {
         status,
         text,
@@ -178,6 +193,30 @@ fn text_of(alloc: Global, program: &Program) -> Result<Answer, NoMemory>
     })
 }
 
+// Loads the files of a command that runs a program, the source first.
+fn prepare<F: Files>(
+    alloc: Global,
+    files: &mut F,
+    source: &str,
+    input: &str,
+) -> Result<Prepared, NoMemory>
+    ensures keeps { F.holds files.new ≡ F.holds files.old }
+    ensures grows { OnErr result (F.faults files.old ≤ F.faults files.new) }
+    ensures prepared { IfOk result (λ p. IsPreparation (F.holds files.old) (F.faults files.old) (F.faults files.new)
+        source.now input.now p) }
+{
+    let program = match load_source(alloc, files, source)? {
+        Source::Accepted(program) => program,
+        Source::Refused(text) => return Ok(Prepared::Answered(refused(alloc, text))),
+        Source::Failed => return Ok(Prepared::Answered(read_fault(alloc, source)?)),
+    };
+    match load_input(alloc, files, input)? {
+        Input::Empty => Ok(Prepared::Ready(program)),
+        Input::Refused(text) => Ok(Prepared::Answered(refused(alloc, text))),
+        Input::Failed => Ok(Prepared::Answered(read_fault(alloc, input)?)),
+    }
+}
+
 // The result of `run SOURCE INPUT`.
 fn answer_run<F: Files>(
     alloc: Global,
@@ -190,24 +229,34 @@ fn answer_run<F: Files>(
     ensures answer { IfOk result (λ a. IsCallResult (run_words source.now input.now) (F.holds files.old)
         (F.faults files.old) (F.faults files.new) a.status a.text a.run_log a.reports) }
 {
-    let Loaded {
-        program,
-        is_first_form,
-    } = match load_source(alloc, files, source)? {
-        Source::Accepted(loaded) => loaded,
-        Source::Refused(text) => return Ok(refused(alloc, text)),
-        Source::Failed => return read_fault(alloc, source),
-    };
-    if !is_first_form {
-        return Ok(refused(alloc, line(alloc, "refused source NotYetBuilt\n")?));
+    match prepare(alloc, files, source, input)? {
+        Prepared::Ready(program) => run_program(alloc, &program),
+        Prepared::Answered(answer) => Ok(answer),
     }
-    match load_input(alloc, files, input)? {
-        Input::Empty => {}
-        Input::Refused(text) => return Ok(refused(alloc, text)),
-        Input::Failed => return read_fault(alloc, input),
+}
+
+// The result of `serial SOURCE INPUT`, which keeps no run log.
+fn answer_serial<F: Files>(
+    alloc: Global,
+    files: &mut F,
+    source: &str,
+    input: &str,
+) -> Result<Answer, NoMemory>
+    ensures keeps { F.holds files.new ≡ F.holds files.old }
+    ensures grows { OnErr result (F.faults files.old ≤ F.faults files.new) }
+    ensures answer { IfOk result (λ a. IsCallResult (serial_words source.now input.now) (F.holds files.old)
+        (F.faults files.old) (F.faults files.new) a.status a.text a.run_log a.reports) }
+{
+    match prepare(alloc, files, source, input)? {
+        Prepared::Ready(program) => {
+            let answer = run_program(alloc, &program)?;
+            Ok(Answer {
+                run_log: None,
+                ..answer
+            })
+        }
+        Prepared::Answered(answer) => Ok(answer),
     }
-    let answer = run_program(alloc, program.program())?;
-    Ok(answer)
 }
 
 // The result of `format SOURCE`.
@@ -218,7 +267,7 @@ fn answer_format<F: Files>(alloc: Global, files: &mut F, source: &str) -> Result
         (F.faults files.old) (F.faults files.new) a.status a.text a.run_log a.reports) }
 {
     match load_source(alloc, files, source)? {
-        Source::Accepted(loaded) => text_of(alloc, loaded.program.program()),
+        Source::Accepted(program) => text_of(alloc, program.program()),
         Source::Refused(text) => Ok(refused(alloc, text)),
         Source::Failed => read_fault(alloc, source),
     }
@@ -230,8 +279,11 @@ fn answer_for<F: Files>(alloc: Global, words: &[String], files: &mut F) -> Resul
     ensures answer { IfOk result (λ a. IsCallResult (words_of words.now) (F.holds files.old)
         (F.faults files.old) (F.faults files.new) a.status a.text a.run_log a.reports) }
 {
-    if let Some((source, input)) = run_names(words) {
+    if let Some((source, input)) = names_after(words, "run") {
         return answer_run(alloc, files, source, input);
+    }
+    if let Some((source, input)) = names_after(words, "serial") {
+        return answer_serial(alloc, files, source, input);
     }
     if let Some(source) = format_name(words) {
         return answer_format(alloc, files, source);
@@ -239,12 +291,13 @@ fn answer_for<F: Files>(alloc: Global, words: &[String], files: &mut F) -> Resul
     Ok(refused(alloc, line(alloc, "refused usage\n")?))
 }
 
-/// Executes the command `run SOURCE INPUT` or `format SOURCE`. Writes all text to `out`, and
-/// returns the status, the log of the run, the reports of races, and how many bytes `out` took.
-/// `run` takes sources of the first form and an empty input. The run is serial today, which is a
-/// run for every throttling limit of at least 1. `format` takes every accepted source, and prints
-/// the canonical text of its program. The runtime value and the gate are not used yet. Returns an
-/// error only if memory runs out.
+/// Executes the command `run SOURCE INPUT`, `serial SOURCE INPUT` or `format SOURCE`. Writes all
+/// text to `out`, and returns the status, the log of the run, the reports of races, and how many
+/// bytes `out` took. `run` runs the program of an accepted source on an input, which has to be
+/// empty. The run is serial today, which is a run for every throttling limit of at least 1.
+/// `serial` runs the serial elision alone: it has the status, the text and the reports of that, and
+/// no run log. `format` prints the canonical text of an accepted source's program. The runtime
+/// value and the gate are not used yet. Returns an error only if memory runs out.
 pub fn cilkp<R: Drop, F: Files, S: Sink, G: Gate + Sync>(
     _rt: R,
     alloc: Global,
@@ -253,8 +306,8 @@ pub fn cilkp<R: Drop, F: Files, S: Sink, G: Gate + Sync>(
     out: &mut S,
     _gate: &G,
 ) -> Result<Ended, NoMemory>
-    // The headline: for every accepted program of the first form with an empty input, and every
-    // throttling limit of at least 1, if the files' content is known and neither count of faults
+    // The headline: for every accepted program with an empty input, and every throttling limit of
+    // at least 1, if the files' content is known and neither count of faults
     // rises, a call that returns `Ok` reports a cell exactly when the run's own dag has two
     // parallel conflicting accesses to it, reports some cell exactly when the serial elision's dag
     // has such a pair, and otherwise prints exactly the serial elision's output and trap; at most
@@ -262,6 +315,13 @@ pub fn cilkp<R: Drop, F: Files, S: Sink, G: Gate + Sync>(
     ensures headline { IfOk result (λ e. ¬ (CountRose (F.faults files.old) (F.faults files.new)) → ¬ (CountRose (S.faults out.old) (S.faults out.new)) →
         IfSome (F.holds files.old) (λ content. (tree : SyntaxTree) → IsToRun (words_of words.now) content tree →
         ReturnsRun tree e.status e.written e.run_log e.reports (S.taken out.old) (S.taken out.new))) }
+    // For every accepted program with an empty input, if the files' content is known and neither
+    // count of faults rises, a `serial` call that returns `Ok` reports a cell exactly when the
+    // serial elision's dag has two parallel conflicting accesses to it, and otherwise prints exactly
+    // the serial elision's output and trap; it returns no run log.
+    ensures serial { IfOk result (λ e. ¬ (CountRose (F.faults files.old) (F.faults files.new)) → ¬ (CountRose (S.faults out.old) (S.faults out.new)) →
+        IfSome (F.holds files.old) (λ content. (tree : SyntaxTree) → IsToRunSerially (words_of words.now) content tree →
+        ReturnsElision tree e.status e.written e.run_log e.reports (S.taken out.old) (S.taken out.new))) }
     // For every accepted program, if the files' content is known and neither count of faults rises,
     // a `format` call that returns `Ok` has written the canonical text of the program completely.
     ensures formatted { IfOk result (λ e. ¬ (CountRose (F.faults files.old) (F.faults files.new)) → ¬ (CountRose (S.faults out.old) (S.faults out.new)) →
@@ -282,8 +342,9 @@ pub fn cilkp<R: Drop, F: Files, S: Sink, G: Gate + Sync>(
         (IsGivenUp (words_of words.now) (F.holds files.old) (F.faults files.old) (F.faults files.new)
         (S.taken out.old) (S.taken out.new)) }
     // Unless the status is 5, there is no run log exactly if the call was refused, a read failed,
-    // or the words are a `format` command.
-    ensures logged { IfOk result (λ e. e.status ≢ 5 → (e.run_log ≡ None) ↔ ((e.status ≡ 1) ⊎ ((e.status ≡ 4) ⊎ IsFormat (words_of words.now)))) }
+    // or the words are a `format` or a `serial` command.
+    ensures logged { IfOk result (λ e. e.status ≢ 5 → (e.run_log ≡ None)
+        ↔ ((e.status ≡ 1) ⊎ ((e.status ≡ 4) ⊎ (IsFormat (words_of words.now) ⊎ IsSerial (words_of words.now))))) }
 
     // If the status is that of a fault, its count rose in this call. If a count grew, the status is
     // that of a fault.

@@ -56,6 +56,14 @@ impl<'a> Case<'a> {
         }
     }
 
+    // The call that runs the serial elision alone.
+    pub fn serial(source: &'a [u8]) -> Self {
+        Case {
+            words: &["serial", "a.pipe", "a.in"],
+            ..Case::of(source)
+        }
+    }
+
     // The call that prints the canonical text of the source's program.
     pub fn format(source: &'a [u8]) -> Self {
         Case {

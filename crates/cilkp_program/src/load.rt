@@ -5,7 +5,6 @@ ghost use Rattle.cilkp_program.specs.Faults.{CountsFault};
 ghost use Rattle.cilkp_program.specs.LoadedFiles.{is_source_fault, IsLoadOf, IsSourceResult, is_input_fault, IsInputResult};
 
 use crate::files::Files;
-use crate::first_form::is_first_form;
 use crate::refusal::{check_line, lexical_line, syntax_line};
 use crate::text::{line, named_line};
 use crate::whole::{Whole, read_whole};
@@ -22,20 +21,11 @@ const MISSING: &str = "refused missing ";
 
 const INPUT_NOT_BUILT: &str = "refused input NotYetBuilt\n";
 
-/// The program of an accepted source.
-#[derive(Drop)]
-pub struct Loaded {
-    pub program: Checked,
-    /// Whether the source is of the first form, comments aside. Only such programs can be run
-    /// today.
-    pub is_first_form: bool,
-}
-
 /// The result of loading a source.
 #[derive(Drop)]
 pub enum Source {
-    /// The source is accepted.
-    Accepted(Loaded),
+    /// The program of an accepted source.
+    Accepted(Checked),
     /// The line that refuses the source.
     Refused(Bytes),
     /// A read failed.
@@ -72,12 +62,8 @@ fn source_of(alloc: Global, source: &[u8]) -> Result<Source, NoMemory>
         Ok(parsed) => parsed,
         Err(fault) => return Ok(Source::Refused(syntax_line(alloc, fault)?)),
     };
-    let is_first_form = is_first_form(tokens.as_slice(), &program);
     match check(alloc, program) {
-        Ok(program) => Ok(Source::Accepted(Loaded {
-            program,
-            is_first_form,
-        })),
+        Ok(program) => Ok(Source::Accepted(program)),
         Err(fault) => Ok(Source::Refused(check_line(alloc, fault, places.as_slice())?)),
     }
 }

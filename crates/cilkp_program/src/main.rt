@@ -8,8 +8,9 @@ mod cases;
 pub mod fault_count;
 pub mod fault_plan;
 pub mod files;
-pub mod first_form;
 pub mod gate;
+#[cfg(test)]
+mod language_rows;
 pub mod law;
 pub mod load;
 pub mod mem_files;

@@ -29,7 +29,7 @@ const RACING_SUMS: &str =
 const RACING_LINES: &str = "race output write 0/1 read 1/1\nrace s write 0/1 read 1/1\n";
 
 // The limits and the rest of a source, and the status and text of its call.
-type Row = ([u32; 4], &'static str, u8, &'static str);
+pub type Row = ([u32; 4], &'static str, u8, &'static str);
 
 // A loop with `count` locals.
 fn many_locals(alloc: Global, count: usize) -> Result<String, NoMemory> {
@@ -243,11 +243,10 @@ fn runs(alloc: Global) -> Result<(), Fail> {
     Case::of(most.as_bytes()).check(alloc, "64 locals", 0, "")
 }
 
-// Accepted programs that cannot run yet, and one with a comment, which runs.
+// Small programs of each form, and one with a comment. Only one takes more than two steps.
 fn forms(alloc: Global) -> Result<(), Fail> {
     let rows = [
         "pipe_while ((0)) { }",
-        "cell n = 1; pipe_while (n - 1) { }",
         "cell n[2] = 0; pipe_while (0) { }",
         "init { } pipe_while (0) { }",
         "pipe_while (0) { } final { }",
@@ -259,13 +258,45 @@ fn forms(alloc: Global) -> Result<(), Fail> {
         "pipe_while (0) { while (0) { } }",
         "pipe_while (0) { pipe_wait((1)); }",
         "cell n[2] = 0; pipe_while (0) { n[0] = 1; }",
+        "pipe_while (0) { } // a comment",
     ];
     for rest in rows {
         let source = source(alloc, [1, 1, 2, 0], rest)?;
-        Case::of(source.as_bytes()).check(alloc, rest, 1, "refused source NotYetBuilt\n")?;
+        Case::of(source.as_bytes()).check(alloc, rest, 0, "")?;
     }
-    let comment = source(alloc, [1, 1, 2, 0], "pipe_while (0) { } // a comment")?;
-    Case::of(comment.as_bytes()).check(alloc, "a comment", 0, "")
+    let costly = source(alloc, [1, 1, 2, 0], "cell n = 1; pipe_while (n - 1) { }")?;
+    Case::of(costly.as_bytes()).check(alloc, "n - 1", 3, "trap Budget at 0/0\n")
+}
+
+// Fails the test unless `run` and `serial` of the program have this status and text and the same
+// number of reports, `run` has a run log, and `serial` has none.
+fn expect_both(alloc: Global, rest: &str, status: u8, text: &str) -> Result<(), Fail> {
+    let source = source(alloc, [8, 4, 100, 8], rest)?;
+    let run = Case::of(source.as_bytes());
+    let serial = Case::serial(source.as_bytes());
+    run.check(alloc, rest, status, text)?;
+    serial.check(alloc, rest, status, text)?;
+    let (ran, _) = run.run(alloc)?;
+    let (elided, _) = serial.run(alloc)?;
+    if ran.run_log.is_none() || elided.run_log.is_some() {
+        return Err(Fail::new(format_args!("{rest}: run logs")));
+    }
+    if ran.reports.as_slice() != elided.reports.as_slice() {
+        return Err(Fail::new(format_args!("{rest}: reports differ")));
+    }
+    Ok(())
+}
+
+// `run` and `serial` of programs that finish, race and trap.
+fn serial_agrees(alloc: Global) -> Result<(), Fail> {
+    expect_both(alloc, PREFIX_SUMS, 0, "1\n3\n6\n")?;
+    expect_both(alloc, RACING_SUMS, 2, RACING_LINES)?;
+    expect_both(
+        alloc,
+        "init { emit 1; } pipe_while (0) { } final { emit 1 / 0; }",
+        3,
+        "1\ntrap DivZero in final\n",
+    )
 }
 
 const SUMS_TEXT: &str =
@@ -277,7 +308,7 @@ const ARRAY: &str =
 const ARRAY_TEXT: &str =
     "limits iterations 1, stages 1, steps 1, emits 1;\ncell d[2] = -7;\ninit {\n  d[0] = 1;\n}\npipe_while (d[1]) {\n  if (1) {\n  } else {\n    emit -(2 * (d[0] + 1));\n  }\n}\n";
 
-// Programs of the first form and others are printed, and a canonical text is printed unchanged.
+// Programs are printed, and a canonical text is printed unchanged.
 fn formats(alloc: Global) -> Result<(), Fail> {
     let sums = source(alloc, [8, 4, 100, 8], PREFIX_SUMS)?;
     for (source, text) in [
@@ -293,7 +324,7 @@ fn formats(alloc: Global) -> Result<(), Fail> {
 // Wrong words, missing files, and an input that is not empty, in the order of the refusals.
 fn calls_refused(alloc: Global) -> Result<(), Fail> {
     let good = Case::of(COUNT_TO_TWO.as_bytes());
-    let rows: [(&[&str], &str); 14] = [
+    let rows: [(&[&str], &str); 20] = [
         (&[], "refused usage\n"),
         (&["run"], "refused usage\n"),
         (&["run", "a.pipe"], "refused usage\n"),
@@ -308,6 +339,18 @@ fn calls_refused(alloc: Global) -> Result<(), Fail> {
         (&["run", "a.pipe", "b.in"], "refused missing b.in\n"),
         (&["run", "a.in", "b.in"], "refused source Unexpected at 0\n"),
         (&["run", "a.pipe", "a.pipe"], "refused input NotYetBuilt\n"),
+        (&["serial", "a.pipe"], "refused usage\n"),
+        (&["serials", "a.pipe", "a.in"], "refused usage\n"),
+        (&["serial", "b.pipe", "b.in"], "refused missing b.pipe\n"),
+        (&["serial", "a.pipe", "b.in"], "refused missing b.in\n"),
+        (
+            &["serial", "a.in", "b.in"],
+            "refused source Unexpected at 0\n",
+        ),
+        (
+            &["serial", "a.pipe", "a.pipe"],
+            "refused input NotYetBuilt\n",
+        ),
     ];
     for (words, text) in rows {
         Case { words, ..good }.check(alloc, text, 1, text)?;
@@ -333,11 +376,14 @@ fn faults(alloc: Global) -> Result<(), Fail> {
         } else {
             (0, "1\n2\n")
         };
+        let read_fails = Some(k);
+        Case { read_fails, ..good }.check(alloc, "a read of run fails", status, text)?;
+        let serial = Case::serial(COUNT_TO_TWO.as_bytes());
         Case {
-            read_fails: Some(k),
-            ..good
+            read_fails,
+            ..serial
         }
-        .check(alloc, "a read fails", status, text)?;
+        .check(alloc, "a read of serial fails", status, text)?;
     }
     let rows = [(0, 5, ""), (1, 5, "1\n"), (2, 0, "1\n2\n")];
     for (k, status, taken) in rows {
@@ -347,22 +393,23 @@ fn faults(alloc: Global) -> Result<(), Fail> {
         }
         .check(alloc, "a write fails", status, taken)?;
     }
+    Ok(())
+}
+
+// Reads of other commands and of a missing file, and a read and a write that both fail.
+fn more_faults(alloc: Global) -> Result<(), Fail> {
+    let good = Case::of(COUNT_TO_TWO.as_bytes());
     Case {
         read_fails: Some(1),
         ..Case::format(COUNT_TO_TWO.as_bytes())
     }
     .check(alloc, "a read fails", 4, "fault read a.pipe\n")?;
-    Case {
+    let missing = Case {
         words: &["run", "b.pipe", "a.in"],
         read_fails: Some(0),
         ..good
-    }
-    .check(
-        alloc,
-        "a read of a missing file fails",
-        4,
-        "fault read b.pipe\n",
-    )?;
+    };
+    missing.check(alloc, "a missing file", 4, "fault read b.pipe\n")?;
     let both = Case {
         read_fails: Some(0),
         write_fails: Some(1),
@@ -390,9 +437,8 @@ fn expect_events(
     Ok(())
 }
 
-// The events of a pipeline that finishes, and of one that traps in its second stage, in their
-// order.
-fn events(alloc: Global) -> Result<(), Fail> {
+// The events of a pipeline that finishes, in their order.
+fn events_of_a_run(alloc: Global) -> Result<(), Fail> {
     expect_events(
         alloc,
         [1, 2, 50, 1],
@@ -411,7 +457,11 @@ fn events(alloc: Global) -> Result<(), Fail> {
             Event::Access(1, access(2, AccessKind::Read, 1)),
             Event::Finish(1, ColumnEnd::Closed),
         ],
-    )?;
+    )
+}
+
+// The events of a pipeline that traps in its second stage.
+fn events_of_a_trap(alloc: Global) -> Result<(), Fail> {
     expect_events(
         alloc,
         [1, 3, 50, 1],
@@ -425,6 +475,28 @@ fn events(alloc: Global) -> Result<(), Fail> {
             Event::Finish(0, ColumnEnd::Trapped(Trap::StageOrder)),
             Event::Begin(1),
             Event::Access(1, access(2, AccessKind::Read, 1)),
+            Event::Finish(1, ColumnEnd::Closed),
+        ],
+    )
+}
+
+// The events of an assignment to an element: the index is read before the value. Neither `init` nor
+// `final` has events.
+fn events_of_an_element(alloc: Global) -> Result<(), Fail> {
+    expect_events(
+        alloc,
+        [1, 1, 50, 1],
+        "cell a[2] = 0; cell n = 0; init { a[0] = 7; } pipe_while (n < 1) { n = 1; a[n] = a[0]; } final { emit a[1]; }",
+        &[
+            Event::Begin(0),
+            Event::Access(0, access(4, AccessKind::Read, 0)),
+            Event::Access(0, access(4, AccessKind::Write, 1)),
+            Event::Access(0, access(4, AccessKind::Read, 1)),
+            Event::Access(0, access(2, AccessKind::Read, 7)),
+            Event::Access(0, access(3, AccessKind::Write, 7)),
+            Event::Finish(0, ColumnEnd::End),
+            Event::Begin(1),
+            Event::Access(1, access(4, AccessKind::Read, 1)),
             Event::Finish(1, ColumnEnd::Closed),
         ],
     )
@@ -467,9 +539,13 @@ fn an_allocation_may_fail(rt: HostRuntime) -> Result<(), Fail> {
 #[test]
 fn rows_of_the_call(rt: HostRuntime) -> Result<(), Fail> {
     runs(rt.alloc())?;
-    events(rt.alloc())?;
+    events_of_a_run(rt.alloc())?;
+    events_of_a_trap(rt.alloc())?;
+    events_of_an_element(rt.alloc())?;
+    serial_agrees(rt.alloc())?;
     forms(rt.alloc())?;
     formats(rt.alloc())?;
     calls_refused(rt.alloc())?;
-    faults(rt.alloc())
+    faults(rt.alloc())?;
+    more_faults(rt.alloc())
 }

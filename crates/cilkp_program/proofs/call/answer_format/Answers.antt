@@ -5,14 +5,14 @@ use Rattle.cilkp_program.proofs.call.answer_format.Goals as goal
 
 pub returns-in-Accepted-clause-answer : goal.returns-in-Accepted-clause-answer
 returns-in-Accepted-clause-answer g c =
-    answer_given _ _ _ _ _ _ (rw c.program.ensures.program at c.text_of.ensures) (program_printed _ _ _ _ _ (rw c.in-Accepted.is at c.in_ok-loaded.ensures.cause)
-    (rw c.in-Accepted.is at c.in_ok-loaded.ensures.answer))
+    answer_given _ _ _ _ _ _ (rw c.program.ensures.program at c.text_of.ensures) (program_printed _ _ _ _ _ (rw c.in-Accepted.is at c.in_ok-program.ensures.cause)
+    (rw c.in-Accepted.is at c.in_ok-program.ensures.answer))
 
 pub returns-in-Refused-clause-answer : goal.returns-in-Refused-clause-answer
 returns-in-Refused-clause-answer g c =
-    rw c.refused.ensures (format_refused _ _ _ _ _ (rw c.in-Refused.is at c.in_ok-loaded.ensures.cause)
-    (rw c.in-Refused.is at c.in_ok-loaded.ensures.answer))
+    rw c.refused.ensures (format_refused _ _ _ _ _ (rw c.in-Refused.is at c.in_ok-program.ensures.cause)
+    (rw c.in-Refused.is at c.in_ok-program.ensures.answer))
 
 pub returns-in-Failed-clause-answer : goal.returns-in-Failed-clause-answer
 returns-in-Failed-clause-answer g c =
-    answer_given _ _ _ _ _ _ c.read_fault.ensures (source_failed _ _ _ _ _ _ (ByFormat refl) (rw c.in-Failed.is at c.in_ok-loaded.ensures.cause) refl)
+    answer_given _ _ _ _ _ _ c.read_fault.ensures (source_failed _ _ _ _ _ (ByFormat refl) (rw c.in-Failed.is at c.in_ok-program.ensures.cause))

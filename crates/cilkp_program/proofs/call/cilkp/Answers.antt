@@ -3,6 +3,7 @@ use Rattle.cilkp_program.proofs.AnswerStatus.{answer_has_cause, answer_is_logged
 use Rattle.cilkp_program.proofs.GivenUp.{text_cut_short, text_whole, given_up_writing}
 use Rattle.cilkp_program.proofs.FormatLaws.{text_printed}
 use Rattle.cilkp_program.proofs.HeadlineLaws.{printed_meets}
+use Rattle.cilkp_program.proofs.SerialCallLaws.{printed_elision}
 use Rattle.cilkp_program.proofs.call.cilkp.Goals.{in-Whole, in-Failed}
 use Rattle.cilkp_program.proofs.call.cilkp.Goals as goal
 
@@ -26,6 +27,15 @@ returns-clause-headline g c = λ calm_files calm_out.
     let w = c.write_text-written.ensures in
     elim c.match-written.branch [
       | in-Whole b ↦ rw b.status-is (printed_meets _ _ _ _ _ _ _ _ _ _ calm_files (text_whole _ _ _ _ _ _ _ _ _ _ _ c.in_ok-answer.ensures.answer
+          ((rw c.as_slice.ensures at w.whole).0 b.in-Whole.is) (rw c.as_slice.ensures at w.taken)))
+      | in-Failed b ↦ (let cause = rw b.in-Failed.is at w.cause in absurd (calm_out cause.1))
+    ]
+
+pub returns-clause-serial : goal.returns-clause-serial
+returns-clause-serial g c = λ calm_files calm_out.
+    let w = c.write_text-written.ensures in
+    elim c.match-written.branch [
+      | in-Whole b ↦ rw b.status-is (printed_elision _ _ _ _ _ _ _ _ _ _ calm_files (text_whole _ _ _ _ _ _ _ _ _ _ _ c.in_ok-answer.ensures.answer
           ((rw c.as_slice.ensures at w.whole).0 b.in-Whole.is) (rw c.as_slice.ensures at w.taken)))
       | in-Failed b ↦ (let cause = rw b.in-Failed.is at w.cause in absurd (calm_out cause.1))
     ]

@@ -1,0 +1,23 @@
+-- What a `run` or a `serial` command knows of its files before its program runs.
+use Rattle.std.specs.Prelude.{◌≡◌, ℕ, List, [], Option, Some, IfSome}
+use Rattle.pipe_model.specs.Language.SyntaxTree.{SyntaxTree, tree_of}
+use Rattle.cilkp_program.specs.declared.call.Prepared.{Prepared}
+use Rattle.cilkp_program.specs.declared.call.Prepared.TheVariants as prepared
+use Rattle.cilkp_program.specs.CallResults.{IsCallResult}
+use Rattle.cilkp_program.specs.Reads.{Content}
+use Rattle.cilkp_program.specs.Rows.{FileContents, IsSourceOf, NamesFiles}
+
+-- no read failed, the source is accepted as the program, and the input is empty, by some content of the two files; where the content is known, by that one
+pub record AreReady (holds : Option Content) (before now : ℕ) (source input : List ℕ) (tree : SyntaxTree) : Type 0 where
+  pub held : FileContents
+  pub calm : now ≡ before
+  pub source_told : IfSome holds (λ content. content source ≡ held.source)
+  pub input_told : IfSome holds (λ content. content input ≡ held.input)
+  pub program : IsSourceOf held.source tree
+  pub empty : held.input ≡ Some []
+
+-- the files are ready, or the result of each command with these files is known already
+abbrev pub IsPreparation : Option Content → ℕ → ℕ → List ℕ → List ℕ → Prepared → Type 0
+IsPreparation holds before now source input (prepared.Ready checked) = AreReady holds before now source input (tree_of checked)
+IsPreparation holds before now source input (prepared.Answered answer) =
+    (words : List (List ℕ)) → NamesFiles words source input → IsCallResult words holds before now answer.status answer.text answer.run_log answer.reports

@@ -1,0 +1,553 @@
+// Rows for each form of the language, with the text and the status that its definition gives,
+// computed by hand.
+
+use crate::cases::{Case, source};
+use crate::row_tests::Row;
+use std::alloc::Global;
+use std::test::Fail;
+
+// The limit on emits, what is inserted into `init`, the loop and `final` of the program of `traps`,
+// and its text. Each part emits its number before that.
+const TRAPS: [(u32, [&str; 3], &str); 18] = [
+    (
+        9,
+        ["let x = 9223372036854775807 + 1;", "", ""],
+        "1\ntrap Overflow in init\n",
+    ),
+    (
+        9,
+        ["", "n = n * 9223372036854775807 * 2;", ""],
+        "1\n2\ntrap Overflow at 0/0\n",
+    ),
+    (
+        9,
+        ["", "", "emit -(-9223372036854775807 - 1);"],
+        "1\n2\n3\ntrap Overflow in final\n",
+    ),
+    (9, ["emit 1 / 0;", "", ""], "1\ntrap DivZero in init\n"),
+    (
+        9,
+        ["", "emit 1 % (n - 1);", ""],
+        "1\n2\ntrap DivZero at 0/0\n",
+    ),
+    (
+        9,
+        ["", "", "emit 0 / 0;"],
+        "1\n2\n3\ntrap DivZero in final\n",
+    ),
+    (9, ["a[2] = 1;", "", ""], "1\ntrap Index in init\n"),
+    (9, ["", "emit a[-1];", ""], "1\n2\ntrap Index at 0/0\n"),
+    (
+        9,
+        ["", "", "emit a[n + 1];"],
+        "1\n2\n3\ntrap Index in final\n",
+    ),
+    (9, ["while (1) { }", "", ""], "1\ntrap Budget in init\n"),
+    (
+        9,
+        ["", "while (n) { n = -n; }", ""],
+        "1\n2\ntrap Budget at 0/0\n",
+    ),
+    (
+        9,
+        ["", "", "while (!0) { }"],
+        "1\n2\n3\ntrap Budget in final\n",
+    ),
+    (9, ["emit take();", "", ""], "1\ntrap InputEnd in init\n"),
+    (9, ["", "emit take();", ""], "1\n2\ntrap InputEnd at 0/0\n"),
+    (
+        9,
+        ["", "", "emit take();"],
+        "1\n2\n3\ntrap InputEnd in final\n",
+    ),
+    (1, ["emit 7;", "", ""], "1\ntrap OutputLimit in init\n"),
+    (2, ["", "emit 7;", ""], "1\n2\ntrap OutputLimit at 0/0\n"),
+    (
+        3,
+        ["", "", "emit 7;"],
+        "1\n2\n3\ntrap OutputLimit in final\n",
+    ),
+];
+
+// A trap in `init` leaves out the loop and `final`, and a trap in the loop leaves out `final`.
+fn traps(alloc: Global) -> Result<(), Fail> {
+    for (emits, [init, body, last], text) in TRAPS {
+        let source = format!(in alloc;
+            "limits iterations 1, stages 1, steps 50, emits {emits}; cell a[2] = 0; cell n = 0; init {{ emit 1; {init} }} pipe_while (n < 1) {{ n = 1; emit 2; {body} }} final {{ emit 3; {last} }}"
+        )?;
+        Case::of(source.as_bytes()).check(alloc, text, 3, text)?;
+    }
+    Ok(())
+}
+
+// A statement, its steps, and what it emits.
+const COSTS: [(&str, u32, &str); 20] = [
+    ("let x = 1;", 2, ""),
+    ("n = n;", 2, ""),
+    ("a[1] = 2;", 3, ""),
+    ("a[n + 1] = a[0];", 6, ""),
+    ("emit a[1];", 3, "7\n"),
+    ("emit -(1);", 3, "-1\n"),
+    ("emit !0;", 3, "1\n"),
+    ("emit 2 * 3;", 4, "6\n"),
+    ("emit 2 + 3 * 4;", 6, "14\n"),
+    // The right side is left out, and then evaluated.
+    ("emit 0 && n;", 3, "0\n"),
+    ("emit 2 && 3;", 4, "1\n"),
+    ("emit 2 || n;", 3, "1\n"),
+    ("emit 0 || n;", 4, "0\n"),
+    ("emit more();", 2, "0\n"),
+    ("if (1) { emit 5; } else { emit 6; }", 4, "5\n"),
+    ("if (n) { emit 5; } else { emit 6; }", 4, "6\n"),
+    ("if (n) { emit 5; }", 2, ""),
+    ("while (n) { emit 5; }", 2, ""),
+    // Three tests of four steps, and two turns of four steps.
+    ("while (n < 2) { n = n + 1; }", 20, ""),
+    // Two tests of three steps, and a turn of four.
+    ("while (!n) { if (1) { n = 1; } }", 10, ""),
+];
+
+// Each statement with a budget that is exact, and with one step too few.
+fn costs(alloc: Global) -> Result<(), Fail> {
+    for (statement, cost, text) in COSTS {
+        let rest = format!(in alloc;
+            "cell a[2] = 7; cell n = 0; init {{ {statement} }} pipe_while (0) {{ }}"
+        )?;
+        let exact = source(alloc, [1, 1, cost, 1], rest.as_str())?;
+        Case::of(exact.as_bytes()).check(alloc, statement, 0, text)?;
+        let less = source(alloc, [1, 1, cost - 1, 1], rest.as_str())?;
+        Case::of(less.as_bytes()).check(alloc, statement, 3, "trap Budget in init\n")?;
+    }
+    Ok(())
+}
+
+// Expressions over the greatest number `h` and the least number `l`, and their values.
+const VALUES: [(&str, &str); 68] = [
+    ("l", "-9223372036854775808"),
+    ("h + l", "-1"),
+    ("l + h", "-1"),
+    ("h + 0", "9223372036854775807"),
+    ("h - h", "0"),
+    ("l - l", "0"),
+    ("-1 - h", "-9223372036854775808"),
+    ("-1 - l", "9223372036854775807"),
+    ("h * -1", "-9223372036854775807"),
+    ("l * 1", "-9223372036854775808"),
+    ("0 * l", "0"),
+    ("h / 1", "9223372036854775807"),
+    ("h / -1", "-9223372036854775807"),
+    ("l / 1", "-9223372036854775808"),
+    ("l / h", "-1"),
+    ("h / l", "0"),
+    ("7 / 2", "3"),
+    ("-7 / 2", "-3"),
+    ("7 / -2", "-3"),
+    ("-7 / -2", "3"),
+    ("h % -1", "0"),
+    ("l % 1", "0"),
+    ("l % h", "-1"),
+    ("h % l", "9223372036854775807"),
+    ("7 % 2", "1"),
+    ("-7 % 2", "-1"),
+    ("7 % -2", "1"),
+    ("-7 % -2", "-1"),
+    ("-h", "-9223372036854775807"),
+    ("!l", "0"),
+    ("!h", "0"),
+    ("!(h - h)", "1"),
+    ("l == l", "1"),
+    ("l == h", "0"),
+    ("l != l", "0"),
+    ("l != h", "1"),
+    ("l < h", "1"),
+    ("h < l", "0"),
+    ("h < h", "0"),
+    ("l <= h", "1"),
+    ("h <= l", "0"),
+    ("h <= h", "1"),
+    ("l > h", "0"),
+    ("h > l", "1"),
+    ("l > l", "0"),
+    ("l >= h", "0"),
+    ("h >= l", "1"),
+    ("l >= l", "1"),
+    ("l && h", "1"),
+    ("l && 0", "0"),
+    ("0 && 1 / 0", "0"),
+    ("0 || l", "1"),
+    ("0 || 0", "0"),
+    ("l || 1 / 0", "1"),
+    // Grouping.
+    ("10 - 3 - 2", "5"),
+    ("10 - (3 - 2)", "9"),
+    ("100 / 10 * 5", "50"),
+    ("100 / (10 * 5)", "2"),
+    ("(2 + 3) * 4", "20"),
+    ("-2 * -3 + 1", "7"),
+    ("3 > 2 > 1", "0"),
+    ("1 + 1 < 3 == 1", "1"),
+    ("2 == 2 && 0 || 5", "1"),
+    ("1 || 0 && 0", "1"),
+    ("!0 + 1", "2"),
+    // Elements of an array.
+    ("a[0]", "4"),
+    ("a[1 + 1]", "6"),
+    ("a[a[0] - a[1]]", "6"),
+];
+
+const EDGES: &str =
+    "cell h = 9223372036854775807; cell l = 0; cell a[3] = 0; init { l = -h - 1; a[0] = 4; a[1] = 2; a[2] = 6;";
+
+// Evaluates all expressions of `VALUES` in one program.
+fn values(alloc: Global) -> Result<(), Fail> {
+    let mut program = String::from_str(alloc, EDGES)?;
+    let mut wanted = String::new(alloc);
+    for (expression, value) in VALUES {
+        write!(program, " emit {expression};")?;
+        write!(wanted, "{value}\n")?;
+    }
+    program.push_str(" } pipe_while (0) { }")?;
+    let source = source(alloc, [1, 1, 1000, 100], program.as_str())?;
+    Case::of(source.as_bytes()).check(alloc, "values", 0, wanted.as_str())
+}
+
+// Expressions over `h` and `l` that trap, and their traps.
+const EDGE_TRAPS: [(&str, &str); 12] = [
+    ("h + 1", "Overflow"),
+    ("l + -1", "Overflow"),
+    ("l - 1", "Overflow"),
+    ("0 - l", "Overflow"),
+    ("h * 2", "Overflow"),
+    ("l * -1", "Overflow"),
+    ("l / -1", "Overflow"),
+    ("l % -1", "Overflow"),
+    ("-l", "Overflow"),
+    ("h / 0", "DivZero"),
+    ("l % 0", "DivZero"),
+    ("1 && 0 / 0", "DivZero"),
+];
+
+fn edge_traps(alloc: Global) -> Result<(), Fail> {
+    for (expression, trap) in EDGE_TRAPS {
+        let rest = format!(in alloc; "{EDGES} emit {expression}; }} pipe_while (0) {{ }}")?;
+        let source = source(alloc, [1, 1, 50, 1], rest.as_str())?;
+        let text = format!(in alloc; "trap {trap} in init\n")?;
+        Case::of(source.as_bytes()).check(alloc, expression, 3, text.as_str())?;
+    }
+    Ok(())
+}
+
+// An expression of 251 symbols that keeps 100 operands while the last one is evaluated.
+fn deepest(alloc: Global) -> Result<(), Fail> {
+    let mut expression = String::new(alloc);
+    for _ in 0..25 {
+        expression.push_str("0 == 3 < 2 + 1 * (")?;
+    }
+    expression.push_str("1")?;
+    for _ in 0..25 {
+        expression.push_str(")")?;
+    }
+    let rest = format!(in alloc; "init {{ emit {expression}; }} pipe_while (0) {{ }}")?;
+    let source = source(alloc, [1, 1, 202, 1], rest.as_str())?;
+    Case::of(source.as_bytes()).check(alloc, "an expression", 0, "1\n")
+}
+
+const ROWS: [Row; 46] = [
+    // `init`, the loop and `final` have a budget each, and share the cells and the output.
+    (
+        [1, 1, 4, 9],
+        "cell n = 0; init { n = 1; emit n; } pipe_while (0) { } final { emit n; emit 2; }",
+        0,
+        "1\n1\n2\n",
+    ),
+    (
+        [1, 1, 3, 9],
+        "cell n = 0; init { n = 1; emit n; } pipe_while (0) { } final { emit n; emit 2; }",
+        3,
+        "trap Budget in init\n",
+    ),
+    (
+        [1, 1, 4, 9],
+        "cell n = 0; pipe_while (n) { } final { emit 1; emit 2; emit 3; }",
+        3,
+        "1\n2\ntrap Budget in final\n",
+    ),
+    (
+        [2, 1, 10, 9],
+        "cell n = 5; init { n = 7; emit n; } pipe_while (n < 9) { n = n + 1; emit n; } final { emit -n; }",
+        0,
+        "7\n8\n9\n-9\n",
+    ),
+    // Each part may have a local of the same name.
+    (
+        [1, 1, 20, 9],
+        "cell n = 0; init { let x = 1; emit x; } pipe_while (n < 1) { let x = 2; emit x; n = 1; } final { let x = 3; emit x; }",
+        0,
+        "1\n2\n3\n",
+    ),
+    // The step of `take()` is within the budget, so the trap is its own.
+    (
+        [1, 1, 1, 0],
+        "init { emit take(); } pipe_while (0) { }",
+        3,
+        "trap InputEnd in init\n",
+    ),
+    // A trap in any stage of the loop leaves out `final`; after one in a later stage the loop goes on.
+    (
+        [1, 1, 20, 9],
+        "pipe_while (1) { emit 1; } final { emit 2; }",
+        3,
+        "1\ntrap IterLimit at 1/0\n",
+    ),
+    (
+        [1, 3, 20, 9],
+        "cell n = 0; pipe_while (n < 1) { n = 1; pipe_wait(1); emit n; pipe_continue(1); } final { emit 2; }",
+        3,
+        "1\ntrap StageOrder at 0/1\n",
+    ),
+    (
+        [1, 2, 20, 9],
+        "cell n = 0; pipe_while (n < 1) { n = 1; pipe_wait(); emit n; pipe_wait(); } final { emit 2; }",
+        3,
+        "1\ntrap StageLimit at 0/1\n",
+    ),
+    (
+        [2, 2, 50, 9],
+        "cell n = 0; pipe_while (n < 2) { n = n + 1; let t = n; pipe_wait(1); emit 6 / (t - 1); } final { emit 9; }",
+        3,
+        "6\ntrap DivZero at 0/1\n",
+    ),
+    // A race leaves out all output. Elements of an array are cells of their own.
+    (
+        [2, 2, 50, 9],
+        "cell n = 0; cell s = 0; init { emit 1; } pipe_while (n < 2) { n = n + 1; pipe_continue(1); s = s + 1; } final { emit s; }",
+        2,
+        "race s write 0/1 read 1/1\n",
+    ),
+    (
+        [2, 2, 50, 9],
+        "cell n = 0; cell a[3] = 0; pipe_while (n < 2) { n = n + 1; pipe_continue(1); a[1] = a[1] + 1; }",
+        2,
+        "race a[1] write 0/1 read 1/1\n",
+    ),
+    (
+        [2, 2, 50, 9],
+        "cell n = 0; cell a[3] = 0; pipe_while (n < 2) { n = n + 1; let t = n; pipe_continue(1); a[t] = t * 5; } final { emit a[0]; emit a[1]; emit a[2]; }",
+        0,
+        "0\n5\n10\n",
+    ),
+    // At the end of the input the cursor is only read.
+    (
+        [2, 2, 50, 9],
+        "cell n = 0; pipe_while (n < 2) { n = n + 1; pipe_continue(1); if (more()) { } let x = take(); } final { emit 1; }",
+        3,
+        "trap InputEnd at 0/1\n",
+    ),
+    // A `while` that holds `pipe_wait`.
+    (
+        [1, 4, 50, 9],
+        "cell n = 0; pipe_while (n < 1) { n = 1; let k = 1; while (k < 4) { pipe_wait(k); emit k; k = k + 1; } }",
+        0,
+        "1\n2\n3\n",
+    ),
+    (
+        [1, 3, 50, 9],
+        "cell n = 0; pipe_while (n < 1) { n = 1; let k = 1; while (k < 4) { pipe_wait(k); emit k; k = k + 1; } }",
+        3,
+        "1\n2\ntrap StageLimit at 0/2\n",
+    ),
+    (
+        [2, 3, 50, 9],
+        "cell n = 0; cell s = 0; pipe_while (n < 2) { n = n + 1; let k = 1; while (k < 3) { pipe_wait(k); s = s + k; k = k + 1; } } final { emit s; }",
+        2,
+        "race s write 0/2 read 1/1\n",
+    ),
+    // The index is evaluated first, then the value, then the step is taken, then the index is tested.
+    (
+        [1, 1, 20, 9],
+        "cell a[2] = 0; init { a[take()] = 1 / 0; } pipe_while (0) { }",
+        3,
+        "trap InputEnd in init\n",
+    ),
+    (
+        [1, 1, 20, 9],
+        "cell a[2] = 0; init { a[9] = 1 / 0; } pipe_while (0) { }",
+        3,
+        "trap DivZero in init\n",
+    ),
+    (
+        [1, 1, 2, 0],
+        "cell a[2] = 0; init { a[9] = 1; } pipe_while (0) { }",
+        3,
+        "trap Budget in init\n",
+    ),
+    (
+        [1, 1, 3, 0],
+        "cell a[2] = 0; init { a[9] = 1; } pipe_while (0) { }",
+        3,
+        "trap Index in init\n",
+    ),
+    // The bounds of an array.
+    (
+        [1, 1, 20, 9],
+        "cell b = 8; cell a[3] = 7; cell c = 9; init { a[0] = 1; a[2] = 3; emit a[0]; emit a[1]; emit a[2]; } pipe_while (0) { } final { emit b; emit c; }",
+        0,
+        "1\n7\n3\n8\n9\n",
+    ),
+    (
+        [1, 1, 20, 9],
+        "cell b = 8; cell a[3] = 7; init { emit a[-1]; } pipe_while (0) { }",
+        3,
+        "trap Index in init\n",
+    ),
+    (
+        [1, 1, 20, 9],
+        "cell a[3] = 7; cell c = 9; init { emit a[3]; } pipe_while (0) { }",
+        3,
+        "trap Index in init\n",
+    ),
+    (
+        [1, 1, 20, 9],
+        "cell b = 8; cell a[3] = 7; init { a[-1] = 1; } pipe_while (0) { }",
+        3,
+        "trap Index in init\n",
+    ),
+    (
+        [1, 1, 20, 9],
+        "cell a[3] = 7; cell c = 9; init { a[3] = 1; } pipe_while (0) { }",
+        3,
+        "trap Index in init\n",
+    ),
+    (
+        [1, 1, 20, 9],
+        "cell a[1] = 5; init { emit a[0]; emit a[1]; } pipe_while (0) { }",
+        3,
+        "5\ntrap Index in init\n",
+    ),
+    // A local of a loop's body is made anew in each turn, and ends with its block.
+    (
+        [1, 1, 54, 9],
+        "init { let k = 0; while (k < 3) { let x = 5; x = x + k; emit x; k = k + 1; } } pipe_while (0) { }",
+        0,
+        "5\n6\n7\n",
+    ),
+    (
+        [1, 1, 99, 9],
+        "init { let k = 0; while (k < 4) { if (k % 2 == 0) { emit k; } else { if (k == 3) { emit -k; } } k = k + 1; } } pipe_while (0) { }",
+        0,
+        "0\n2\n-3\n",
+    ),
+    // `iter()`, and `more()` and `take()` without input.
+    (
+        [1, 1, 6, 1],
+        "pipe_while (iter() < 1) { emit iter(); }",
+        0,
+        "0\n",
+    ),
+    (
+        [1, 1, 5, 1],
+        "pipe_while (iter() < 1) { emit iter(); }",
+        3,
+        "trap Budget at 0/0\n",
+    ),
+    (
+        [3, 2, 20, 9],
+        "pipe_while (iter() < 3) { let t = iter(); pipe_wait(); emit t * iter(); }",
+        0,
+        "0\n1\n4\n",
+    ),
+    ([1, 1, 2, 0], "pipe_while (more()) { }", 0, ""),
+    (
+        [1, 1, 1, 0],
+        "pipe_while (more()) { }",
+        3,
+        "trap Budget at 0/0\n",
+    ),
+    (
+        [1, 1, 1, 0],
+        "pipe_while (take()) { }",
+        3,
+        "trap InputEnd at 0/0\n",
+    ),
+    // The steps of stage statements.
+    (
+        [1, 2, 8, 9],
+        "cell n = 0; pipe_while (n < 1) { n = 1; pipe_continue(1); }",
+        0,
+        "",
+    ),
+    (
+        [1, 2, 7, 9],
+        "cell n = 0; pipe_while (n < 1) { n = 1; pipe_continue(1); }",
+        3,
+        "trap Budget at 0/0\n",
+    ),
+    (
+        [1, 2, 7, 9],
+        "cell n = 0; pipe_while (n < 1) { n = 1; pipe_continue(); }",
+        0,
+        "",
+    ),
+    (
+        [1, 2, 6, 9],
+        "cell n = 0; pipe_while (n < 1) { n = 1; pipe_continue(); }",
+        3,
+        "trap Budget at 0/0\n",
+    ),
+    // The greatest limits, used up and by one too much.
+    (
+        [64, 4_096, 1_000_000, 1_048_576],
+        "pipe_while (0) { } final { emit 1; }",
+        0,
+        "1\n",
+    ),
+    (
+        [1, 4_096, 40, 1],
+        "cell n = 0; pipe_while (n < 1) { n = 1; let k = 1; while (k < 4096) { pipe_wait(k); k = k + 1; } emit k; }",
+        0,
+        "4096\n",
+    ),
+    (
+        [1, 4_096, 40, 1],
+        "cell n = 0; pipe_while (n < 1) { n = 1; let k = 1; while (k < 4097) { pipe_wait(k); k = k + 1; } emit k; }",
+        3,
+        "trap StageLimit at 0/4095\n",
+    ),
+    (
+        [65_536, 4, 8, 1],
+        "cell n = 0; pipe_while (n < 65536) { n = n + 1; } final { emit n; }",
+        0,
+        "65536\n",
+    ),
+    (
+        [65_536, 4, 8, 1],
+        "cell n = 0; pipe_while (n < 65537) { n = n + 1; } final { emit n; }",
+        3,
+        "trap IterLimit at 65536/0\n",
+    ),
+    (
+        [1, 1, 1_000_000, 1],
+        "init { let k = 0; while (k < 124999) { k = k + 1; } emit k; } pipe_while (0) { }",
+        0,
+        "124999\n",
+    ),
+    (
+        [1, 1, 1_000_000, 1],
+        "init { let k = 0; while (k < 124999) { k = k + 1; } emit -k; } pipe_while (0) { }",
+        3,
+        "trap Budget in init\n",
+    ),
+];
+
+#[test]
+fn rows_of_the_language(rt: HostRuntime) -> Result<(), Fail> {
+    for (limits, rest, status, text) in ROWS {
+        let source = source(rt.alloc(), limits, rest)?;
+        Case::of(source.as_bytes()).check(rt.alloc(), rest, status, text)?;
+    }
+    traps(rt.alloc())?;
+    costs(rt.alloc())?;
+    values(rt.alloc())?;
+    edge_traps(rt.alloc())?;
+    deepest(rt.alloc())
+}
