@@ -1,7 +1,7 @@
 -- A part of a program, instance after instance.
-use Rattle.std.proofs.Common.{◌≡◌, ◌∙◌, ap, sym, refl, subst, ℕ, ℤ, pos, negsuc, ◌≤ℤ◌, ◌≤◌, ◌+◌, ◌-◌, ◌<◌, ◌==◌, ◌&&◌, List, [], ◌∷◌, ◌++◌, Some, Bool, false, length, map, append-nil, append_assoc, length-append, arith}
+use Rattle.std.proofs.Common.{◌≡◌, ◌∙◌, ap, sym, refl, subst, ℕ, ℤ, pos, negsuc, ◌≤ℤ◌, ◌≤◌, ◌+◌, ◌-◌, ◌%◌, ◌<◌, ◌==◌, ◌&&◌, List, [], ◌∷◌, ◌++◌, Some, Bool, false, length, map, append-nil, append_assoc, length-append, arith}
 use Rattle.std.proofs.lemmas.Bool.Decides.{nat_tests}
-use Rattle.cell_store.specs.ShardState.{IsStateAfter}
+use Rattle.cell_store.specs.ShardState.{HasOutput, IsStateAfter, ShardState}
 use Rattle.pipe_model.specs.declared.access.Access.{Access}
 use Rattle.pipe_model.specs.declared.access.NodeAccess.{NodeAccess}
 use Rattle.pipe_model.specs.declared.column.Column.{Column}
@@ -24,7 +24,7 @@ use Rattle.serial_elision.specs.declared.instance.InstanceEnd.TheVariants as ins
 use Rattle.serial_elision.specs.declared.log.Log.{Log}
 use Rattle.serial_elision.specs.InstanceRuns.{RanFrom}
 use Rattle.serial_elision.specs.PartRuns.{PartRan, column_closes}
-use Rattle.serial_elision.specs.Recording.{Adds, HaveReplies, access_events, placed}
+use Rattle.serial_elision.specs.Recording.{Adds, HaveReplies, IsWhole, access_events, placed}
 use Rattle.stage_code.specs.FlatCode.{FlatCode}
 use Rattle.stage_interp.specs.MachineState.{RunState}
 use Rattle.stage_interp.specs.Standing.{StandsFor}
@@ -254,3 +254,7 @@ left_ended code cells cells' input store whole i log run run' node nodes now ran
 pub natural_most : (z : ℤ) (n : ℕ) → z ≤ℤ pos n → natural z ≤ n
 natural_most (pos m) n h = grind (arith, h)
 natural_most (negsuc m) n h = omega arith
+
+-- a shard with all cells has the output
+pub has_output : (cells : ShardState) → IsWhole cells → HasOutput cells.shard
+has_output cells h = ap (λ n. 1 % n) h.shards ∙ sym h.number
