@@ -19,7 +19,6 @@ use Rattle.pipe_model.specs.Pipelines.WholePrograms.{part_trap}
 use Rattle.pipe_model.specs.Races.Columns.{at, node_at}
 use Rattle.pipe_model.specs.Runs.State.{accesses_of}
 use Rattle.run_laws.proofs.Iterations.LocatedActions.{accesses_of-located}
-use Rattle.serial_elision.specs.declared.iterations.LoopRun.{LoopRun}
 use Rattle.serial_elision.specs.declared.log.Log.{Log}
 use Rattle.serial_elision.specs.LoopRuns.{LoopRan}
 use Rattle.serial_elision.specs.PartRuns.{PartRan, column_closes, column_trap, last_place}

@@ -1,5 +1,5 @@
 -- The results of a whole program, by which of its parts ran.
-use Rattle.std.proofs.Common.{◌≡◌, ◌∙◌, ap, sym, refl, subst, ℤ, List, [], ◌++◌, Bool, true, false, Option, Some, None, map, append-nil, append_assoc}
+use Rattle.std.proofs.Common.{◌≡◌, ◌∙◌, ap, sym, refl, ℤ, List, [], ◌++◌, true, false, Option, Some, None, map, append-nil, append_assoc}
 use Rattle.std.specs.Prelude.{is_some}
 use Rattle.pipe_model.specs.declared.access.Access.{Access}
 use Rattle.pipe_model.specs.declared.trap.TrapAt.{TrapAt}

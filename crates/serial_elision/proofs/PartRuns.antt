@@ -1,19 +1,15 @@
 -- A part of a program, instance after instance.
-use Rattle.std.proofs.Common.{◌≡◌, ◌∙◌, ap, sym, refl, subst, ℕ, ℤ, pos, negsuc, ◌≤ℤ◌, ◌≤◌, ◌+◌, ◌-◌, ◌%◌, ◌<◌, ◌==◌, ◌&&◌, List, [], ◌∷◌, ◌++◌, Some, Bool, false, length, map, append-nil, append_assoc, length-append, arith}
+use Rattle.std.proofs.Common.{◌≡◌, ◌∙◌, ap, sym, refl, subst, ℕ, ℤ, pos, negsuc, ◌≤ℤ◌, ◌≤◌, ◌+◌, ◌-◌, ◌%◌, ◌==◌, ◌&&◌, List, [], ◌∷◌, ◌++◌, Some, false, length, map, append-nil, append_assoc, arith}
 use Rattle.std.proofs.lemmas.Bool.Decides.{nat_tests}
 use Rattle.cell_store.specs.ShardState.{HasOutput, IsStateAfter, ShardState}
 use Rattle.pipe_model.specs.declared.access.Access.{Access}
-use Rattle.pipe_model.specs.declared.access.NodeAccess.{NodeAccess}
-use Rattle.pipe_model.specs.declared.column.Column.{Column}
 use Rattle.pipe_model.specs.declared.column.ColumnEnd.{ColumnEnd}
-use Rattle.pipe_model.specs.declared.event.Event.{Event}
 use Rattle.pipe_model.specs.declared.event.Event.TheVariants as events
 use Rattle.pipe_model.specs.declared.node.Kind.{Kind}
 use Rattle.pipe_model.specs.declared.node.Node.{Node}
 use Rattle.pipe_model.specs.declared.node.NodeId.{NodeId}
 use Rattle.pipe_model.specs.Language.Programs.{natural}
 use Rattle.pipe_model.specs.Pipelines.Behaviour.{Action, Accessed, Staged, Ended, Behaviour, Reading, Writing, Staging, Ending, HasNoEnd, Performs, accesses_in, behaviour_after_all, closes_at_once, closes_loop, column_of, node_of, nodes_in, read_access, trace_end, write_access}
-use Rattle.pipe_model.specs.Pipelines.ElisionResults.{ended_column}
 use Rattle.pipe_model.specs.Pipelines.SerialElision.{located, serial_trace, trace_events}
 use Rattle.pipe_model.specs.Pipelines.Store.{HasReply, InitialStore, value_after}
 use Rattle.pipe_model.specs.Races.Columns.{at, no_node}

@@ -123,17 +123,28 @@ fn run_final(
 }
 
 // Runs `init`, and what follows it.
-fn run_whole(alloc: Global, machine: &mut Machine, prepared: &Prepared) -> Result<SerialRun, NoMemory>
+fn run_whole(
+    alloc: Global,
+    machine: &mut Machine,
+    prepared: &Prepared,
+) -> Result<SerialRun, NoMemory>
     requires code { IsCodeOf (tree_of prepared.now.checked.now) prepared.now.code.now }
     requires made { IsMadeFor prepared.now.code.now machine.old }
     ensures { IfOk result (λ r. IsElision (whole_of (tree_of prepared.now.checked.now) prepared.now.input.now) r) }
 {
     let cells = first_cells(alloc, prepared.checked)?;
-    let (trap, cells) = run_alone(alloc, machine, prepared, Part::Init, TrapPlace::Init, cells)?;
-    if trap.is_some() {
+    let (init_trap, cells) = run_alone(
+        alloc,
+        machine,
+        prepared,
+        Part::Init,
+        TrapPlace::Init,
+        cells,
+    )?;
+    if init_trap.is_some() {
         return Ok(SerialRun {
             output: cells.into_output(),
-            trap,
+            trap: init_trap,
             columns: Columns::new(alloc),
             accesses: NodeAccesses::new(alloc),
             events: Events::new(alloc),

@@ -16,7 +16,6 @@ use pipe_model::column::ColumnEnd;
 use pipe_model::memory::NoMemory;
 use pipe_model::node::{Kind, NodeId};
 use pipe_model::stage::StageEnd;
-
 use stage_interp::machine::Machine;
 use std::marker::Brand;
 

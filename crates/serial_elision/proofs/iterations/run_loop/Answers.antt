@@ -1,4 +1,4 @@
-use Rattle.std.proofs.Common.{◌≡◌, ◌∙◌, ◌+◌, ◌-◌, ap, refl, sym, subst, suc, zero, [], None, arith, true, false}
+use Rattle.std.proofs.Common.{◌≡◌, ◌∙◌, ◌+◌, ◌-◌, ap, refl, sym, subst, suc, zero, None, arith, true, false}
 use Rattle.cell_store.specs.ShardState.{IsStateAfter}
 use Rattle.pipe_model.specs.declared.tree.Limits.{Limits}
 use Rattle.pipe_model.specs.Language.Programs.{natural}

@@ -1,4 +1,4 @@
-use Rattle.std.proofs.Common.{◌≡◌, ◌+◌, ◌-◌}
+use Rattle.std.proofs.Common.{◌+◌, ◌-◌}
 use Rattle.pipe_model.specs.Language.ProgramsOfTrees.{whole_of}
 use Rattle.pipe_model.specs.Language.SyntaxTree.{tree_of}
 use Rattle.pipe_model.specs.Pipelines.WholePrograms.{loop_after_init}

@@ -1,7 +1,7 @@
 use Rattle.std.proofs.Common.{◌∙◌, ap, rules, sym, subst, w64}
 use Rattle.std.proofs.lemmas.Int.{to_z-of_z}
 use mir.Val.{SFits}
-use Rattle.cell_store.specs.ShardState.{IsStateAfter, ShardState}
+use Rattle.cell_store.specs.ShardState.{ShardState}
 use Rattle.pipe_model.specs.declared.node.NodeId.{NodeId}
 use Rattle.pipe_model.specs.Pipelines.Behaviour.{read_access}
 use Rattle.serial_elision.specs.Recording.{Adds, made_since}
