@@ -1,5 +1,5 @@
 -- The result of a program's serial elision: its reports are right, and its status and text are those of the elision.
-use Rattle.std.proofs.Common.{◌≡◌, ◌≢◌, ◌∙◌, ◌++◌, ◌⊎◌, ℕ, ℤ, List, [], Option, Some, None, inl, inr, refl, ap, sym, arith, append-nil}
+use Rattle.std.proofs.Common.{◌≡◌, ◌≢◌, ◌∙◌, ◌++◌, ℕ, ℤ, List, [], Option, Some, None, inl, inr, refl, ap, sym, arith, append-nil}
 use Rattle.pipe_model.specs.declared.report.Report.{Report}
 use Rattle.pipe_model.specs.declared.trap.TrapAt.{TrapAt}
 use Rattle.pipe_model.specs.Races.Reports.{AreRight}
@@ -32,8 +32,8 @@ outcome_is_right {tree} {input} (Finishes free ends) = none_are_right tree input
 outcome_is_right {tree} {input} (Traps t free ends) = none_are_right tree input free
 
 -- the trap exists
-traps : {tree : SyntaxTree} {input : List ℤ} {at : TrapAt} → elision_trap tree input ≡ Some at → elision_trap tree input ≢ None
-traps {tree} {input} {at} some none = let d : None ≡ Some at = sym none ∙ some in cc (d)
+traps : (tree : SyntaxTree) (input : List ℤ) (at : TrapAt) → elision_trap tree input ≡ Some at → elision_trap tree input ≢ None
+traps tree input at some none = let d : None ≡ Some at = sym none ∙ some in cc (d)
 
 -- whether there are reports, the status and the text are as the elision says
 pub outcome_agrees : {tree : SyntaxTree} {input : List ℤ} {status : ℕ} {text : List ℕ} {reports : List Report} → RunResult tree input status text reports
@@ -59,6 +59,6 @@ outcome_agrees {tree} {input} (Traps t free ends) = record {
   racy = ((λ e. absurd (omega (arith, e))), λ some. absurd (some free));
   races = λ e. absurd (omega (arith, e));
   otherwise = λ e. ap (λ t. elision_output_text tree input ++ trap_lines t) (sym ends);
-  trapped = (λ e. (free, traps ends), λ e. refl);
-  untrapped = ((λ e. absurd (omega (arith, e))), λ none. absurd (traps ends none.1));
+  trapped = (λ e. (free, traps tree input t ends), λ e. refl);
+  untrapped = ((λ e. absurd (omega (arith, e))), λ none. absurd (traps tree input t ends none.1));
 }

@@ -77,12 +77,6 @@ one_run {tree} {other_tree} {status} {other} {text} {other_text} {reports} {othe
     let one : AreOneRow status other text other_text reports other_reports = one_outcome r (rw same r') in
     (one.0, one.1, ap (λ t. Some (elision_log t [])) same, one.2)
 
--- equal programs have the same results
-one_elision : {tree other_tree : SyntaxTree} {status other : ℕ} {text other_text : List ℕ} {reports other_reports : List Report} → tree ≡ other_tree
-    → RunResult tree [] status text reports → RunResult other_tree [] other other_text other_reports
-    → (status ≡ other) × (text ≡ other_text) × (None {RunLog} ≡ None) × (reports ≡ other_reports)
-one_elision same r r' = let one = one_run same r r' in (one.0, one.1, refl, one.3)
-
 -- a `run` command is not a `serial` command
 pub run_is_not_serial : {words : List (List ℕ)} {source input other other_input : List ℕ} → words ≡ run_words source input → words ≡ serial_words other other_input → ⊥
 run_is_not_serial {words} {source} {input} {other} {other_input} w v =
@@ -151,4 +145,5 @@ one_row (RunsSerially s i tree w o e r) (SourceRefused s' w' r') = absurd (refus
 one_row (RunsSerially s i tree w o e r) (Formats s' tree' w' o') = absurd (files_are_no_format (BySerial w) w')
 one_row (RunsSerially s i tree w o e r) (InputRefused s' i' tree' w' o' r') = absurd (refused_not_empty r' e)
 one_row (RunsSerially s i tree w o e r) (Runs s' i' tree' w' o' e' r') = absurd (run_is_not_serial w' w)
-one_row (RunsSerially s i tree w o e r) (RunsSerially s' i' tree' w' o' e' r') = one_elision (one_source tree tree' o o') r r'
+one_row (RunsSerially s i tree w o e r) (RunsSerially s' i' tree' w' o' e' r') =
+    let one = one_run (one_source tree tree' o o') r r' in (one.0, one.1, refl, one.3)

@@ -8,4 +8,4 @@ returns-in-Refused-clause-prepared g c =
 
 pub returns-in-Failed-clause-prepared : goal.returns-in-Failed-clause-prepared
 returns-in-Failed-clause-prepared g c =
-    rw c.in_ok-read_fault.ensures (λ words n. source_failed words _ _ _ _ (WithInput _ n) (rw c.in-Failed.is at c.in_ok-program.ensures.cause))
+    rw c.in_ok-read_fault-in-Failed.ensures (λ words n. source_failed words _ _ _ _ (WithInput _ n) (rw c.in-Failed.is at c.in_ok-program.ensures.cause))

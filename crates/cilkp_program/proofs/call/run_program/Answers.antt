@@ -4,7 +4,7 @@ use Rattle.cilkp_program.proofs.SerialDags.{outcome_of_run, told_accesses_inside
 use Rattle.cilkp_program.proofs.call.run_program.Goals as goal
 
 pub run_serial-requires : goal.run_serial-requires
-run_serial-requires c = record { accepted = c.requires.1.obeys; limits = c.in_ok-code.ensures.limits; runs = c.in_ok-code.ensures.runs }
+run_serial-requires c = record { code = record { accepted = c.requires.1.obeys; limits = c.in_ok-code.ensures.limits; runs = c.in_ok-code.ensures.runs } }
 
 pub of-requires : goal.of-requires
 of-requires c = told_columns_rise _ _ _ c.requires.1 (rw c.new.ensures at c.in_ok-output.ensures.columns)
@@ -18,7 +18,7 @@ pub returns-clause-outcome : goal.returns-clause-outcome
 returns-clause-outcome c =
     outcome_of_run _ _ _ _ _ _ _ c.in_ok-of.ensures (rw c.new.ensures at c.in_ok-output.ensures.columns) (rw c.new.ensures at c.in_ok-output.ensures.accesses)
     (rw c.new.ensures at c.in_ok-output.ensures.output) (rw c.new.ensures at c.in_ok-output.ensures.trap) c.in_ok-reports.ensures
-    (rw (c.as_slice.ensures, c.program.ensures.program) at c.in_ok-status.ensures)
+    (rw (c.as_slice-cells.ensures, c.program.ensures.program) at c.in_ok-status.ensures)
 
 pub returns-clause-log : goal.returns-clause-log
 returns-clause-log c =

@@ -17,10 +17,10 @@ returns-in-Ok-check c =
 
 pub check_line-requires : goal.check_line-requires
 check_line-requires c =
-    rw (c.as_slice-in-Err-check.ensures, c.in-Ok-parse.ensures.places)
+    rw (c.as_slice.ensures, c.in-Ok-parse.ensures.places)
     (fault_has_place _ _ (spelled_by _ _ _ c.in-Ok.ensures.tokens c.in-Ok-parse.ensures.program) _ c.in-Err-check.ensures.err)
 
 pub returns : goal.returns
 returns c =
     program_refused _ _ (spelled_by _ _ _ c.in-Ok.ensures.tokens c.in-Ok-parse.ensures.program) _ _ c.in-Err-check.ensures.err
-    (rw (c.as_slice-in-Err-check.ensures, c.in-Ok-parse.ensures.places) at c.in_ok-check_line-in-Err-check.ensures)
+    (rw (c.as_slice.ensures, c.in-Ok-parse.ensures.places) at c.in_ok-check_line-in-Err-check.ensures)
