@@ -54,7 +54,7 @@ headline_of w limit log (r ∷ rs) races run right m trap is =
       races_printed = λ e. refl;
       otherwise = λ free. absurd (racy free);
       trapped = ((λ e. absurd (omega (arith, e))), (λ h. absurd (racy h.0)));
-      finished = ((λ e. absurd (omega (arith, e))), (λ h. absurd (racy h.0)));
+      untrapped = ((λ e. absurd (omega (arith, e))), (λ h. absurd (racy h.0)));
       throttled = m.throttled;
     }
 headline_of w limit log [] races run right m None is =
@@ -71,7 +71,7 @@ headline_of w limit log [] races run right m None is =
       races_printed = λ e. absurd (omega (arith, e));
       otherwise = λ h. text;
       trapped = ((λ e. absurd (omega (arith, e))), (λ h. absurd (h.1 none)));
-      finished = ((λ e. (free, none)), (λ h. refl));
+      untrapped = ((λ e. (free, none)), (λ h. refl));
       throttled = m.throttled;
     }
 headline_of w limit log [] races run right m (Some t) is =
@@ -88,7 +88,7 @@ headline_of w limit log [] races run right m (Some t) is =
       races_printed = λ e. absurd (omega (arith, e));
       otherwise = λ h. text;
       trapped = ((λ e. (free, (λ none. cc (sym some ∙ none)))), (λ h. refl));
-      finished = ((λ e. absurd (omega (arith, e))), (λ h. (let e = sym some ∙ h.1 in absurd (cc (e)))));
+      untrapped = ((λ e. absurd (omega (arith, e))), (λ h. (let e = sym some ∙ h.1 in absurd (cc (e)))));
       throttled = m.throttled;
     }
 

@@ -29,7 +29,7 @@ pub record MeetsProgramHeadline (w : WholeProgram) (limit : ℕ) (log : RunLog) 
   pub races_printed : status ≡ 2 → text ≡ races
   pub otherwise : HasNoProgramRace w → text ≡ output_lines (program_output w) ++ trap_lines (program_trap w)
   pub trapped : (status ≡ 3) ↔ (HasNoProgramRace w × (program_trap w ≢ None))
-  pub finished : (status ≡ 0) ↔ (HasNoProgramRace w × (program_trap w ≡ None))
+  pub untrapped : (status ≡ 0) ↔ (HasNoProgramRace w × (program_trap w ≡ None))
   pub throttled : IsThrottled limit log.events
 
 -- the exit status of a run with these reports and this trap

@@ -4,7 +4,7 @@ use Rattle.std.specs.Prelude.{slice_get, nat_lt, nat_le, if◌then◌else◌}
 use Rattle.pipe_model.specs.declared.column.ColumnEnd.{ColumnEnd}
 use Rattle.stage_code.specs.declared.instr.Instr.{Instr}
 use Rattle.pipe_model.specs.Language.Interaction.{Interaction, Return, Raise, Step, Get, Set, bind}
-use Rattle.pipe_model.specs.Language.Interaction as tree
+use Rattle.pipe_model.specs.Language.Interaction as interactions
 use Rattle.pipe_model.specs.declared.trap.Trap.TheVariants as traps
 use Rattle.std.proofs.Common.{pos, negsuc, Bool, true, false}
 use Rattle.pipe_model.specs.Language.Evaluation.{element_in, Setting, CellRange}
@@ -17,7 +17,7 @@ bind-assoc (Raise t) f g = refl
 bind-assoc (Step d) f g = λ i. Step (bind-assoc d f g i)
 bind-assoc (Get c go) f g = λ i. Get c (λ v. bind-assoc (go v) f g i)
 bind-assoc (Set c v d) f g = λ i. Set c v (bind-assoc d f g i)
-bind-assoc (tree.Stage k n d) f g = λ i. tree.Stage k n (bind-assoc d f g i)
+bind-assoc (interactions.Stage k n d) f g = λ i. interactions.Stage k n (bind-assoc d f g i)
 
 -- the machine's world, with the declared names and a bound on turns
 abbrev pub setting_with : CodeSetting → (List ℕ → Option CellRange) → ℕ → Setting
@@ -41,7 +41,7 @@ follow_then p zero (Step d) g k h = Spends _ _
 follow_then p (suc n) (Step d) g k h = Steps (follow_then p n d g k (λ m le x. h m (omega arith) x))
 follow_then p n (Get c go) g k h = Gets c (λ v. follow_then p n (go v) g k h)
 follow_then p n (Set c v d) g k h = Sets c v (follow_then p n d g k h)
-follow_then p n (tree.Stage s i d) g k h = Stages s i (follow_then p n d g k h)
+follow_then p n (interactions.Stage s i d) g k h = Stages s i (follow_then p n d g k h)
 
 pub at_instr : (p : CodeSetting) (n : ℕ) (c : CodeState) (i : Instr) (d : Interaction ColumnEnd) → slice_get p.code c.place ≡ Some i
     → Follows p n (act p c i) d → FollowsAt p n c d

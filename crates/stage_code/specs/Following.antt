@@ -5,7 +5,7 @@ use Rattle.pipe_model.specs.declared.column.ColumnEnd.{ColumnEnd}
 use Rattle.pipe_model.specs.declared.node.Kind.{Kind}
 use Rattle.pipe_model.specs.declared.trap.Trap.{Trap}
 use Rattle.pipe_model.specs.Language.Interaction.{Interaction, Return, Raise, Step, Get, Set}
-use Rattle.pipe_model.specs.Language.Interaction as tree
+use Rattle.pipe_model.specs.Language.Interaction as interactions
 use Rattle.stage_code.specs.Instructions.{CodeState, CodeSetting, Transition, Next, Finish, run_next}
 
 -- for n steps, and up to the step after them
@@ -16,7 +16,7 @@ pub data Follows (p : CodeSetting) : ℕ → Interaction Transition → Interact
       → Follows p n (Get c go) (Get c on)
   Sets : {n : ℕ} {m : Interaction Transition} {d : Interaction ColumnEnd} (c : ℕ) (v : ℤ) → Follows p n m d → Follows p n (Set c v m) (Set c v d)
   Stages : {n : ℕ} {m : Interaction Transition} {d : Interaction ColumnEnd} (k : Kind) (i : ℤ) → Follows p n m d
-      → Follows p n (tree.Stage k i m) (tree.Stage k i d)
+      → Follows p n (interactions.Stage k i m) (interactions.Stage k i d)
   Raises : {n : ℕ} (t : Trap) → Follows p n (Raise t) (Raise t)
   GoesOn : {n : ℕ} {d : Interaction ColumnEnd} (c : CodeState) → Follows p n (run_next p c) d → Follows p n (Return (Next c)) d
   Finishes : {n : ℕ} (e : ColumnEnd) → Follows p n (Return (Finish e)) (Return e)
