@@ -115,7 +115,7 @@ fn costs(alloc: Global) -> Result<(), Fail> {
         )?;
         let exact = source(alloc, [1, 1, cost, 1], rest.as_str())?;
         Case::of(exact.as_bytes()).check(alloc, statement, 0, text)?;
-        let less = source(alloc, [1, 1, cost - 1, 1], rest.as_str())?;
+        let less = source(alloc, [1, 1, cost.saturating_sub(1), 1], rest.as_str())?;
         Case::of(less.as_bytes()).check(alloc, statement, 3, "trap Budget in init\n")?;
     }
     Ok(())

@@ -5,7 +5,7 @@ use Rattle.cilkp_program.proofs.call.answer_format.Goals as goal
 
 pub returns-in-Accepted-clause-answer : goal.returns-in-Accepted-clause-answer
 returns-in-Accepted-clause-answer g c =
-    answer_given _ _ _ _ _ _ (rw c.program-2.ensures.program at c.text_of.ensures) (program_printed _ _ _ _ _ (rw c.in-Accepted.is at c.in_ok-program.ensures.cause)
+    answer_given _ _ _ _ _ _ (rw c.program-in-Accepted.ensures.program at c.text_of.ensures) (program_printed _ _ _ _ _ (rw c.in-Accepted.is at c.in_ok-program.ensures.cause)
     (rw c.in-Accepted.is at c.in_ok-program.ensures.answer))
 
 pub returns-in-Refused-clause-answer : goal.returns-in-Refused-clause-answer

@@ -9,3 +9,19 @@ returns-in-Refused-clause-prepared g c =
 pub returns-in-Failed-clause-prepared : goal.returns-in-Failed-clause-prepared
 returns-in-Failed-clause-prepared g c =
     rw c.in_ok-read_fault-in-Failed.ensures (λ words n. source_failed words _ _ _ _ (WithInput _ n) (rw c.in-Failed.is at c.in_ok-program.ensures.cause))
+
+pub returns-in-Empty-clause-prepared : goal.returns-in-Empty-clause-prepared
+returns-in-Empty-clause-prepared g c =
+    files_ready _ _ _ _ _ _ _ _ c.in_ok-program.ensures.keeps (rw c.in-Accepted.is at c.in_ok-program.ensures.cause) (rw c.in-Empty.is at c.in_ok-load_input.ensures.cause)
+    (rw c.in-Accepted.is at c.in_ok-program.ensures.answer) (rw c.in-Empty.is at c.in_ok-load_input.ensures.answer)
+
+pub returns-in-Refused-2-clause-prepared : goal.returns-in-Refused-2-clause-prepared
+returns-in-Refused-2-clause-prepared g c =
+    rw c.refused-in-Refused-2.ensures (input_refused _ _ _ _ _ _ _ _ _ c.in_ok-program.ensures.keeps (rw c.in-Accepted.is at c.in_ok-program.ensures.cause)
+    (rw c.in-Refused-2.is at c.in_ok-load_input.ensures.cause) (rw c.in-Accepted.is at c.in_ok-program.ensures.answer) (rw c.in-Refused-2.is at c.in_ok-load_input.ensures.answer))
+
+pub returns-in_ok-read_fault-in-Failed-2-clause-prepared :
+    goal.returns-in_ok-read_fault-in-Failed-2-clause-prepared
+returns-in_ok-read_fault-in-Failed-2-clause-prepared g c =
+    rw c.in_ok-read_fault-in-Failed-2.ensures (input_failed _ _ _ _ _ _ _ (rw c.in-Accepted.is at c.in_ok-program.ensures.cause)
+    (rw c.in-Failed-2.is at c.in_ok-load_input.ensures.cause) (rw c.in-Accepted.is at c.in_ok-program.ensures.answer))
