@@ -11,7 +11,8 @@ use Rattle.cilkp_program.specs.Headline.{AgreesWithElision, IsRunStatus}
 use Rattle.cilkp_program.specs.Rows.{ElisionHasNoRace, RunResult, Races, Finishes, Traps, elision_accesses, elision_columns, elision_output_text, elision_trap}
 
 -- the status of a program that was run
-pub outcome_status : {tree : SyntaxTree} {input : List ℤ} {status : ℕ} {text : List ℕ} {reports : List Report} → RunResult tree input status text reports → IsRunStatus status
+pub outcome_status : {tree : SyntaxTree} {input : List ℤ} {status : ℕ} {text : List ℕ} {reports : List Report}
+    → RunResult tree input status text reports → IsRunStatus status
 outcome_status (Races reports some first) = inr (inl refl)
 outcome_status (Finishes free ends) = inl refl
 outcome_status (Traps t free ends) = inr (inr refl)

@@ -19,18 +19,21 @@ record IsTextOf (tree : SyntaxTree) (status : ℕ) (text : List ℕ) (log : Opti
   silent : reports ≡ []
 
 -- the row of such a call
-text_row : {words : List (List ℕ)} {held : FileContents} {status : ℕ} {text : List ℕ} {log : Option RunLog} {reports : List Report} (tree : SyntaxTree) (source : List ℕ)
+text_row : {words : List (List ℕ)} {held : FileContents} {status : ℕ} {text : List ℕ} {log : Option RunLog} {reports : List Report}
+    (tree : SyntaxTree) (source : List ℕ)
     → words ≡ format_words source → IsSourceOf held.source tree → Row words held status text log reports → IsTextOf tree status text log reports
 text_row tree source w s row =
     let one = one_row row (Formats source tree w s) in record { done = one.0; text_is = one.1; not_run = one.2; silent = one.3 }
 
 -- the result of a call that prints an accepted program, if no read failed
-text_answer : {words : List (List ℕ)} {content : Content} {before now status : ℕ} {text : List ℕ} {log : Option RunLog} {reports : List Report} (tree : SyntaxTree)
-    → ¬ (CountRose before now) → IsToFormat words content tree → IsCallResult words (Some content) before now status text log reports → IsTextOf tree status text log reports
-text_answer tree calm a (OfRow same row) =
-    text_row tree a.source a.command (rw (row.told.source a.source (ByFormat a.command)) at a.program) row.row
-text_answer tree calm a (SourceFault s grew rose w) = absurd (calm rose)
-text_answer tree calm a (InputFault s i file other grew rose w told of) = absurd (calm rose)
+text_outcome : {words : List (List ℕ)} {content : Content} {before now status : ℕ} {text : List ℕ} {log : Option RunLog} {reports : List Report}
+    (tree : SyntaxTree)
+    → ¬ (CountRose before now) → IsToFormat words content tree → IsCallResult words (Some content) before now status text log reports
+    → IsTextOf tree status text log reports
+text_outcome tree calm a (OfRow same row) =
+    text_row tree a.source a.command (rw (row.known.source a.source (ByFormat a.command)) at a.program) row.row
+text_outcome tree calm a (SourceFault s grew rose w) = absurd (calm rose)
+text_outcome tree calm a (InputFault s i file other grew rose w known of) = absurd (calm rose)
 
 -- a call whose text was written completely
 pub text_printed : (words : List (List ℕ)) (holds : Option Content) (before now status written : ℕ) (log : Option RunLog) (reports : List Report)
@@ -38,7 +41,7 @@ pub text_printed : (words : List (List ℕ)) (holds : Option Content) (before no
     → IfSome holds (λ content. (tree : SyntaxTree) → IsToFormat words content tree → ReturnsText tree status written log reports taken_before taken_now)
 text_printed words None before now status written log reports taken_before taken_now calm printed = tt
 text_printed words (Some content) before now status written log reports taken_before taken_now calm printed = λ tree a. (
-    let h = text_answer tree calm a printed.answer in
+    let h = text_outcome tree calm a printed.outcome in
     record {
       done = h.done;
       whole = printed.whole ∙ ap length h.text_is;

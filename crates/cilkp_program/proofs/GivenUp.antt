@@ -9,24 +9,28 @@ use Rattle.cilkp_program.specs.declared.whole.WriteEnd.TheVariants as ends
 
 -- a text that was written completely was printed
 pub text_whole : (words : List (List ℕ)) (holds : Option Content) (before now status written : ℕ) (text : List ℕ) (log : Option RunLog) (reports : List Report)
-    (taken_before taken_now : Option (List ℕ)) → IsCallResult words holds before now status text log reports → written ≡ length text → HasTaken written text taken_before taken_now
+    (taken_before taken_now : Option (List ℕ)) → IsCallResult words holds before now status text log reports → written ≡ length text
+    → HasTaken written text taken_before taken_now
     → IsPrinted words holds before now status written log reports taken_before taken_now
-text_whole words holds before now status written text log reports taken_before taken_now answer whole taken =
-    record { text = text; answer = answer; whole = whole; taken = taken }
+text_whole words holds before now status written text log reports taken_before taken_now outcome whole taken =
+    record { text = text; outcome = outcome; whole = whole; taken = taken }
 
 -- a text that was not written completely was cut short
-pub text_cut_short : (words : List (List ℕ)) (holds : Option Content) (before now status written : ℕ) (text : List ℕ) (log : Option RunLog) (reports : List Report)
-    (taken_before taken_now : Option (List ℕ)) (end : WriteEnd) → IsCallResult words holds before now status text log reports → written ≤ length text → ((end ≡ ends.Whole) ↔ (written ≡ length text)) → end ≢ ends.Whole → HasTaken written text taken_before taken_now
+pub text_cut_short : (words : List (List ℕ)) (holds : Option Content) (before now status written : ℕ) (text : List ℕ) (log : Option RunLog)
+    (reports : List Report)
+    (taken_before taken_now : Option (List ℕ)) (end : WriteEnd) → IsCallResult words holds before now status text log reports
+    → written ≤ length text → ((end ≡ ends.Whole) ↔ (written ≡ length text)) → end ≢ ends.Whole → HasTaken written text taken_before taken_now
     → IsCutShort words holds before now written log reports taken_before taken_now
-text_cut_short words holds before now status written text log reports taken_before taken_now end answer within whole cut taken = record {
+text_cut_short words holds before now status written text log reports taken_before taken_now end outcome within whole cut taken = record {
   status = status;
   text = text;
-  answer = answer;
+  outcome = outcome;
   short = (let apart : written ≢ length text = λ e. cut (whole.1 e) in omega arith);
   taken = taken;
 }
 
 -- a call whose text is cut short by out of memory
 pub given_up_writing : (words : List (List ℕ)) (holds : Option Content) (before now written : ℕ) (log : Option RunLog) (reports : List Report)
-    (taken_before taken_now : Option (List ℕ)) → IsCutShort words holds before now written log reports taken_before taken_now → IsGivenUp words holds before now taken_before taken_now
+    (taken_before taken_now : Option (List ℕ)) → IsCutShort words holds before now written log reports taken_before taken_now
+    → IsGivenUp words holds before now taken_before taken_now
 given_up_writing words holds before now written log reports taken_before taken_now cut = inr (written, log, reports, cut)

@@ -30,7 +30,8 @@ record IsRunOf (tree : SyntaxTree) (status : ℕ) (text : List ℕ) (log : Optio
   logged : log ≡ Some (elision_log tree [])
   outcome : RunResult tree [] status text reports
 
-accepted_row : {words : List (List ℕ)} {content : Content} {held : FileContents} {status : ℕ} {text : List ℕ} {log : Option RunLog} {reports : List Report} (tree : SyntaxTree)
+accepted_row : {words : List (List ℕ)} {content : Content} {held : FileContents} {status : ℕ} {text : List ℕ} {log : Option RunLog}
+    {reports : List Report} (tree : SyntaxTree)
     → (a : IsToRun words content tree) → content a.source ≡ held.source → content a.input ≡ held.input → Row words held status text log reports
     → IsRunOf tree status text log reports
 accepted_row tree a s i (NoCommand none) = absurd (none a.source (WithInput a.input (ByRun a.command)))
@@ -43,12 +44,14 @@ accepted_row tree a s i (Runs source input other w o e r) =
 accepted_row tree a s i (RunsSerially source input other w o e r) = absurd (run_is_not_serial a.command w)
 
 -- the result of a call that runs an accepted program, if no read failed
-answer_meets : {words : List (List ℕ)} {content : Content} {before now status : ℕ} {text : List ℕ} {log : Option RunLog} {reports : List Report} (tree : SyntaxTree)
-    → ¬ (CountRose before now) → IsToRun words content tree → IsCallResult words (Some content) before now status text log reports → IsRunOf tree status text log reports
-answer_meets tree calm a (OfRow same row) =
-    accepted_row tree a (row.told.source a.source (WithInput a.input (ByRun a.command))) (row.told.input a.input (a.source, ByRun a.command)) row.row
-answer_meets tree calm a (SourceFault s grew rose w) = absurd (calm rose)
-answer_meets tree calm a (InputFault s i file other grew rose w told of) = absurd (calm rose)
+result_meets : {words : List (List ℕ)} {content : Content} {before now status : ℕ} {text : List ℕ} {log : Option RunLog} {reports : List Report}
+    (tree : SyntaxTree)
+    → ¬ (CountRose before now) → IsToRun words content tree → IsCallResult words (Some content) before now status text log reports
+    → IsRunOf tree status text log reports
+result_meets tree calm a (OfRow same row) =
+    accepted_row tree a (row.known.source a.source (WithInput a.input (ByRun a.command))) (row.known.input a.input (a.source, ByRun a.command)) row.row
+result_meets tree calm a (SourceFault s grew rose w) = absurd (calm rose)
+result_meets tree calm a (InputFault s i file other grew rose w known of) = absurd (calm rose)
 
 -- the headline of a call whose text was written completely
 pub printed_meets : (words : List (List ℕ)) (holds : Option Content) (before now status written : ℕ) (log : Option RunLog) (reports : List Report)
@@ -56,7 +59,7 @@ pub printed_meets : (words : List (List ℕ)) (holds : Option Content) (before n
     → IfSome holds (λ content. (tree : SyntaxTree) → IsToRun words content tree → ReturnsRun tree status written log reports taken_before taken_now)
 printed_meets words None before now status written log reports taken_before taken_now calm printed = tt
 printed_meets words (Some content) before now status written log reports taken_before taken_now calm printed = λ tree a. (
-    let h = answer_meets tree calm a printed.answer in
+    let h = result_meets tree calm a printed.outcome in
     record {
       log = elision_log tree [];
       logged = h.logged;

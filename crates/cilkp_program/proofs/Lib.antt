@@ -8,7 +8,7 @@ pub mod RaceText
 pub mod RunTexts
 pub mod OneReports
 pub mod HeadlineLaws
-pub mod AnswerStatus
+pub mod ResultStatus
 pub mod FormatLaws
 pub mod SourceFaults
 pub mod ElisionOutcomes

@@ -18,23 +18,23 @@ use Rattle.cilkp_program.specs.declared.load.Source.TheVariants as sources
 use Rattle.cilkp_program.specs.WholeFiles.{IsUpTo, IsWholeOf}
 
 -- some content of the file explains the result; where the content is known, it is that one
-pub record IsOfFile (holds : Option Content) (name : List ℕ) (limit : ℕ) (answer : Whole) : Type 0 where
+pub record IsOfFile (holds : Option Content) (name : List ℕ) (limit : ℕ) (outcome : Whole) : Type 0 where
   pub file : Option (List ℕ)
-  pub told : IfSome holds (λ content. content name ≡ file)
-  pub is : IsWholeOf file limit answer
+  pub known : IfSome holds (λ content. content name ≡ file)
+  pub is : IsWholeOf file limit outcome
 
 -- a content that explains the result, if the content is not known
-some_file : (limit : ℕ) (answer : Whole) → IsUpTo limit answer → (file : Option (List ℕ)) × IsWholeOf file limit answer
+some_file : (limit : ℕ) (outcome : Whole) → IsUpTo limit outcome → (file : Option (List ℕ)) × IsWholeOf file limit outcome
 some_file limit (whole.Bytes bytes) up = (Some bytes, (refl, up))
 some_file limit (whole.TooLong bytes) up = (Some bytes, ((sym (take_all (length bytes) bytes (omega arith)), omega arith), up))
 some_file limit whole.Missing up = (None, tt)
 some_file limit whole.Failed up = (None, tt)
 
 -- some content explains each result
-pub of_file : (holds : Option Content) (name : List ℕ) (limit : ℕ) (answer : Whole) → IsUpTo limit answer
-    → IfSome holds (λ content. IsWholeOf (content name) limit answer) → IsOfFile holds name limit answer
-of_file None name limit answer up h = let f = some_file limit answer up in record { file = f.0; told = tt; is = f.1 }
-of_file (Some content) name limit answer up h = record { file = content name; told = refl; is = h }
+pub of_file : (holds : Option Content) (name : List ℕ) (limit : ℕ) (outcome : Whole) → IsUpTo limit outcome
+    → IfSome holds (λ content. IsWholeOf (content name) limit outcome) → IsOfFile holds name limit outcome
+of_file None name limit outcome up h = let f = some_file limit outcome up in record { file = f.0; known = tt; is = f.1 }
+of_file (Some content) name limit outcome up h = record { file = content name; known = refl; is = h }
 
 -- the file is missing
 missing_is_none : (file : Option (List ℕ)) (limit : ℕ) → IsWholeOf file limit whole.Missing → file ≡ None
@@ -53,45 +53,49 @@ bytes_are_held None limit bytes h = absurd h
 bytes_are_held (Some held) limit bytes h = ap Some (sym h.0)
 
 -- a source that is missing is refused
-pub source_is_missing : (file : Option (List ℕ)) (name line : List ℕ) (limit : ℕ) → line ≡ refused_missing name → IsWholeOf file limit whole.Missing → SourceRefusal name file line
+pub source_is_missing : (file : Option (List ℕ)) (name line : List ℕ) (limit : ℕ) → line ≡ refused_missing name
+    → IsWholeOf file limit whole.Missing → SourceRefusal name file line
 source_is_missing file name line limit e h = rw e (SourceMissing (missing_is_none file limit h))
 
 -- the result of loading the bytes of a file is that of loading the file
-pub file_gave : (file : Option (List ℕ)) (name bytes : List ℕ) (limit : ℕ) (source : Source) → IsWholeOf file limit (whole.Bytes bytes) → IsLoadOf bytes source
+pub file_result : (file : Option (List ℕ)) (name bytes : List ℕ) (limit : ℕ) (source : Source) → IsWholeOf file limit (whole.Bytes bytes)
+    → IsLoadOf bytes source
     → IsSourceFrom name file source
-file_gave file name bytes limit (sources.Accepted checked) h g =
+file_result file name bytes limit (sources.Accepted checked) h g =
     record { bytes = bytes; held = bytes_are_held file limit bytes h; accepted = g }
-file_gave file name bytes limit (sources.Refused line) h g =
+file_result file name bytes limit (sources.Refused line) h g =
     rw g.line_is (NotAccepted bytes g.refusal (bytes_are_held file limit bytes h) g.refused)
-file_gave file name bytes limit sources.Failed h g = absurd g
+file_result file name bytes limit sources.Failed h g = absurd g
 
 -- the result for the bytes of a file
-pub source_answer : (holds : Option Content) (name : List ℕ) (limit : ℕ) (bytes : List ℕ) (r : Result Source NoMemory) → IsOfFile holds name limit (whole.Bytes bytes)
+pub source_outcome : (holds : Option Content) (name : List ℕ) (limit : ℕ) (bytes : List ℕ) (r : Result Source NoMemory)
+    → IsOfFile holds name limit (whole.Bytes bytes)
     → IfOk r (λ source. IsLoadOf bytes source) → IfOk r (λ source. IsSourceResult holds name source)
-source_answer holds name limit bytes (Ok source) f g = record { file = f.file; told = f.told; gave = file_gave f.file name bytes limit source f.is g }
-source_answer holds name limit bytes (Err m) f g = g
+source_outcome holds name limit bytes (Ok source) f g = record { file = f.file; known = f.known; result_is = file_result f.file name bytes limit source f.is g }
+source_outcome holds name limit bytes (Err m) f g = g
 
 -- the lexer refuses the first bytes of a source that is too long, so the source is refused
-prefix_gave : (file : Option (List ℕ)) (name bytes : List ℕ) (source : Source) → IsWholeOf file LONGEST_SOURCE (whole.TooLong bytes) → IsLoadOf bytes source
+prefix_result : (file : Option (List ℕ)) (name bytes : List ℕ) (source : Source) → IsWholeOf file LONGEST_SOURCE (whole.TooLong bytes) → IsLoadOf bytes source
     → IsSourceFrom name file source
-prefix_gave file name bytes (sources.Accepted checked) h g =
+prefix_result file name bytes (sources.Accepted checked) h g =
     let f = too_long_is_held file LONGEST_SOURCE bytes h in
     let short = g.spelled.lexed.short in
     absurd (omega (arith, f.3, short))
-prefix_gave file name bytes (sources.Refused line) h g =
+prefix_result file name bytes (sources.Refused line) h g =
     let f = too_long_is_held file LONGEST_SOURCE bytes h in
     let same : g.refusal ≡ Lexical SourceTooLong = one_refusal g.refused (ForItsText SourceTooLong (IsTooLong f.3)) in
     rw (g.line_is, same) (NotAccepted f.0 (Lexical SourceTooLong) f.1 (ForItsText SourceTooLong (IsTooLong f.2)))
-prefix_gave file name bytes sources.Failed h g = absurd g
+prefix_result file name bytes sources.Failed h g = absurd g
 
 -- the result of loading a source that is too long
-pub long_source_answer : (holds : Option Content) (name bytes : List ℕ) (r : Result Source NoMemory) → IsOfFile holds name LONGEST_SOURCE (whole.TooLong bytes)
+pub long_source_outcome : (holds : Option Content) (name bytes : List ℕ) (r : Result Source NoMemory) → IsOfFile holds name LONGEST_SOURCE (whole.TooLong bytes)
     → IfOk r (λ source. IsLoadOf bytes source) → IfOk r (λ source. IsSourceResult holds name source)
-long_source_answer holds name bytes (Ok source) f g = record { file = f.file; told = f.told; gave = prefix_gave f.file name bytes source f.is g }
-long_source_answer holds name bytes (Err m) f g = g
+long_source_outcome holds name bytes (Ok source) f g = record { file = f.file; known = f.known; result_is = prefix_result f.file name bytes source f.is g }
+long_source_outcome holds name bytes (Err m) f g = g
 
 -- an input that is missing is refused
-pub input_is_missing : (file : Option (List ℕ)) (name line : List ℕ) (limit : ℕ) → line ≡ refused_missing name → IsWholeOf file limit whole.Missing → InputRefusal name file line
+pub input_is_missing : (file : Option (List ℕ)) (name line : List ℕ) (limit : ℕ) → line ≡ refused_missing name
+    → IsWholeOf file limit whole.Missing → InputRefusal name file line
 input_is_missing file name line limit e h = rw e (InputMissing (missing_is_none file limit h))
 
 -- an input that is not empty is refused

@@ -11,14 +11,16 @@ use Rattle.pipe_model.specs.Races.DeterminacyRaces.{Among, Here, Later}
 use Rattle.pipe_model.proofs.Members.{none_among}
 
 -- the later access of a first race is unique
-one_later : {columns : List (List Node)} {accesses : List NotedAccess} (e l f m : ℕ) → IsFirstRacingPair columns accesses e l → IsFirstRacingPair columns accesses f m → l ≡ m
+one_later : {columns : List (List Node)} {accesses : List NotedAccess} (e l f m : ℕ) → IsFirstRacingPair columns accesses e l
+    → IsFirstRacingPair columns accesses f m → l ≡ m
 one_later e l f m h g = elim (cases_lt l m) [
   | inl w ↦ absurd (g.first_later l w e h.race)
   | inr a ↦ elim (cases_lt m l) [ inl w ↦ absurd (h.first_later m w f g.race) | inr b ↦ omega (arith, a, b) ]
 ]
 
 -- so is the earlier access
-one_earlier : {columns : List (List Node)} {accesses : List NotedAccess} (e f l : ℕ) → IsFirstRacingPair columns accesses e l → IsFirstRacingPair columns accesses f l → e ≡ f
+one_earlier : {columns : List (List Node)} {accesses : List NotedAccess} (e f l : ℕ) → IsFirstRacingPair columns accesses e l
+    → IsFirstRacingPair columns accesses f l → e ≡ f
 one_earlier e f l h g = elim (cases_lt e f) [
   | inl w ↦ absurd (g.first_earlier e w h.race)
   | inr a ↦ elim (cases_lt f e) [ inl w ↦ absurd (h.first_earlier f w g.race) | inr b ↦ omega (arith, a, b) ]
@@ -29,21 +31,23 @@ record TellsOf (columns : List (List Node)) (accesses : List NodeAccess) (cell :
   earlier : ℕ
   later : ℕ
   first : IsFirstRacingPair columns (accesses_to cell accesses) earlier later
-  told : r ≡ report_of columns cell (access_at (accesses_to cell accesses) earlier) (access_at (accesses_to cell accesses) later)
+  known : r ≡ report_of columns cell (access_at (accesses_to cell accesses) earlier) (access_at (accesses_to cell accesses) later)
 
 -- a report of a first race is that of its own cell
 tells_of : (columns : List (List Node)) (accesses : List NodeAccess) (cell : ℕ) (r : Report) → r.cell.0 ≡ cell → ReportsFirstRaceOfCell columns accesses r
     → TellsOf columns accesses cell r
 tells_of columns accesses cell r e h =
-    subst (λ c. TellsOf columns accesses c r) e (record { earlier = h.earlier; later = h.later; first = h.first; told = h.told })
+    subst (λ c. TellsOf columns accesses c r) e (record { earlier = h.earlier; later = h.later; first = h.first; known = h.known })
 
 -- a cell has at most one report of its first race
-one_report : (columns : List (List Node)) (accesses : List NodeAccess) (cell : ℕ) (r s : Report) → TellsOf columns accesses cell r → TellsOf columns accesses cell s → r ≡ s
+one_report : (columns : List (List Node)) (accesses : List NodeAccess) (cell : ℕ) (r s : Report) → TellsOf columns accesses cell r
+    → TellsOf columns accesses cell s → r ≡ s
 one_report columns accesses cell r s h g =
     let l : h.later ≡ g.later = one_later h.earlier h.later g.earlier g.later h.first g.first in
-    let e : h.earlier ≡ g.earlier = one_earlier h.earlier g.earlier g.later (subst (IsFirstRacingPair columns (accesses_to cell accesses) h.earlier) l h.first) g.first in
+    let e : h.earlier ≡ g.earlier = one_earlier h.earlier g.earlier g.later
+    (subst (IsFirstRacingPair columns (accesses_to cell accesses) h.earlier) l h.first) g.first in
     let noted : List NotedAccess = accesses_to cell accesses in
-    h.told ∙ ((λ i. report_of columns cell (access_at noted (e i)) (access_at noted (l i))) ∙ sym g.told)
+    h.known ∙ ((λ i. report_of columns cell (access_at noted (e i)) (access_at noted (l i))) ∙ sym g.known)
 
 -- the first report's cell is below the second's
 abbrev below : Report → Report → Type 0
@@ -82,7 +86,8 @@ one_first x y xs ys p q (Later _ k) Here = refl
 one_first x y xs ys p q (Later _ k) (Later _ m) = let a = first_below x xs y p m in let b = first_below y ys x q k in absurd (omega (arith, a, b))
 
 -- two rising lists with the same elements are equal
-one_list : (xs ys : List Report) → AllPairs below xs → AllPairs below ys → ((r : Report) → Among r xs → Among r ys) → ((r : Report) → Among r ys → Among r xs) → xs ≡ ys
+one_list : (xs ys : List Report) → AllPairs below xs → AllPairs below ys → ((r : Report) → Among r xs → Among r ys)
+    → ((r : Report) → Among r ys → Among r xs) → xs ≡ ys
 one_list [] [] p q f g = refl
 one_list [] (y ∷ ys) p q f g = absurd (none_among y (g y Here))
 one_list (x ∷ xs) [] p q f g = absurd (none_among x (f x Here))
@@ -94,13 +99,16 @@ one_list (x ∷ xs) (y ∷ ys) p q f g =
     λ i. same i ∷ rest i
 
 -- two lists of first races have the same elements
-among_both : (columns : List (List Node)) (accesses : List NodeAccess) (xs ys : List Report) → AreFirstRaces columns accesses xs → AreFirstRaces columns accesses ys
+among_both : (columns : List (List Node)) (accesses : List NodeAccess) (xs ys : List Report) → AreFirstRaces columns accesses xs
+    → AreFirstRaces columns accesses ys
     → (r : Report) → Among r xs → Among r ys
 among_both columns accesses xs ys h g r m =
     let t = h.each r m in
     let s = g.all r.cell.0 t.later t.earlier t.first.race in
-    subst (λ z. Among z ys) (sym (one_report columns accesses r.cell.0 r s.0 (tells_of columns accesses r.cell.0 r refl t) (tells_of columns accesses r.cell.0 s.0 s.2 (g.each s.0 s.1)))) s.1
+    subst (λ z. Among z ys) (sym (one_report columns accesses r.cell.0 r s.0 (tells_of columns accesses r.cell.0 r refl t)
+    (tells_of columns accesses r.cell.0 s.0 s.2 (g.each s.0 s.1)))) s.1
 
 -- two lists of the first races of all cells are equal
-pub one_first_races : (columns : List (List Node)) (accesses : List NodeAccess) (xs ys : List Report) → AreFirstRaces columns accesses xs → AreFirstRaces columns accesses ys → xs ≡ ys
+pub one_first_races : (columns : List (List Node)) (accesses : List NodeAccess) (xs ys : List Report) → AreFirstRaces columns accesses xs
+    → AreFirstRaces columns accesses ys → xs ≡ ys
 one_first_races columns accesses xs ys h g = one_list xs ys h.rise g.rise (among_both columns accesses xs ys h g) (among_both columns accesses ys xs g h)

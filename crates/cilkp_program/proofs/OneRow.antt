@@ -78,7 +78,8 @@ one_run {tree} {other_tree} {status} {other} {text} {other_text} {reports} {othe
     (one.0, one.1, ap (λ t. Some (elision_log t [])) same, one.2)
 
 -- a `run` command is not a `serial` command
-pub run_is_not_serial : {words : List (List ℕ)} {source input other other_input : List ℕ} → words ≡ run_words source input → words ≡ serial_words other other_input → ⊥
+pub run_is_not_serial : {words : List (List ℕ)} {source input other other_input : List ℕ} → words ≡ run_words source input
+    → words ≡ serial_words other other_input → ⊥
 run_is_not_serial {words} {source} {input} {other} {other_input} w v =
     let e : run_words source input ≡ serial_words other other_input = sym w ∙ v in
     let first : codes "run" ≡ codes "serial" = cc (e) in
@@ -107,7 +108,8 @@ one_name (ByFormat v) (WithInput input n) = absurd (files_are_no_format n v)
 one_name {source = source} {other = other} (ByFormat v) (ByFormat v') = let e : format_words source ≡ format_words other = sym v ∙ v' in cc (e)
 
 -- two rows of a call are equal
-pub one_row : {words : List (List ℕ)} {held : FileContents} {status other : ℕ} {text other_text : List ℕ} {log other_log : Option RunLog} {reports other_reports : List Report}
+pub one_row : {words : List (List ℕ)} {held : FileContents} {status other : ℕ} {text other_text : List ℕ} {log other_log : Option RunLog}
+    {reports other_reports : List Report}
     → Row words held status text log reports → Row words held other other_text other_log other_reports
     → (status ≡ other) × (text ≡ other_text) × (log ≡ other_log) × (reports ≡ other_reports)
 one_row (NoCommand n) (NoCommand n') = (refl, refl, refl, refl)

@@ -15,7 +15,8 @@ name_step ds i k d h e =
     ∙ ap (λ (m : Declaration). cond (ltb k (declared_size m.size)) (element_name m k) (declared_name (drop (i + 1) ds) (k - declared_size m.size))) (sym e)
 
 -- a text with the line of a race appended, from its parts
-pub line_by_parts : (name : ℕ → List ℕ) (r : Report) (before start named once twice end : List ℕ) → start ≡ before ++ codes "race " → named ≡ start ++ name r.cell.0
+pub line_by_parts : (name : ℕ → List ℕ) (r : Report) (before start named once twice end : List ℕ) → start ≡ before ++ codes "race "
+    → named ≡ start ++ name r.cell.0
     → once ≡ named ++ (codes " " ++ (kind_text r.earlier_kind ++ (codes " " ++ instance_text r.earlier r.earlier_number)))
     → twice ≡ once ++ (codes " " ++ (kind_text r.later_kind ++ (codes " " ++ instance_text r.later r.later_number)))
     → end ≡ twice ++ codes "\n" → end ≡ before ++ race_line name r

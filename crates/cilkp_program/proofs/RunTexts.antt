@@ -18,17 +18,20 @@ some_left : (reports : List Report) → (length reports == 0) ≡ false → repo
 some_left reports some none = let e : (length reports == 0) ≡ true = rw none refl in cc (e, some)
 
 -- a run with reports
-pub printed_with_races : (cells : List Declaration) (output : List ℤ) (trap : Option TrapAt) (reports : List Report) (text : List ℕ) → (length reports == 0) ≡ false
+pub printed_with_races : (cells : List Declaration) (output : List ℤ) (trap : Option TrapAt) (reports : List Report) (text : List ℕ)
+    → (length reports == 0) ≡ false
     → text ≡ race_lines cells reports → IsPrintedAs cells output trap reports 2 text
 printed_with_races cells output trap reports text some t = rw t (WithRaces (some_left reports some))
 
 -- a run without reports and without a trap
-pub printed_to_its_end : (cells : List Declaration) (output : List ℤ) (trap : Option TrapAt) (reports : List Report) (text : List ℕ) → (length reports == 0) ≡ true
+pub printed_to_its_end : (cells : List Declaration) (output : List ℤ) (trap : Option TrapAt) (reports : List Report) (text : List ℕ)
+    → (length reports == 0) ≡ true
     → text ≡ output_lines output ++ trap_lines trap → trap ≡ None → IsPrintedAs cells output trap reports 0 text
 printed_to_its_end cells output trap reports text none t ends =
     rw (t, ends, append-nil (output_lines output)) (ToItsEnd (none_left reports none) refl)
 
 -- a run without reports and with a trap
-pub printed_with_trap : (cells : List Declaration) (output : List ℤ) (trap : Option TrapAt) (reports : List Report) (text : List ℕ) (at : TrapAt) → (length reports == 0) ≡ true
+pub printed_with_trap : (cells : List Declaration) (output : List ℤ) (trap : Option TrapAt) (reports : List Report) (text : List ℕ) (at : TrapAt)
+    → (length reports == 0) ≡ true
     → text ≡ output_lines output ++ trap_lines trap → trap ≡ Some at → IsPrintedAs cells output trap reports 3 text
 printed_with_trap cells output trap reports text at none t ends = rw (t, ends) (WithTrap at (none_left reports none) refl)

@@ -16,7 +16,8 @@ record IsElisionOf (tree : SyntaxTree) (status : ℕ) (text : List ℕ) (log : O
   unlogged : log ≡ None
   outcome : RunResult tree [] status text reports
 
-elided_row : {words : List (List ℕ)} {content : Content} {held : FileContents} {status : ℕ} {text : List ℕ} {log : Option RunLog} {reports : List Report} (tree : SyntaxTree)
+elided_row : {words : List (List ℕ)} {content : Content} {held : FileContents} {status : ℕ} {text : List ℕ} {log : Option RunLog}
+    {reports : List Report} (tree : SyntaxTree)
     → (a : IsToRunSerially words content tree) → content a.source ≡ held.source → content a.input ≡ held.input → Row words held status text log reports
     → IsElisionOf tree status text log reports
 elided_row tree a s i (NoCommand none) = absurd (none a.source (WithInput a.input (BySerial a.command)))
@@ -28,13 +29,14 @@ elided_row tree a s i (RunsSerially source input other w o e r) =
     let same : other ≡ tree = one_source other tree o (rw (← s) a.program) in record { unlogged = refl; outcome = rw (← same) r }
 
 -- the result of a call that runs the elision of an accepted program, if no read failed
-answer_elided : {words : List (List ℕ)} {content : Content} {before now status : ℕ} {text : List ℕ} {log : Option RunLog} {reports : List Report} (tree : SyntaxTree)
+result_elided : {words : List (List ℕ)} {content : Content} {before now status : ℕ} {text : List ℕ} {log : Option RunLog} {reports : List Report}
+    (tree : SyntaxTree)
     → ¬ (CountRose before now) → IsToRunSerially words content tree → IsCallResult words (Some content) before now status text log reports
     → IsElisionOf tree status text log reports
-answer_elided tree calm a (OfRow same row) =
-    elided_row tree a (row.told.source a.source (WithInput a.input (BySerial a.command))) (row.told.input a.input (a.source, BySerial a.command)) row.row
-answer_elided tree calm a (SourceFault s grew rose w) = absurd (calm rose)
-answer_elided tree calm a (InputFault s i file other grew rose w told of) = absurd (calm rose)
+result_elided tree calm a (OfRow same row) =
+    elided_row tree a (row.known.source a.source (WithInput a.input (BySerial a.command))) (row.known.input a.input (a.source, BySerial a.command)) row.row
+result_elided tree calm a (SourceFault s grew rose w) = absurd (calm rose)
+result_elided tree calm a (InputFault s i file other grew rose w known of) = absurd (calm rose)
 
 -- a call whose text was written completely
 pub printed_elision : (words : List (List ℕ)) (holds : Option Content) (before now status written : ℕ) (log : Option RunLog) (reports : List Report)
@@ -42,7 +44,7 @@ pub printed_elision : (words : List (List ℕ)) (holds : Option Content) (before
     → IfSome holds (λ content. (tree : SyntaxTree) → IsToRunSerially words content tree → ReturnsElision tree status written log reports taken_before taken_now)
 printed_elision words None before now status written log reports taken_before taken_now calm printed = tt
 printed_elision words (Some content) before now status written log reports taken_before taken_now calm printed = λ tree a. (
-    let h = answer_elided tree calm a printed.answer in
+    let h = result_elided tree calm a printed.outcome in
     record {
       text = printed.text;
       whole = printed.whole;

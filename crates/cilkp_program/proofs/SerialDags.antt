@@ -70,15 +70,15 @@ serial_log source tree limit form room =
 -- ---- the dag that is built from the elision's columns and accesses
 
 -- the columns that the elision returns have the program's instances
-told_columns : (tree : SyntaxTree) (columns : List Column) → columns ≡ program_columns (whole_of tree []) → node_columns columns ≡ elision_columns tree []
-told_columns tree columns e = ap node_columns e ∙ ended_nodes (loop_traces (whole_of tree []))
+given_columns : (tree : SyntaxTree) (columns : List Column) → columns ≡ program_columns (whole_of tree []) → node_columns columns ≡ elision_columns tree []
+given_columns tree columns e = ap node_columns e ∙ ended_nodes (loop_traces (whole_of tree []))
 
 -- the dag that is built has rising columns
-pub told_columns_rise : (source : List ℕ) (tree : SyntaxTree) (columns : List Column) → IsAccepted source tree → columns ≡ program_columns (whole_of tree [])
+pub given_columns_rise : (source : List ℕ) (tree : SyntaxTree) (columns : List Column) → IsAccepted source tree → columns ≡ program_columns (whole_of tree [])
     → AreRising (node_columns columns)
-told_columns_rise source tree columns form e =
+given_columns_rise source tree columns form e =
     let h = serial_log source tree 1 form (omega arith) in
-    subst AreRising (h.columns ∙ sym (told_columns tree columns e)) (record { each = h.rules.rising })
+    subst AreRising (h.columns ∙ sym (given_columns tree columns e)) (record { each = h.rules.rising })
 
 -- the number of a column with an instance is below the number of columns
 column_inside : (columns : List (List Node)) (i k : ℕ) → k < length (nodes_at columns i) → i < length columns
@@ -94,33 +94,36 @@ accesses_inside source tree form =
     (λ k d w. let inside = h.rules.inside _ (among_at _ k d w) in (column_inside _ _ _ inside, inside)))
 
 -- the accesses that the elision returns are made by instances of the dag that is built
-pub told_accesses_inside : (source : List ℕ) (tree : SyntaxTree) (dag : List (List Node)) (columns : List Column) (accesses : List NodeAccess) → IsAccepted source tree
+pub given_accesses_inside : (source : List ℕ) (tree : SyntaxTree) (dag : List (List Node)) (columns : List Column) (accesses : List NodeAccess)
+    → IsAccepted source tree
     → dag ≡ node_columns columns → columns ≡ program_columns (whole_of tree []) → accesses ≡ elision_accesses tree [] → All (IsAccessOf dag) accesses
-told_accesses_inside source tree dag columns accesses form d e a =
-    rw (a, d ∙ told_columns tree columns e) (accesses_inside source tree form)
+given_accesses_inside source tree dag columns accesses form d e a =
+    rw (a, d ∙ given_columns tree columns e) (accesses_inside source tree form)
 
 -- the races of the dag that is built are those of the program
-told_races : (tree : SyntaxTree) (dag : List (List Node)) (columns : List Column) (accesses : List NodeAccess) (reports : List Report) → dag ≡ node_columns columns
+given_races : (tree : SyntaxTree) (dag : List (List Node)) (columns : List Column) (accesses : List NodeAccess) (reports : List Report)
+    → dag ≡ node_columns columns
     → columns ≡ program_columns (whole_of tree []) → accesses ≡ elision_accesses tree [] → AreFirstRaces dag accesses reports
     → AreFirstRaces (elision_columns tree []) (elision_accesses tree []) reports
-told_races tree dag columns accesses reports d e a r = rw (← a, ← (d ∙ told_columns tree columns e)) r
+given_races tree dag columns accesses reports d e a r = rw (← a, ← (d ∙ given_columns tree columns e)) r
 
 -- what is printed for the elision's output, trap and races is the result of the program's run
-pub outcome_of_run : (tree : SyntaxTree) (dag : List (List Node)) (columns : List Column) (accesses : List NodeAccess) (output : List ℤ) (trap : Option TrapAt) (reports : List Report)
+pub outcome_of_run : (tree : SyntaxTree) (dag : List (List Node)) (columns : List Column) (accesses : List NodeAccess) (output : List ℤ)
+    (trap : Option TrapAt) (reports : List Report)
     {status : ℕ} {text : List ℕ} → dag ≡ node_columns columns → columns ≡ program_columns (whole_of tree []) → accesses ≡ elision_accesses tree []
     → output ≡ program_output (whole_of tree []) → trap ≡ elision_trap tree [] → AreFirstRaces dag accesses reports
     → IsPrintedAs tree.cells output trap reports status text → RunResult tree [] status text reports
 outcome_of_run tree dag columns accesses output trap reports d e a o t r (WithRaces some) =
-    let first = told_races tree dag columns accesses reports d e a r in
+    let first = given_races tree dag columns accesses reports d e a r in
     Races reports (λ free. some ((no_report_is_race_free _ _ reports first).1 free)) first
 outcome_of_run tree dag columns accesses output trap reports d e a o t r (ToItsEnd none ends) =
-    let free = (no_report_is_race_free _ _ reports (told_races tree dag columns accesses reports d e a r)).0 none in
+    let free = (no_report_is_race_free _ _ reports (given_races tree dag columns accesses reports d e a r)).0 none in
     rw (none, o) (Finishes free (sym t ∙ ends))
 outcome_of_run tree dag columns accesses output trap reports d e a o t r (WithTrap at none ends) =
-    let free = (no_report_is_race_free _ _ reports (told_races tree dag columns accesses reports d e a r)).0 none in
+    let free = (no_report_is_race_free _ _ reports (given_races tree dag columns accesses reports d e a r)).0 none in
     rw (none, o) (Traps at free (sym t ∙ ends))
 
 -- the elision's columns and events are the log of the program
-pub told_log : (tree : SyntaxTree) (columns : List Column) (events : List Event) → columns ≡ program_columns (whole_of tree [])
+pub given_log : (tree : SyntaxTree) (columns : List Column) (events : List Event) → columns ≡ program_columns (whole_of tree [])
     → events ≡ (program_log (whole_of tree [])).events → (let l : RunLog = record { columns = columns; events = events } in l) ≡ elision_log tree []
-told_log tree columns events e v = λ i. record { columns = e i; events = v i }
+given_log tree columns events e v = λ i. record { columns = e i; events = v i }

@@ -24,7 +24,8 @@ use Rattle.cilkp_program.specs.LoadedFiles.{AreRefused}
 use Rattle.cilkp_program.specs.RefusalLines.{HasPlace, IsCheckLine, IsLexicalLine, IsRuleLine, IsSyntaxLine}
 
 -- tokens whose symbols spell the program
-abbrev pub spelled_by : (source : List ℕ) (tokens : List Token) (tree : SyntaxTree) → IsLexed source tokens → Spells (symbols_in source tokens) tree → SourceSpells source tree
+abbrev pub spelled_by : (source : List ℕ) (tokens : List Token) (tree : SyntaxTree) → IsLexed source tokens
+    → Spells (symbols_in source tokens) tree → SourceSpells source tree
 spelled_by source tokens tree lexed spelled = record { tokens = tokens; lexed = lexed; spelled = spelled }
 
 -- a fault of the lexer
@@ -67,7 +68,8 @@ rule_refused source tree s rule mark line t r =
     record { refusal = RuleBroken rule r.place; refused = ForARule tree rule mark r.place s t r.found; line_is = r.line_is }
 
 -- a fault of the checker
-pub program_refused : (source : List ℕ) (tree : SyntaxTree) (s : SourceSpells source tree) (fault : CheckFault) (line : List ℕ) → IsFirstFaultOf fault (fault_of tree)
+pub program_refused : (source : List ℕ) (tree : SyntaxTree) (s : SourceSpells source tree) (fault : CheckFault) (line : List ℕ)
+    → IsFirstFaultOf fault (fault_of tree)
     → IsCheckLine fault (mark_places s.tokens) line → AreRefused source line
 program_refused source tree s (checks.LimitOut which) line t e = record { refusal = LimitOut which; refused = ForALimit tree which s t; line_is = e }
 program_refused source tree s (checks.Unknown mark) line t r = rule_refused source tree s _ mark line t r

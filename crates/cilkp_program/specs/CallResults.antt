@@ -12,7 +12,7 @@ use Rattle.cilkp_program.specs.Rows.{AreHeldBy, FileContents, IsSourceOf, NamesF
 -- the result of a call in which no read failed: the row of its words and of some content of its files; where the content is known, it is that one
 pub record IsRow (words : List (List ℕ)) (holds : Option Content) (status : ℕ) (text : List ℕ) (log : Option RunLog) (reports : List Report) : Type 0 where
   pub held : FileContents
-  pub told : IfSome holds (λ content. AreHeldBy content words held)
+  pub known : IfSome holds (λ content. AreHeldBy content words held)
   pub row : Row words held status text log reports
 
 -- the status, the text, the run log and the reports of a call: those of its row if no read failed, and otherwise the line of the fault, which is the
@@ -20,7 +20,8 @@ pub record IsRow (words : List (List ℕ)) (holds : Option Content) (status : �
 pub data IsCallResult (words : List (List ℕ)) (holds : Option Content) (before now : ℕ) : ℕ → List ℕ → Option RunLog → List Report → Type 0 where
   OfRow : {status : ℕ} {text : List ℕ} {log : Option RunLog} {reports : List Report} → now ≡ before → IsRow words holds status text log reports
       → IsCallResult words holds before now status text log reports
-  SourceFault : (source : List ℕ) → before ≤ now → CountRose before now → NamesSource words source → IsCallResult words holds before now 4 (fault_read source) None []
+  SourceFault : (source : List ℕ) → before ≤ now → CountRose before now → NamesSource words source
+      → IsCallResult words holds before now 4 (fault_read source) None []
   InputFault : (source input : List ℕ) (file : Option (List ℕ)) (tree : SyntaxTree) → before ≤ now → CountRose before now → NamesFiles words source input
       → IfSome holds (λ content. content source ≡ file) → IsSourceOf file tree → IsCallResult words holds before now 4 (fault_read input) None []
 
@@ -29,10 +30,11 @@ abbrev pub HasTaken : ℕ → List ℕ → Option (List ℕ) → Option (List �
 HasTaken count text before now = now ≡ option_map (λ taken. taken ++ take count text) before
 
 -- the call's text was written completely
-pub record IsPrinted (words : List (List ℕ)) (holds : Option Content) (faults_before faults_now status written : ℕ) (log : Option RunLog) (reports : List Report)
+pub record IsPrinted (words : List (List ℕ)) (holds : Option Content) (faults_before faults_now status written : ℕ) (log : Option RunLog)
+    (reports : List Report)
     (taken_before taken_now : Option (List ℕ)) : Type 0 where
   pub text : List ℕ
-  pub answer : IsCallResult words holds faults_before faults_now status text log reports
+  pub outcome : IsCallResult words holds faults_before faults_now status text log reports
   pub whole : written ≡ length text
   pub taken : HasTaken written text taken_before taken_now
 
@@ -41,7 +43,7 @@ pub record IsCutShort (words : List (List ℕ)) (holds : Option Content) (faults
     (taken_before taken_now : Option (List ℕ)) : Type 0 where
   pub status : ℕ
   pub text : List ℕ
-  pub answer : IsCallResult words holds faults_before faults_now status text log reports
+  pub outcome : IsCallResult words holds faults_before faults_now status text log reports
   pub short : written < length text
   pub taken : HasTaken written text taken_before taken_now
 
@@ -49,4 +51,5 @@ pub record IsCutShort (words : List (List ℕ)) (holds : Option Content) (faults
 abbrev pub IsGivenUp : (words : List (List ℕ)) (holds : Option Content) (faults_before faults_now : ℕ) (taken_before taken_now : Option (List ℕ)) → Type 0
 IsGivenUp words holds faults_before faults_now taken_before taken_now =
     (taken_now ≡ taken_before)
-    ⊎ ((written : ℕ) × (log : Option RunLog) × (reports : List Report) × IsCutShort words holds faults_before faults_now written log reports taken_before taken_now)
+    ⊎ ((written : ℕ) × (log : Option RunLog) × (reports : List Report)
+    × IsCutShort words holds faults_before faults_now written log reports taken_before taken_now)

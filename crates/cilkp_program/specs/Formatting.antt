@@ -15,7 +15,8 @@ pub record IsToFormat (words : List (List ℕ)) (content : Content) (tree : Synt
   pub program : IsSourceOf (content source) tree
 
 -- the canonical text of the program was written completely, with status 0, and nothing was run
-pub record ReturnsText (tree : SyntaxTree) (status written : ℕ) (run_log : Option RunLog) (reports : List Report) (taken_before taken_now : Option (List ℕ)) : Type 0 where
+pub record ReturnsText (tree : SyntaxTree) (status written : ℕ) (run_log : Option RunLog) (reports : List Report)
+    (taken_before taken_now : Option (List ℕ)) : Type 0 where
   pub done : status ≡ 0
   pub whole : written ≡ length (program_text tree)
   pub taken : HasTaken written (program_text tree) taken_before taken_now

@@ -51,7 +51,8 @@ IsRunStatus status = (status ≡ 0) ⊎ ((status ≡ 2) ⊎ (status ≡ 3))
 
 -- the call returned the log of a run that meets the headline for every limit of at least 1, and its text was written completely.
 -- An accepted program with an empty input has no other result
-pub record ReturnsRun (tree : SyntaxTree) (status written : ℕ) (run_log : Option RunLog) (reports : List Report) (taken_before taken_now : Option (List ℕ)) : Type 0 where
+pub record ReturnsRun (tree : SyntaxTree) (status written : ℕ) (run_log : Option RunLog) (reports : List Report)
+    (taken_before taken_now : Option (List ℕ)) : Type 0 where
   pub log : RunLog
   pub logged : run_log ≡ Some log
   pub text : List ℕ

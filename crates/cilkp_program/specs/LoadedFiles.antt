@@ -37,8 +37,8 @@ IsSourceFrom name file sources.Failed = Unit {0}
 -- some content of the file explains the result; where the content is known, it is that one
 pub record IsSourceResult (holds : Option Content) (name : List ℕ) (source : Source) : Type 0 where
   pub file : Option (List ℕ)
-  pub told : IfSome holds (λ content. content name ≡ file)
-  pub gave : IsSourceFrom name file source
+  pub known : IfSome holds (λ content. content name ≡ file)
+  pub result_is : IsSourceFrom name file source
 
 -- whether a read of the input failed
 abbrev pub is_input_fault : Input → Bool
@@ -55,5 +55,5 @@ IsInputFrom name file inputs.Failed = Unit {0}
 -- some content of the file explains the result; where the content is known, it is that one
 pub record IsInputResult (holds : Option Content) (name : List ℕ) (input : Input) : Type 0 where
   pub file : Option (List ℕ)
-  pub told : IfSome holds (λ content. content name ≡ file)
-  pub gave : IsInputFrom name file input
+  pub known : IfSome holds (λ content. content name ≡ file)
+  pub result_is : IsInputFrom name file input

@@ -11,13 +11,13 @@ use Rattle.cilkp_program.specs.Rows.{FileContents, IsSourceOf, NamesFiles}
 pub record AreReady (holds : Option Content) (before now : ℕ) (source input : List ℕ) (tree : SyntaxTree) : Type 0 where
   pub held : FileContents
   pub calm : now ≡ before
-  pub source_told : IfSome holds (λ content. content source ≡ held.source)
-  pub input_told : IfSome holds (λ content. content input ≡ held.input)
+  pub source_known : IfSome holds (λ content. content source ≡ held.source)
+  pub input_known : IfSome holds (λ content. content input ≡ held.input)
   pub program : IsSourceOf held.source tree
   pub empty : held.input ≡ Some []
 
 -- the files are ready, or the result of each command with these files is known already
 abbrev pub IsPreparation : Option Content → ℕ → ℕ → List ℕ → List ℕ → Prepared → Type 0
 IsPreparation holds before now source input (prepared.Ready checked) = AreReady holds before now source input (tree_of checked)
-IsPreparation holds before now source input (prepared.Answered answer) =
-    (words : List (List ℕ)) → NamesFiles words source input → IsCallResult words holds before now answer.status answer.text answer.run_log answer.reports
+IsPreparation holds before now source input (prepared.Decided outcome) =
+    (words : List (List ℕ)) → NamesFiles words source input → IsCallResult words holds before now outcome.status outcome.text outcome.run_log outcome.reports

@@ -112,7 +112,8 @@ pub data RunResult (tree : SyntaxTree) (input : List ℤ) : ℕ → List ℕ →
   Races : (reports : List Report) → (ElisionHasNoRace tree input → ⊥) → AreFirstRaces (elision_columns tree input) (elision_accesses tree input) reports
       → RunResult tree input 2 (race_lines tree.cells reports) reports
   Finishes : ElisionHasNoRace tree input → elision_trap tree input ≡ None → RunResult tree input 0 (elision_output_text tree input) []
-  Traps : (t : TrapAt) → ElisionHasNoRace tree input → elision_trap tree input ≡ Some t → RunResult tree input 3 (elision_output_text tree input ++ trap_line t) []
+  Traps : (t : TrapAt) → ElisionHasNoRace tree input → elision_trap tree input ≡ Some t
+      → RunResult tree input 3 (elision_output_text tree input ++ trap_line t) []
 
 -- the row of a call by its words and its files: its status, its text, its run log if it keeps one, and its reports.
 -- The words are refused before the source, and the source before the input. A `serial` command has the status, the text and the reports of a `run`,
@@ -124,6 +125,7 @@ pub data Row (words : List (List ℕ)) (held : FileContents) : ℕ → List ℕ 
   InputRefused : (source input : List ℕ) {text : List ℕ} (tree : SyntaxTree) → NamesFiles words source input → IsSourceOf held.source tree
       → InputRefusal input held.input text → Row words held 1 text None []
   Runs : (source input : List ℕ) {status : ℕ} {text : List ℕ} {reports : List Report} (tree : SyntaxTree) → words ≡ run_words source input
-      → IsSourceOf held.source tree → held.input ≡ Some [] → RunResult tree [] status text reports → Row words held status text (Some (elision_log tree [])) reports
+      → IsSourceOf held.source tree → held.input ≡ Some [] → RunResult tree [] status text reports
+      → Row words held status text (Some (elision_log tree [])) reports
   RunsSerially : (source input : List ℕ) {status : ℕ} {text : List ℕ} {reports : List Report} (tree : SyntaxTree) → words ≡ serial_words source input
       → IsSourceOf held.source tree → held.input ≡ Some [] → RunResult tree [] status text reports → Row words held status text None reports

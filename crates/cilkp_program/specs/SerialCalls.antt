@@ -18,7 +18,8 @@ pub record IsToRunSerially (words : List (List ℕ)) (content : Content) (tree :
   pub empty : content input ≡ Some []
 
 -- the call has the status, the text and the reports of the program's serial elision, its text was written completely, and there is no run log
-pub record ReturnsElision (tree : SyntaxTree) (status written : ℕ) (run_log : Option RunLog) (reports : List Report) (taken_before taken_now : Option (List ℕ)) : Type 0 where
+pub record ReturnsElision (tree : SyntaxTree) (status written : ℕ) (run_log : Option RunLog) (reports : List Report)
+    (taken_before taken_now : Option (List ℕ)) : Type 0 where
   pub text : List ℕ
   pub whole : written ≡ length text
   pub taken : HasTaken written text taken_before taken_now

@@ -15,9 +15,9 @@ is_file_fault Missing = false
 is_file_fault Failed = true
 
 -- the bytes are a prefix of the file, and empty if there is no file
-abbrev pub IsFrontOf : Option (List ℕ) → List ℕ → Type 0
-IsFrontOf None bytes = bytes ≡ []
-IsFrontOf (Some held) bytes = (bytes ≡ take (length bytes) held) × (length bytes ≤ length held)
+abbrev pub IsPrefixOf : Option (List ℕ) → List ℕ → Type 0
+IsPrefixOf None bytes = bytes ≡ []
+IsPrefixOf (Some held) bytes = (bytes ≡ take (length bytes) held) × (length bytes ≤ length held)
 
 -- the bytes of a whole file are at most `limit`, and those of a file that is too long are more
 abbrev pub IsUpTo : ℕ → Whole → Type 0
@@ -33,7 +33,7 @@ IsWholeOf None limit (TooLong bytes) = ⊥
 IsWholeOf None limit Missing = Unit {0}
 IsWholeOf None limit Failed = Unit {0}
 IsWholeOf (Some held) limit (Bytes bytes) = (bytes ≡ held) × (length held ≤ limit)
-IsWholeOf (Some held) limit (TooLong bytes) = IsFrontOf (Some held) bytes × (limit < length bytes)
+IsWholeOf (Some held) limit (TooLong bytes) = IsPrefixOf (Some held) bytes × (limit < length bytes)
 IsWholeOf (Some held) limit Missing = ⊥
 IsWholeOf (Some held) limit Failed = Unit {0}
 

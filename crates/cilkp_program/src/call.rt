@@ -64,7 +64,7 @@ pub struct Ended {
 
 // The result of a command before its text is printed.
 #[derive(Drop)]
-struct Answer {
+struct CommandResult {
     status: u8,
     text: Bytes,
     run_log: Option<RunLog>,
@@ -77,7 +77,7 @@ enum Prepared {
     // The source is accepted and the input is empty.
     Ready(Checked),
     // The source or the input is refused or cannot be read.
-    Answered(Answer),
+    Decided(CommandResult),
 }
 
 // The names of the source and the input, if the words are `COMMAND SOURCE INPUT`.
@@ -135,7 +135,7 @@ fn printed_run(
 }
 
 // Runs a program serially, one iteration after the other: status, text, log and reports.
-fn run_program(alloc: Global, checked: &Checked) -> Result<Answer, NoMemory>
+fn run_program(alloc: Global, checked: &Checked) -> Result<CommandResult, NoMemory>
     requires { (source : List ℕ) × IsAccepted source (tree_of checked.now) }
     ensures outcome { IfOk result (λ a. RunResult (tree_of checked.now) [] a.status a.text a.reports) }
     ensures log { IfOk result (λ a. a.run_log ≡ Some (elision_log (tree_of checked.now) [])) }
@@ -151,7 +151,7 @@ fn run_program(alloc: Global, checked: &Checked) -> Result<Answer, NoMemory>
     let reports = Dag::of(alloc, &columns)?.races(alloc, &accesses)?;
     let cells = checked.program().cells.as_slice();
     let (status, text) = printed_run(alloc, cells, &output, trap, &reports)?;
-    Ok(Answer {
+    Ok(CommandResult {
         status,
         text,
         run_log: Some(RunLog { columns, events }),
@@ -159,10 +159,10 @@ fn run_program(alloc: Global, checked: &Checked) -> Result<Answer, NoMemory>
     })
 }
 
-fn refused(alloc: Global, text: Bytes) -> Answer
+fn refused(alloc: Global, text: Bytes) -> CommandResult
     ensures { result ≡ record { status = 1; text = text; run_log = None; reports = [] } }
 {
-    Answer {
+    CommandResult {
         status: REFUSED,
         text,
         run_log: None,
@@ -170,10 +170,10 @@ fn refused(alloc: Global, text: Bytes) -> Answer
     }
 }
 
-fn read_fault(alloc: Global, name: &str) -> Result<Answer, NoMemory>
+fn read_fault(alloc: Global, name: &str) -> Result<CommandResult, NoMemory>
     ensures { IfOk result (λ a. a ≡ record { status = 4; text = fault_read name.now; run_log = None; reports = [] }) }
 {
-    Ok(Answer {
+    Ok(CommandResult {
         status: READ_FAULT,
         text: named_line(alloc, "fault read ", name)?,
         run_log: None,
@@ -182,10 +182,10 @@ fn read_fault(alloc: Global, name: &str) -> Result<Answer, NoMemory>
 }
 
 // The result of `format` for an accepted program: its canonical text.
-fn text_of(alloc: Global, program: &Program) -> Result<Answer, NoMemory>
+fn text_of(alloc: Global, program: &Program) -> Result<CommandResult, NoMemory>
     ensures { IfOk result (λ a. a ≡ record { status = 0; text = program_text (tree_of program.now); run_log = None; reports = [] }) }
 {
-    Ok(Answer {
+    Ok(CommandResult {
         status: FINISHED,
         text: format(alloc, program)?,
         run_log: None,
@@ -207,63 +207,67 @@ fn prepare<F: Files>(
 {
     let program = match load_source(alloc, files, source)? {
         Source::Accepted(program) => program,
-        Source::Refused(text) => return Ok(Prepared::Answered(refused(alloc, text))),
-        Source::Failed => return Ok(Prepared::Answered(read_fault(alloc, source)?)),
+        Source::Refused(text) => return Ok(Prepared::Decided(refused(alloc, text))),
+        Source::Failed => return Ok(Prepared::Decided(read_fault(alloc, source)?)),
     };
     match load_input(alloc, files, input)? {
         Input::Empty => Ok(Prepared::Ready(program)),
-        Input::Refused(text) => Ok(Prepared::Answered(refused(alloc, text))),
-        Input::Failed => Ok(Prepared::Answered(read_fault(alloc, input)?)),
+        Input::Refused(text) => Ok(Prepared::Decided(refused(alloc, text))),
+        Input::Failed => Ok(Prepared::Decided(read_fault(alloc, input)?)),
     }
 }
 
 // The result of `run SOURCE INPUT`.
-fn answer_run<F: Files>(
+fn execute_run<F: Files>(
     alloc: Global,
     files: &mut F,
     source: &str,
     input: &str,
-) -> Result<Answer, NoMemory>
+) -> Result<CommandResult, NoMemory>
     ensures keeps { F.holds files.new ≡ F.holds files.old }
     ensures grows { OnErr result (F.faults files.old ≤ F.faults files.new) }
-    ensures answer { IfOk result (λ a. IsCallResult (run_words source.now input.now) (F.holds files.old)
+    ensures outcome { IfOk result (λ a. IsCallResult (run_words source.now input.now) (F.holds files.old)
         (F.faults files.old) (F.faults files.new) a.status a.text a.run_log a.reports) }
 {
     match prepare(alloc, files, source, input)? {
         Prepared::Ready(program) => run_program(alloc, &program),
-        Prepared::Answered(answer) => Ok(answer),
+        Prepared::Decided(outcome) => Ok(outcome),
     }
 }
 
 // The result of `serial SOURCE INPUT`, which keeps no run log.
-fn answer_serial<F: Files>(
+fn execute_serial<F: Files>(
     alloc: Global,
     files: &mut F,
     source: &str,
     input: &str,
-) -> Result<Answer, NoMemory>
+) -> Result<CommandResult, NoMemory>
     ensures keeps { F.holds files.new ≡ F.holds files.old }
     ensures grows { OnErr result (F.faults files.old ≤ F.faults files.new) }
-    ensures answer { IfOk result (λ a. IsCallResult (serial_words source.now input.now) (F.holds files.old)
+    ensures outcome { IfOk result (λ a. IsCallResult (serial_words source.now input.now) (F.holds files.old)
         (F.faults files.old) (F.faults files.new) a.status a.text a.run_log a.reports) }
 {
     match prepare(alloc, files, source, input)? {
         Prepared::Ready(program) => {
-            let answer = run_program(alloc, &program)?;
-            Ok(Answer {
+            let outcome = run_program(alloc, &program)?;
+            Ok(CommandResult {
                 run_log: None,
-                ..answer
+                ..outcome
             })
         }
-        Prepared::Answered(answer) => Ok(answer),
+        Prepared::Decided(outcome) => Ok(outcome),
     }
 }
 
 // The result of `format SOURCE`.
-fn answer_format<F: Files>(alloc: Global, files: &mut F, source: &str) -> Result<Answer, NoMemory>
+fn execute_format<F: Files>(
+    alloc: Global,
+    files: &mut F,
+    source: &str,
+) -> Result<CommandResult, NoMemory>
     ensures keeps { F.holds files.new ≡ F.holds files.old }
     ensures grows { OnErr result (F.faults files.old ≤ F.faults files.new) }
-    ensures answer { IfOk result (λ a. IsCallResult (format_words source.now) (F.holds files.old)
+    ensures outcome { IfOk result (λ a. IsCallResult (format_words source.now) (F.holds files.old)
         (F.faults files.old) (F.faults files.new) a.status a.text a.run_log a.reports) }
 {
     match load_source(alloc, files, source)? {
@@ -273,20 +277,24 @@ fn answer_format<F: Files>(alloc: Global, files: &mut F, source: &str) -> Result
     }
 }
 
-fn answer_for<F: Files>(alloc: Global, words: &[String], files: &mut F) -> Result<Answer, NoMemory>
+fn execute<F: Files>(
+    alloc: Global,
+    words: &[String],
+    files: &mut F,
+) -> Result<CommandResult, NoMemory>
     ensures keeps { F.holds files.new ≡ F.holds files.old }
     ensures grows { OnErr result (F.faults files.old ≤ F.faults files.new) }
-    ensures answer { IfOk result (λ a. IsCallResult (words_of words.now) (F.holds files.old)
+    ensures outcome { IfOk result (λ a. IsCallResult (words_of words.now) (F.holds files.old)
         (F.faults files.old) (F.faults files.new) a.status a.text a.run_log a.reports) }
 {
     if let Some((source, input)) = names_after(words, "run") {
-        return answer_run(alloc, files, source, input);
+        return execute_run(alloc, files, source, input);
     }
     if let Some((source, input)) = names_after(words, "serial") {
-        return answer_serial(alloc, files, source, input);
+        return execute_serial(alloc, files, source, input);
     }
     if let Some(source) = format_name(words) {
-        return answer_format(alloc, files, source);
+        return execute_format(alloc, files, source);
     }
     Ok(refused(alloc, line(alloc, "refused usage\n")?))
 }
@@ -358,17 +366,17 @@ pub fn cilkp<R: Drop, F: Files, S: Sink, G: Gate + Sync>(
     ensures counts { (F.faults files.old ≤ F.faults files.new) × (S.faults out.old ≤ S.faults out.new) }
     ensures keeps { F.holds files.new ≡ F.holds files.old }
 {
-    let answer = answer_for(alloc, words, files)?;
-    let written = write_text(out, answer.text.as_slice());
+    let outcome = execute(alloc, words, files)?;
+    let written = write_text(out, outcome.text.as_slice());
     let status = match written.end {
-        WriteEnd::Whole => answer.status,
+        WriteEnd::Whole => outcome.status,
         WriteEnd::Failed => WRITE_FAULT,
         WriteEnd::NoMemory => return Err(NoMemory),
     };
     Ok(Ended {
         status,
-        run_log: answer.run_log,
-        reports: answer.reports,
+        run_log: outcome.run_log,
+        reports: outcome.reports,
         written: written.count,
     })
 }

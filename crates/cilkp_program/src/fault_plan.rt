@@ -39,7 +39,7 @@ impl FaultPlan {
 
     /// Counts a call, and returns whether it is to fail.
     pub fn next_fails(&mut self) -> bool
-        ensures answer { result ≡ fails_next self.old }
+        ensures outcome { result ≡ fails_next self.old }
         ensures after { self.new ≡ after_call self.old }
         ensures cause { CountsFault result self.old.faults self.new.faults }
     {

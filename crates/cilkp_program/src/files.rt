@@ -32,5 +32,5 @@ pub trait Files {
         ensures keeps { holds self.new ≡ holds self.old }
         ensures cause { CountsFault (is_read_fault result) (faults self.old) (faults self.new) }
         ensures within { IsWithin result part.new }
-        ensures told { IfSome (holds self.old) (λ content. ReadsFrom (content name.now) place result part.new) };
+        ensures known { IfSome (holds self.old) (λ content. ReadsFrom (content name.now) place result part.new) };
 }

@@ -38,7 +38,7 @@ pub fn load_source<F: Files>(alloc: Global, files: &mut F, name: &str) -> Result
     ensures keeps { F.holds files.new ≡ F.holds files.old }
     ensures cause { IfOk result (λ source. CountsFault (is_source_fault source) (F.faults files.old) (F.faults files.new)) }
     ensures memory { OnErr result (F.faults files.new ≡ F.faults files.old) }
-    ensures answer { IfOk result (λ source. IsSourceResult (F.holds files.old) name.now source) }
+    ensures outcome { IfOk result (λ source. IsSourceResult (F.holds files.old) name.now source) }
 {
     match read_whole(alloc, files, name, LONGEST_SOURCE)? {
         Whole::Missing => Ok(Source::Refused(named_line(alloc, MISSING, name)?)),
@@ -52,7 +52,7 @@ pub fn load_source<F: Files>(alloc: Global, files: &mut F, name: &str) -> Result
 // The program of these bytes, or the line that refuses them: the first fault of the lexer, the
 // parser or the checker.
 fn source_of(alloc: Global, source: &[u8]) -> Result<Source, NoMemory>
-    ensures { IfOk result (λ answer. IsLoadOf source.now answer) }
+    ensures { IfOk result (λ outcome. IsLoadOf source.now outcome) }
 {
     let tokens = match tokens(alloc, source) {
         Ok(tokens) => tokens,
@@ -85,7 +85,7 @@ pub fn load_input<F: Files>(alloc: Global, files: &mut F, name: &str) -> Result<
     ensures keeps { F.holds files.new ≡ F.holds files.old }
     ensures cause { IfOk result (λ input. CountsFault (is_input_fault input) (F.faults files.old) (F.faults files.new)) }
     ensures memory { OnErr result (F.faults files.new ≡ F.faults files.old) }
-    ensures answer { IfOk result (λ input. IsInputResult (F.holds files.old) name.now input) }
+    ensures outcome { IfOk result (λ input. IsInputResult (F.holds files.old) name.now input) }
 {
     match read_whole(alloc, files, name, 0)? {
         Whole::Missing => return Ok(Input::Refused(named_line(alloc, MISSING, name)?)),

@@ -43,8 +43,8 @@ impl CleanFiles {
     /// `most`. `part` must not be empty.
     pub fn serve(&self, name: &str, place: u64, part: &mut [u8]) -> ReadPart
         requires { 0 < length part.old }
-        ensures answer { result ≡ served (content_of self.now.files name.now) place (length part.old) self.now.most }
-        ensures told { ReadsFrom (content_of self.now.files name.now) place result part.new }
+        ensures outcome { result ≡ served (content_of self.now.files name.now) place (length part.old) self.now.most }
+        ensures known { ReadsFrom (content_of self.now.files name.now) place result part.new }
     {
         match first_named(self.files.as_slice(), name) {
             None => ReadPart::Missing,
@@ -97,8 +97,8 @@ impl Files for CleanFiles {
         ensures keeps { self.new ≡ self.old }
         ensures never { is_read_fault result ≡ false }
         ensures within { IsWithin result part.new }
-        ensures told { ReadsFrom (content_of self.old.files name.now) place result part.new }
-        ensures answer { result ≡ served (content_of self.old.files name.now) place (length part.old) self.old.most }
+        ensures known { ReadsFrom (content_of self.old.files name.now) place result part.new }
+        ensures outcome { result ≡ served (content_of self.old.files name.now) place (length part.old) self.old.most }
     {
         self.serve(name, place, part)
     }
@@ -142,9 +142,9 @@ impl Files for MemFiles {
         ensures keeps { self.new.files ≡ self.old.files }
         ensures cause { CountsFault (is_read_fault result) self.old.plan.faults self.new.plan.faults }
         ensures within { IsWithin result part.new }
-        ensures told { ReadsFrom (content_of self.old.files.files name.now) place result part.new }
+        ensures known { ReadsFrom (content_of self.old.files.files name.now) place result part.new }
         ensures plan { self.new.plan ≡ after_call self.old.plan }
-        ensures answer { result ≡ (if fails_next self.old.plan then ReadPart.Failed
+        ensures outcome { result ≡ (if fails_next self.old.plan then ReadPart.Failed
             else served (content_of self.old.files.files name.now) place (length part.old) self.old.files.most) }
     {
         if self.plan.next_fails() {

@@ -55,18 +55,18 @@ impl CleanSink {
     /// has more. Takes none if memory runs out, and returns `NoMemory`.
     pub fn take(&mut self, part: &[u8]) -> WritePart
         requires { 0 < length part.now }
-        ensures answer { result ≢ WritePart.NoMemory → result ≡ WritePart.Took (min (length part.now) self.old.most) }
+        ensures outcome { result ≢ WritePart.NoMemory → result ≡ WritePart.Took (min (length part.now) self.old.most) }
         ensures some { TakesSome result part.now }
         ensures taken { self.new ≡ record self.old { taken = taken_after result part.now self.old.taken } }
     {
         let n = part.len().min(self.most as usize);
         let mut bytes = mem::replace(&mut self.taken, Bytes::new(self.alloc)).into_vec();
-        let answer = match bytes.extend_from_slice(&part[..n]) {
+        let outcome = match bytes.extend_from_slice(&part[..n]) {
             Ok(()) => WritePart::Took(n as u32),
             Err(_) => WritePart::NoMemory,
         };
         self.taken = Bytes::from_vec(bytes);
-        answer
+        outcome
     }
 }
 
@@ -82,7 +82,7 @@ impl Sink for CleanSink {
         ensures never { is_write_fault result ≡ false }
         ensures some { TakesSome result part.now }
         ensures taken { self.new ≡ record self.old { taken = taken_after result part.now self.old.taken } }
-        ensures answer { result ≢ WritePart.NoMemory → result ≡ WritePart.Took (min (length part.now) self.old.most) }
+        ensures outcome { result ≢ WritePart.NoMemory → result ≡ WritePart.Took (min (length part.now) self.old.most) }
     {
         self.take(part)
     }
@@ -133,7 +133,7 @@ impl Sink for MemSink {
         ensures taken { self.new.sink ≡ record self.old.sink { taken = taken_after result part.now self.old.sink.taken } }
         ensures plan { self.new.plan ≡ after_call self.old.plan }
         ensures fails { (result ≡ WritePart.Failed) ↔ (fails_next self.old.plan ≡ true) }
-        ensures answer { result ≢ WritePart.Failed → result ≢ WritePart.NoMemory
+        ensures outcome { result ≢ WritePart.Failed → result ≢ WritePart.NoMemory
             → result ≡ WritePart.Took (min (length part.now) self.old.sink.most) }
     {
         if self.plan.next_fails() {

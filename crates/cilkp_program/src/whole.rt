@@ -4,7 +4,7 @@ ghost use Rattle.std.specs.Prelude.{◌≡◌, ◌+◌, ◌++◌, ◌≤◌, ◌
 ghost use Rattle.std.specs.Option.{option_map};
 ghost use Rattle.cilkp_program.specs.Faults.{CountsFault};
 ghost use Rattle.cilkp_program.specs.Reads.{is_read_fault, bytes_read};
-ghost use Rattle.cilkp_program.specs.WholeFiles.{is_file_fault, IsUpTo, IsWholeOf, is_text_fault, IsFrontOf, EndsAt};
+ghost use Rattle.cilkp_program.specs.WholeFiles.{is_file_fault, IsUpTo, IsWholeOf, is_text_fault, IsPrefixOf, EndsAt};
 
 use crate::files::{Files, ReadPart};
 use crate::sink::{Sink, WritePart};
@@ -51,7 +51,7 @@ pub fn read_whole<F: Files>(
     ensures cause { IfOk result (λ whole. CountsFault (is_file_fault whole) (F.faults files.old) (F.faults files.new)) }
     ensures memory { OnErr result (F.faults files.new ≡ F.faults files.old) }
     ensures limit { IfOk result (λ whole. IsUpTo limit whole) }
-    ensures told { IfOk result (λ whole. IfSome (F.holds files.old) (λ content.
+    ensures known { IfOk result (λ whole. IfSome (F.holds files.old) (λ content.
         IsWholeOf (content name.now) limit whole)) }
 {
     let mut bytes = Vec::new(alloc);
@@ -76,12 +76,12 @@ fn read_more<F: Files>(
     part: &mut [u8],
 ) -> Result<ReadPart, NoMemory>
     requires room { 0 < length part.old }
-    requires front { IfSome (F.holds files.old) (λ content. IsFrontOf (content name.now) bytes.old.items) }
+    requires prefix { IfSome (F.holds files.old) (λ content. IsPrefixOf (content name.now) bytes.old.items) }
     ensures keeps { F.holds files.new ≡ F.holds files.old }
     ensures cause { IfOk result (λ read. CountsFault (is_read_fault read) (F.faults files.old) (F.faults files.new)) }
     ensures memory { OnErr result (F.faults files.new ≡ F.faults files.old) }
     ensures grew { IfOk result (λ read. length bytes.new.items ≡ length bytes.old.items + bytes_read read) }
-    ensures front { IsOk result → IfSome (F.holds files.old) (λ content. IsFrontOf (content name.now) bytes.new.items) }
+    ensures prefix { IsOk result → IfSome (F.holds files.old) (λ content. IsPrefixOf (content name.now) bytes.new.items) }
     ensures ends { IfOk result (λ read. IfSome (F.holds files.old) (λ content.
         EndsAt (content name.now) bytes.new.items read)) }
 {

@@ -32,7 +32,8 @@ pub record Elided (p : Pipeline) (n i : ℕ) (columns : List Column) (trap : Opt
   pub cells : IsStateAfter p.store (p.preamble ++ accesses_of log.accesses) log.cells
 
 -- before the first iteration
-pub elided_none : (p : Pipeline) (log : Log) → log.accesses ≡ [] → log.events ≡ [] → IsStateAfter p.store p.preamble log.cells → Elided p (p.last_iteration + 1) 0 [] None log
+pub elided_none : (p : Pipeline) (log : Log) → log.accesses ≡ [] → log.events ≡ [] → IsStateAfter p.store p.preamble log.cells
+    → Elided p (p.last_iteration + 1) 0 [] None log
 elided_none p log no_access no_event state =
     let same : p.preamble ++ accesses_of log.accesses ≡ p.preamble = ap (λ l. p.preamble ++ accesses_of l) no_access ∙ append-nil p.preamble in
     record {
@@ -80,14 +81,16 @@ trap_of_trace i t (Some (ends.Trapped w)) =
     ap (λ n. Some (record { place = At (at i n) (node_at (column_of t) n).number; trap = w })) place
 
 -- the iterations that follow, by whether this one closes the loop
-rest_after : (p : Pipeline) (n m i : ℕ) (t : List Action) (before after : List Access) (b : Bool) → closes_loop t ≡ b → (b ≡ true → m ≡ zero) → (b ≡ false → m ≡ n)
+rest_after : (p : Pipeline) (n m i : ℕ) (t : List Action) (before after : List Access) (b : Bool) → closes_loop t ≡ b → (b ≡ true → m ≡ zero)
+    → (b ≡ false → m ≡ n)
     → after ≡ before ++ accesses_in t
     → serial_traces_from p m (i + 1) after ≡ unless (closes_loop t) (serial_traces_from p n (i + 1) (before ++ accesses_in t))
 rest_after p n m i t before after true e closed open' same = rw (e, closed refl) refl
 rest_after p n m i t before after false e closed open' same = rw (e, open' refl, same) refl
 
 -- one iteration more
-pub elided_more : (p : Pipeline) (n m i : ℕ) (columns : List Column) (trap : Option TrapAt) (log now : Log) (column : Column) → Elided p (suc n) i columns trap log
+pub elided_more : (p : Pipeline) (n m i : ℕ) (columns : List Column) (trap : Option TrapAt) (log now : Log) (column : Column)
+    → Elided p (suc n) i columns trap log
     → PartRan p.store (p.preamble ++ accesses_of log.accesses) (serial_trace p.store (p.behaviour i) (p.preamble ++ accesses_of log.accesses)) i log column now
     → (column_closes column ≡ true → m ≡ zero) → (column_closes column ≡ false → m ≡ n)
     → Elided p m (i + 1) (columns ++ column ∷ []) (first_of_both trap (column_trap i column)) now

@@ -36,7 +36,8 @@ without_final : (w : WholeProgram) (ts : List (List Action)) (accesses : List Ac
 without_final w ts accesses some =
     let none : final_trace w ts accesses ≡ [] = ap (λ b. unless b (serial_trace w.loop.store w.last (init_accesses w ++ accesses))) some in
     record {
-      output = ap (λ t. output_of w.loop.store (init_accesses w ++ (accesses ++ accesses_in t))) none ∙ ap (λ l. output_of w.loop.store (init_accesses w ++ l)) (append-nil accesses);
+      output = ap (λ t. output_of w.loop.store (init_accesses w ++ (accesses ++ accesses_in t))) none
+          ∙ ap (λ l. output_of w.loop.store (init_accesses w ++ l)) (append-nil accesses);
       trap = some_first (trap_before_final w ts) (part_trap Last (trace_end (final_trace w ts accesses))) some;
     }
 
@@ -61,7 +62,8 @@ with_final w ts accesses none =
 
 -- the result, by the traces of the loop
 result_by : (w : WholeProgram) (ts : List (List Action)) (r : SerialRun) → loop_traces w ≡ ts → r.output ≡ output_with w ts (accesses_of (located_from 0 ts))
-    → r.trap ≡ trap_with w ts (accesses_of (located_from 0 ts)) → r.columns ≡ map ended_column ts → r.accesses ≡ located_from 0 ts → r.events ≡ trace_events_from 0 ts
+    → r.trap ≡ trap_with w ts (accesses_of (located_from 0 ts)) → r.columns ≡ map ended_column ts → r.accesses ≡ located_from 0 ts
+    → r.events ≡ trace_events_from 0 ts
     → IsElision w r
 result_by w ts r is output trap columns accesses events = record {
   output_is = output ∙ ap (λ l. output_with w l (accesses_of (located_from 0 l))) (sym is);
@@ -72,7 +74,8 @@ result_by w ts r is output trap columns accesses events = record {
 }
 
 -- `init` trapped
-pub trapped_in_init : (w : WholeProgram) (output : List ℤ) (trap : Option TrapAt) → trap ≡ init_trap w → is_some trap ≡ true → output ≡ output_of w.loop.store (init_accesses w)
+pub trapped_in_init : (w : WholeProgram) (output : List ℤ) (trap : Option TrapAt) → trap ≡ init_trap w → is_some trap ≡ true
+    → output ≡ output_of w.loop.store (init_accesses w)
     → IsElision w (record { output = output; trap = trap; columns = []; accesses = []; events = [] })
 trapped_in_init w output trap is some all =
     let trapped : is_some (init_trap w) ≡ true = ap is_some (sym is) ∙ some in
@@ -96,10 +99,12 @@ trapped_in_loop w r output none ran some all =
     let trap : trap_before_final w ts ≡ r.trap = trap_of_loop w ts none ∙ sym ran.trap_is in
     let h = without_final w ts (accesses_of (located_from 0 ts)) (ap is_some trap ∙ some) in
     result_by w ts (record { output = output; trap = r.trap; columns = r.columns; accesses = r.log.accesses; events = r.log.events }) is
-    (all ∙ ap (λ l. output_of w.loop.store (init_accesses w ++ accesses_of l)) ran.accesses_are ∙ sym h.output) (sym trap ∙ sym h.trap) ran.columns_are ran.accesses_are ran.events_are
+    (all ∙ ap (λ l. output_of w.loop.store (init_accesses w ++ accesses_of l)) ran.accesses_are ∙ sym h.output) (sym trap ∙ sym h.trap)
+    ran.columns_are ran.accesses_are ran.events_are
 
 -- `final` ran
-pub ran_to_end : (w : WholeProgram) (r : LoopRun) (output : List ℤ) (trap : Option TrapAt) → is_some (init_trap w) ≡ false → LoopRan (loop_after_init w) r → is_some r.trap ≡ false
+pub ran_to_end : (w : WholeProgram) (r : LoopRun) (output : List ℤ) (trap : Option TrapAt) → is_some (init_trap w) ≡ false
+    → LoopRan (loop_after_init w) r → is_some r.trap ≡ false
     → trap ≡ part_trap Last (trace_end (last_trace w (accesses_of r.log.accesses)))
     → output ≡ output_of w.loop.store ((init_accesses w ++ accesses_of r.log.accesses) ++ accesses_in (last_trace w (accesses_of r.log.accesses)))
     → IsElision w (record { output = output; trap = trap; columns = r.columns; accesses = r.log.accesses; events = r.log.events })

@@ -16,18 +16,26 @@ use Rattle.stage_code.specs.FlatCode.{FlatCode}
 use Rattle.stage_interp.specs.MachineState.{RunState}
 use Rattle.stage_interp.specs.Standing.{EndsAs, RanInstance}
 
-ends_so : (code : FlatCode) (cells : ℕ) (input : List ℤ) (run : RunState) (t : Behaviour) (e : StageEnd) (end : InstanceEnd) → instance_end e ≡ Some end → EndsAs code cells input e run t
+ends_so : (code : FlatCode) (cells : ℕ) (input : List ℤ) (run : RunState) (t : Behaviour) (e : StageEnd) (end : InstanceEnd)
+    → instance_end e ≡ Some end → EndsAs code cells input e run t
     → EndsSo code cells input end run t
-ends_so code cells input run t (stage_ends.Wait n) end is h = let same : instance_ends.Next Wait n ≡ end = cc (is) in subst (λ x. EndsSo code cells input x run t) same h
-ends_so code cells input run t (stage_ends.Continue n) end is h = let same : instance_ends.Next Continue n ≡ end = cc (is) in subst (λ x. EndsSo code cells input x run t) same h
-ends_so code cells input run t stage_ends.End end is h = let same : instance_ends.Ended ends.End ≡ end = cc (is) in subst (λ x. EndsSo code cells input x run t) same h
-ends_so code cells input run t stage_ends.Closed end is h = let same : instance_ends.Ended ends.Closed ≡ end = cc (is) in subst (λ x. EndsSo code cells input x run t) same h
-ends_so code cells input run t (stage_ends.Trap w) end is h = let same : instance_ends.Ended (ends.Trapped w) ≡ end = cc (is) in subst (λ x. EndsSo code cells input x run t) same h
+ends_so code cells input run t (stage_ends.Wait n) end is h = let same : instance_ends.Next Wait n ≡ end = cc (is) in
+    subst (λ x. EndsSo code cells input x run t) same h
+ends_so code cells input run t (stage_ends.Continue n) end is h = let same : instance_ends.Next Continue n ≡ end = cc (is) in
+    subst (λ x. EndsSo code cells input x run t) same h
+ends_so code cells input run t stage_ends.End end is h = let same : instance_ends.Ended ends.End ≡ end = cc (is) in
+    subst (λ x. EndsSo code cells input x run t) same h
+ends_so code cells input run t stage_ends.Closed end is h = let same : instance_ends.Ended ends.Closed ≡ end = cc (is) in
+    subst (λ x. EndsSo code cells input x run t) same h
+ends_so code cells input run t (stage_ends.Trap w) end is h = let same : instance_ends.Ended (ends.Trapped w) ≡ end = cc (is) in
+    subst (λ x. EndsSo code cells input x run t) same h
 ends_so code cells input run t stage_ends.Stopped end is h = absurd (cc (is))
 
 -- what the machine did over the recorder, and what is recorded
-pub ran_from : (code : FlatCode) (cells : ℕ) (input : List ℤ) (t : Behaviour) (node : NodeId) (log now : Log) (run : RunState) (e : StageEnd) (end : InstanceEnd) (made made' : List Access)
-    → made ≡ [] → RanInstance code cells input t made made' run e → Adds node log made' now → instance_end e ≡ Some end → RanFrom code cells input t node log now run end
+pub ran_from : (code : FlatCode) (cells : ℕ) (input : List ℤ) (t : Behaviour) (node : NodeId) (log now : Log) (run : RunState) (e : StageEnd)
+    (end : InstanceEnd) (made made' : List Access)
+    → made ≡ [] → RanInstance code cells input t made made' run e → Adds node log made' now → instance_end e ≡ Some end
+    → RanFrom code cells input t node log now run end
 ran_from code cells input t node log now run e end made made' none h adds is =
     let same : made' ≡ h.accesses = h.log_is ∙ ap (λ l. l ++ h.accesses) none in
     record {

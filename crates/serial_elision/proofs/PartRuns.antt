@@ -30,7 +30,8 @@ use Rattle.stage_interp.specs.Standing.{StandsFor}
 accessed_same : (a b : Access) → Accessed a ≡ Accessed b → a ≡ b
 accessed_same a b e = cc
 
-reply_is_value : (store : InitialStore) (before : List Access) (c : ℕ) (v : ℤ) (a : Access) → a ≡ read_access c v → HasReply store before a → v ≡ value_after store before c
+reply_is_value : (store : InitialStore) (before : List Access) (c : ℕ) (v : ℤ) (a : Access) → a ≡ read_access c v → HasReply store before a
+    → v ≡ value_after store before c
 reply_is_value store before c v a e h = (subst (HasReply store before) e h) refl
 
 -- the serial trace begins with accesses that have their replies
@@ -42,13 +43,17 @@ trace_splits store (Reading c go) before (a ∷ xs) performs replies =
     let is : a ≡ read_access c v = accessed_same a (read_access c v) performs.0.1 in
     let same : a ≡ read_access c (value_after store before c) = is ∙ ap (read_access c) (reply_is_value store before c v a is replies.0) in
     let rest = behaviour_after_all (go a.value) (map Accessed xs) in
-    let more = trace_splits store (go a.value) (before ++ a ∷ []) xs performs.1 replies.1 ∙ ap (λ l. map Accessed xs ++ serial_trace store rest l) (append_assoc before (a ∷ []) xs) in
-    subst (λ (b : Access). Accessed b ∷ serial_trace store (go b.value) (before ++ b ∷ []) ≡ Accessed a ∷ (map Accessed xs ++ serial_trace store rest (before ++ a ∷ xs))) same (ap (λ l. Accessed a ∷ l) more)
+    let more = trace_splits store (go a.value) (before ++ a ∷ []) xs performs.1 replies.1
+    ∙ ap (λ l. map Accessed xs ++ serial_trace store rest l) (append_assoc before (a ∷ []) xs) in
+    subst (λ (b : Access). Accessed b ∷ serial_trace store (go b.value) (before ++ b ∷ []) ≡ Accessed a
+    ∷ (map Accessed xs ++ serial_trace store rest (before ++ a ∷ xs))) same (ap (λ l. Accessed a ∷ l) more)
 trace_splits store (Writing c v d) before (a ∷ xs) performs replies =
     let is : a ≡ write_access c v = accessed_same a (write_access c v) performs.0 in
     let rest = behaviour_after_all d (map Accessed xs) in
-    let more = trace_splits store d (before ++ a ∷ []) xs performs.1 replies.1 ∙ ap (λ l. map Accessed xs ++ serial_trace store rest l) (append_assoc before (a ∷ []) xs) in
-    subst (λ (b : Access). Accessed b ∷ serial_trace store d (before ++ b ∷ []) ≡ Accessed a ∷ (map Accessed xs ++ serial_trace store rest (before ++ a ∷ xs))) is (ap (λ l. Accessed a ∷ l) more)
+    let more = trace_splits store d (before ++ a ∷ []) xs performs.1 replies.1
+    ∙ ap (λ l. map Accessed xs ++ serial_trace store rest l) (append_assoc before (a ∷ []) xs) in
+    subst (λ (b : Access). Accessed b ∷ serial_trace store d (before ++ b ∷ []) ≡ Accessed a
+    ∷ (map Accessed xs ++ serial_trace store rest (before ++ a ∷ xs))) is (ap (λ l. Accessed a ∷ l) more)
 trace_splits store (Staging k n d) before (a ∷ xs) performs replies = absurd (let o = performs.0 in cc)
 trace_splits store (Ending e) before (a ∷ xs) performs replies = absurd (let o = performs.0 in cc)
 
@@ -84,7 +89,8 @@ trace_events-append i (Ended e ∷ xs) ys = ap (λ l. events.Finish i e ∷ l) (
 -- ---- a part that is running
 
 -- since iteration i began with the log, these are its instances, and the behaviour is left
-pub record SoFar (store : InitialStore) (whole : Behaviour) (before : List Access) (i : ℕ) (log : Log) (t : Behaviour) (nodes : List Node) (now : Log) : Type 0 where
+pub record SoFar (store : InitialStore) (whole : Behaviour) (before : List Access) (i : ℕ) (log : Log) (t : Behaviour) (nodes : List Node)
+    (now : Log) : Type 0 where
   pub done : List Action
   pub no_end : HasNoEnd done
   pub trace : serial_trace store whole before ≡ done ++ serial_trace store t (before ++ accesses_in done)
@@ -111,7 +117,8 @@ joined : {A : Type 0} (now before done more : List A) (l : List A) → now ≡ b
 joined now before done more l e f = f ∙ ap (λ x. x ++ more) e ∙ append_assoc before done more
 
 -- an instance has made its accesses
-pub so_far_ran : (store : InitialStore) (whole : Behaviour) (before : List Access) (i : ℕ) (log : Log) (t : Behaviour) (nodes : List Node) (now now' : Log) (xs : List Access)
+pub so_far_ran : (store : InitialStore) (whole : Behaviour) (before : List Access) (i : ℕ) (log : Log) (t : Behaviour) (nodes : List Node)
+    (now now' : Log) (xs : List Access)
     → SoFar store whole before i log t nodes now → Performs t (map Accessed xs) → Adds (at i (length nodes - 1)) now xs now'
     → SoFar store whole before i log (behaviour_after_all t (map Accessed xs)) nodes now'
 so_far_ran store whole before i log t nodes now now' xs h performs adds =
@@ -120,25 +127,32 @@ so_far_ran store whole before i log t nodes now now' xs h performs adds =
     let made = map Accessed xs in
     let rest = behaviour_after_all t made in
     let grown : base ++ xs ≡ before ++ accesses_in (done ++ made) =
-    append_assoc before (accesses_in done) xs ∙ ap (λ l. before ++ l) (ap (λ l. accesses_in done ++ l) (sym (accesses_are xs)) ∙ sym (accesses_in-append done made)) in
+    append_assoc before (accesses_in done) xs ∙ ap (λ l. before ++ l) (ap (λ l. accesses_in done ++ l) (sym (accesses_are xs)) ∙ sym
+    (accesses_in-append done made)) in
     let index : length nodes - 1 ≡ 0 + length (nodes_in done) = omega (arith, ap length h.nodes_are) in
     let here : located i 0 done ++ placed (at i (length nodes - 1)) xs ≡ located i 0 (done ++ made) =
-    ap (λ k. located i 0 done ++ placed (at i k) xs) index ∙ ap (λ l. located i 0 done ++ l) (sym (located_is i (0 + length (nodes_in done)) xs)) ∙ sym (located-append i 0 done made) in
+    ap (λ k. located i 0 done ++ placed (at i k) xs) index ∙ ap (λ l. located i 0 done ++ l) (sym (located_is i (0 + length (nodes_in done)) xs))
+    ∙ sym (located-append i 0 done made) in
     let seen : trace_events i done ++ access_events i xs ≡ trace_events i (done ++ made) =
     ap (λ l. trace_events i done ++ l) (sym (events_are i xs)) ∙ sym (trace_events-append i done made) in
     record {
       done = done ++ made;
       no_end = no_end_more done xs h.no_end;
-      trace = h.trace ∙ ap (λ l. done ++ l) (trace_splits store t base xs performs (adds.replies store base h.cells)) ∙ sym (append_assoc done made (serial_trace store rest (base ++ xs)))
+      trace = h.trace ∙ ap (λ l. done ++ l) (trace_splits store t base xs performs (adds.replies store base h.cells))
+          ∙ sym (append_assoc done made (serial_trace store rest (base ++ xs)))
           ∙ ap (λ l. (done ++ made) ++ serial_trace store rest l) grown;
-      nodes_are = h.nodes_are ∙ ap (λ l. no_node ∷ l) (sym (append-nil (nodes_in done)) ∙ ap (λ l. nodes_in done ++ l) (sym (no_nodes xs)) ∙ sym (nodes_in-append done made));
-      accesses_are = joined now.accesses log.accesses (located i 0 done) (placed (at i (length nodes - 1)) xs) now'.accesses h.accesses_are adds.accesses_are ∙ ap (λ l. log.accesses ++ l) here;
-      events_are = joined now.events log.events (events.Begin i ∷ trace_events i done) (access_events i xs) now'.events h.events_are adds.events_are ∙ ap (λ l. log.events ++ (events.Begin i ∷ l)) seen;
+      nodes_are = h.nodes_are ∙ ap (λ l. no_node ∷ l) (sym (append-nil (nodes_in done)) ∙ ap (λ l. nodes_in done ++ l) (sym (no_nodes xs)) ∙ sym
+          (nodes_in-append done made));
+      accesses_are = joined now.accesses log.accesses (located i 0 done) (placed (at i (length nodes - 1)) xs) now'.accesses h.accesses_are
+          adds.accesses_are ∙ ap (λ l. log.accesses ++ l) here;
+      events_are = joined now.events log.events (events.Begin i ∷ trace_events i done) (access_events i xs) now'.events h.events_are
+          adds.events_are ∙ ap (λ l. log.events ++ (events.Begin i ∷ l)) seen;
       cells = subst (λ l. IsStateAfter store l now'.cells) grown (adds.cells store base h.cells);
     }
 
 -- a next instance is named and entered
-pub so_far_entered : (store : InitialStore) (whole : Behaviour) (before : List Access) (i : ℕ) (log : Log) (t : Behaviour) (nodes : List Node) (now : Log) (kind : Kind) (n : ℤ)
+pub so_far_entered : (store : InitialStore) (whole : Behaviour) (before : List Access) (i : ℕ) (log : Log) (t : Behaviour) (nodes : List Node)
+    (now : Log) (kind : Kind) (n : ℤ)
     → SoFar store whole before i log (Staging kind n t) nodes now
     → SoFar store whole before i log t (nodes ++ node_of kind n ∷ []) (record now { events = now.events ++ events.Advance i kind n ∷ (events.Enter i ∷ []) })
 so_far_entered store whole before i log t nodes now kind n h =
@@ -148,7 +162,8 @@ so_far_entered store whole before i log t nodes now kind n h =
     record {
       done = done ++ named;
       no_end = no_end_staged done kind n h.no_end;
-      trace = h.trace ∙ sym (append_assoc done named (serial_trace store t (before ++ accesses_in done))) ∙ ap (λ l. (done ++ named) ++ serial_trace store t (before ++ l)) same;
+      trace = h.trace ∙ sym (append_assoc done named (serial_trace store t (before ++ accesses_in done)))
+          ∙ ap (λ l. (done ++ named) ++ serial_trace store t (before ++ l)) same;
       nodes_are = ap (λ l. l ++ node_of kind n ∷ []) h.nodes_are ∙ ap (λ l. no_node ∷ l) (sym (nodes_in-append done named));
       accesses_are = h.accesses_are ∙ ap (λ l. log.accesses ++ l) (sym (located-staged i 0 done kind n));
       events_are = joined now.events log.events (events.Begin i ∷ trace_events i done) (events.Advance i kind n ∷ (events.Enter i ∷ [])) _ h.events_are refl
@@ -157,7 +172,8 @@ so_far_entered store whole before i log t nodes now kind n h =
     }
 
 -- whether a trace closes the loop, by its instances and its end
-closes_by : (done : List Action) (e : ColumnEnd) → HasNoEnd done → column_closes (record { nodes = column_of done; end = Some e }) ≡ closes_loop (done ++ Ended e ∷ [])
+closes_by : (done : List Action) (e : ColumnEnd) → HasNoEnd done
+    → column_closes (record { nodes = column_of done; end = Some e }) ≡ closes_loop (done ++ Ended e ∷ [])
 closes_by [] e h = refl
 closes_by (Accessed a ∷ done) e h = closes_by done e h
 closes_by (Staged k n ∷ done) e h =
@@ -168,7 +184,8 @@ closes_by (Ended d ∷ done) e h = absurd h
 -- the part ends
 pub part_ended : (store : InitialStore) (whole : Behaviour) (before : List Access) (i : ℕ) (log : Log) (nodes : List Node) (now : Log) (e : ColumnEnd)
     → SoFar store whole before i log (Ending e) nodes now
-    → PartRan store before (serial_trace store whole before) i log (record { nodes = nodes; end = Some e }) (record now { events = now.events ++ events.Finish i e ∷ [] })
+    → PartRan store before (serial_trace store whole before) i log (record { nodes = nodes; end = Some e })
+    (record now { events = now.events ++ events.Finish i e ∷ [] })
 part_ended store whole before i log nodes now e h =
     let done = h.done in
     let end = Ended e ∷ [] in
@@ -190,13 +207,15 @@ part_ended store whole before i log nodes now e h =
 -- ---- a machine in the middle of a part
 
 -- the machine has a behaviour left to do, and this is what was done before
-pub record Left (code : FlatCode) (cells : ℕ) (input : List ℤ) (store : InitialStore) (whole : Behaviour) (i : ℕ) (log : Log) (run : RunState) (nodes : List Node) (now : Log) : Type 0 where
+pub record Left (code : FlatCode) (cells : ℕ) (input : List ℤ) (store : InitialStore) (whole : Behaviour) (i : ℕ) (log : Log) (run : RunState)
+    (nodes : List Node) (now : Log) : Type 0 where
   pub t : Behaviour
   pub stands : StandsFor code cells input run t
   pub so_far : (before : List Access) → IsStateAfter store before log.cells → SoFar store whole before i log t nodes now
 
 -- a part begins
-pub left_begun : (code : FlatCode) (cells : ℕ) (input : List ℤ) (store : InitialStore) (whole : Behaviour) (i : ℕ) (log : Log) (run : RunState) (nodes : List Node) (now : Log)
+pub left_begun : (code : FlatCode) (cells : ℕ) (input : List ℤ) (store : InitialStore) (whole : Behaviour) (i : ℕ) (log : Log) (run : RunState)
+    (nodes : List Node) (now : Log)
     → StandsFor code cells input run whole → nodes ≡ no_node ∷ [] → now ≡ record log { events = log.events ++ events.Begin i ∷ [] }
     → Left code cells input store whole i log run nodes now
 left_begun code cells input store whole i log run nodes now stands first begun = record {
@@ -207,16 +226,19 @@ left_begun code cells input store whole i log run nodes now stands first begun =
 }
 
 -- an instance ran over the cells of the log
-one_ran : (code : FlatCode) (cells cells' : ℕ) (input : List ℤ) (t : Behaviour) (i : ℕ) (node : NodeId) (nodes : List Node) (now ran : Log) (run run' : RunState) (end end' : InstanceEnd)
+one_ran : (code : FlatCode) (cells cells' : ℕ) (input : List ℤ) (t : Behaviour) (i : ℕ) (node : NodeId) (nodes : List Node) (now ran : Log)
+    (run run' : RunState) (end end' : InstanceEnd)
     → ((d : Behaviour) → StandsFor code cells' input run d → RanFrom code cells' input d node now ran run' end)
-    → StandsFor code cells input run t → cells' ≡ cells → node ≡ at i (length nodes - 1) → end ≡ end' → RanFrom code cells input t (at i (length nodes - 1)) now ran run' end'
+    → StandsFor code cells input run t → cells' ≡ cells → node ≡ at i (length nodes - 1) → end ≡ end'
+    → RanFrom code cells input t (at i (length nodes - 1)) now ran run' end'
 one_ran code cells cells' input t i node nodes now ran run run' end end' h stands same here is =
     subst (λ c. RanFrom code c input t (at i (length nodes - 1)) now ran run' end') same
     (subst (λ x. RanFrom code cells' input t x now ran run' end') here
     (subst (λ x. RanFrom code cells' input t node now ran run' x) is (h t (subst (λ c. StandsFor code c input run t) (sym same) stands))))
 
 -- an instance ran, and the next is entered
-pub left_entered : (code : FlatCode) (cells cells' : ℕ) (input : List ℤ) (store : InitialStore) (whole : Behaviour) (i : ℕ) (log : Log) (run run' : RunState) (node : NodeId) (nodes nodes' : List Node)
+pub left_entered : (code : FlatCode) (cells cells' : ℕ) (input : List ℤ) (store : InitialStore) (whole : Behaviour) (i : ℕ) (log : Log)
+    (run run' : RunState) (node : NodeId) (nodes nodes' : List Node)
     (now ran now' : Log) (end : InstanceEnd) (kind : Kind) (n : ℤ) (h : Left code cells input store whole i log run nodes now)
     → ((d : Behaviour) → StandsFor code cells' input run d → RanFrom code cells' input d node now ran run' end)
     → cells' ≡ cells → node ≡ at i (length nodes - 1) → end ≡ instance_ends.Next kind n → nodes' ≡ nodes ++ node_of kind n ∷ []
@@ -230,11 +252,13 @@ left_entered code cells cells' input store whole i log run run' node nodes nodes
       so_far = λ before state. subst (λ x. SoFar store whole before i log one.ends.0 x now') (sym grown)
           (subst (λ (x : Log). SoFar store whole before i log one.ends.0 (nodes ++ node_of kind n ∷ []) x) (sym entered)
           (so_far_entered store whole before i log one.ends.0 nodes ran kind n
-          (subst (λ x. SoFar store whole before i log x nodes ran) one.ends.1 (so_far_ran store whole before i log h.t nodes now ran one.accesses (h.so_far before state) one.performs one.adds))));
+          (subst (λ x. SoFar store whole before i log x nodes ran) one.ends.1 (so_far_ran store whole before i log h.t nodes now ran one.accesses
+          (h.so_far before state) one.performs one.adds))));
     }
 
 -- an instance ran, and it is the last
-pub left_ended : (code : FlatCode) (cells cells' : ℕ) (input : List ℤ) (store : InitialStore) (whole : Behaviour) (i : ℕ) (log : Log) (run run' : RunState) (node : NodeId) (nodes : List Node)
+pub left_ended : (code : FlatCode) (cells cells' : ℕ) (input : List ℤ) (store : InitialStore) (whole : Behaviour) (i : ℕ) (log : Log)
+    (run run' : RunState) (node : NodeId) (nodes : List Node)
     (now ran now' : Log) (end : InstanceEnd) (e : ColumnEnd) (before : List Access) (h : Left code cells input store whole i log run nodes now)
     → ((d : Behaviour) → StandsFor code cells' input run d → RanFrom code cells' input d node now ran run' end)
     → cells' ≡ cells → node ≡ at i (length nodes - 1) → end ≡ instance_ends.Ended e → now' ≡ record ran { events = ran.events ++ events.Finish i e ∷ [] }
@@ -244,7 +268,8 @@ left_ended code cells cells' input store whole i log run run' node nodes now ran
     let one = one_ran code cells cells' input h.t i node nodes now ran run run' end (instance_ends.Ended e) did h.stands same here is in
     subst (λ (x : Log). PartRan store before (serial_trace store whole before) i log (record { nodes = nodes; end = Some e }) x) (sym finished)
     (part_ended store whole before i log nodes ran e
-    (subst (λ x. SoFar store whole before i log x nodes ran) one.ends (so_far_ran store whole before i log h.t nodes now ran one.accesses (h.so_far before state) one.performs one.adds)))
+    (subst (λ x. SoFar store whole before i log x nodes ran) one.ends (so_far_ran store whole before i log h.t nodes now ran one.accesses
+    (h.so_far before state) one.performs one.adds)))
 
 -- a limit is at most its bound
 pub natural_most : (z : ℤ) (n : ℕ) → z ≤ℤ pos n → natural z ≤ n

@@ -13,18 +13,25 @@ use Rattle.serial_elision.specs.declared.log.Log.{Log}
 use Rattle.serial_elision.specs.Recording.{Adds, HaveReplies, access_events, made_since, placed}
 
 -- replies of two lists of accesses, one after the other
-replies_more : (store : InitialStore) (before xs : List Access) (a : Access) → HaveReplies store before xs → HasReply store (before ++ xs) a → HaveReplies store before (xs ++ a ∷ [])
+replies_more : (store : InitialStore) (before xs : List Access) (a : Access) → HaveReplies store before xs → HasReply store (before ++ xs) a
+    → HaveReplies store before (xs ++ a ∷ [])
 replies_more store before [] a h r = (subst (λ l. HasReply store l a) (append-nil before) r, tt)
-replies_more store before (x ∷ xs) a h r = (h.0, replies_more store (before ++ x ∷ []) xs a h.1 (subst (λ l. HasReply store l a) (sym (append_assoc before (x ∷ []) xs)) r))
+replies_more store before (x ∷ xs) a h r = (
+  h.0,
+  replies_more store (before ++ x ∷ []) xs a h.1
+      (subst (λ l. HasReply store l a) (sym (append_assoc before (x ∷ []) xs)) r),
+)
 
 -- the accesses since then, with one more
-pub made_more : (log now now' : Log) (node : NodeId) (made : List Access) (a : Access) → Adds node log made now → now'.accesses ≡ now.accesses ++ record { node = node; access = a } ∷ []
+pub made_more : (log now now' : Log) (node : NodeId) (made : List Access) (a : Access) → Adds node log made now
+    → now'.accesses ≡ now.accesses ++ record { node = node; access = a } ∷ []
     → made_since log now' ≡ made_since log now ++ a ∷ []
 made_more log now now' node made a h e =
     let n = length log.accesses in
     let x : NodeAccess = record { node = node; access = a } in
     let enough : n ≤ length now.accesses = omega (arith, ap length h.accesses_are, length-append log.accesses (placed node made)) in
-    ap (λ l. accesses_of (drop n l)) e ∙ ap accesses_of (drop-append-le n now.accesses (x ∷ []) enough) ∙ map-append (λ (y : NodeAccess). y.access) (drop n now.accesses) (x ∷ [])
+    ap (λ l. accesses_of (drop n l)) e ∙ ap accesses_of (drop-append-le n now.accesses (x ∷ []) enough)
+    ∙ map-append (λ (y : NodeAccess). y.access) (drop n now.accesses) (x ∷ [])
 
 -- an access was made, and recorded
 pub adds_more : (log now now' : Log) (node : NodeId) (a : Access) → Adds node log (made_since log now) now
@@ -37,10 +44,13 @@ adds_more log now now' node a h accesses recorded state reply =
     let made = made_since log now in
     let x : NodeAccess = record { node = node; access = a } in
     subst (λ l. Adds node log l now') (sym (made_more log now now' node made a h accesses)) (record {
-      accesses_are = accesses ∙ ap (λ l. l ++ x ∷ []) h.accesses_are ∙ append_assoc log.accesses (placed node made) (x ∷ []) ∙ ap (λ l. log.accesses ++ l) (sym (map-append (λ (b : Access). record { node = node; access = b }) made (a ∷ [])));
-      events_are = recorded ∙ ap (λ l. l ++ events.Access node.iteration a ∷ []) h.events_are ∙ append_assoc log.events (access_events node.iteration made) (events.Access node.iteration a ∷ [])
+      accesses_are = accesses ∙ ap (λ l. l ++ x ∷ []) h.accesses_are ∙ append_assoc log.accesses (placed node made) (x ∷ [])
+          ∙ ap (λ l. log.accesses ++ l) (sym (map-append (λ (b : Access). record { node = node; access = b }) made (a ∷ [])));
+      events_are = recorded ∙ ap (λ l. l ++ events.Access node.iteration a ∷ []) h.events_are
+          ∙ append_assoc log.events (access_events node.iteration made) (events.Access node.iteration a ∷ [])
           ∙ ap (λ l. log.events ++ l) (sym (map-append (λ (b : Access). events.Access node.iteration b) made (a ∷ [])));
-      cells = λ store before was. subst (λ l. IsStateAfter store l now'.cells) (append_assoc before made (a ∷ [])) (state store (before ++ made) (h.cells store before was));
+      cells = λ store before was. subst (λ l. IsStateAfter store l now'.cells) (append_assoc before made (a ∷ []))
+          (state store (before ++ made) (h.cells store before was));
       replies = λ store before was. replies_more store before made a (h.replies store before was) (reply store (before ++ made) (h.cells store before was));
     })
 

@@ -35,7 +35,8 @@ CountsNext (instance_ends.Next kind n) count count' stages = (count' ≡ count +
 CountsNext (instance_ends.Ended e) count count' stages = Unit {0}
 
 -- an instance of the behaviour ran from one log to another, up to its end
-pub record RanFrom (code : FlatCode) (cells : ℕ) (input : List ℤ) (t : Behaviour) (node : NodeId) (log now : Log) (run : RunState) (end : InstanceEnd) : Type 0 where
+pub record RanFrom (code : FlatCode) (cells : ℕ) (input : List ℤ) (t : Behaviour) (node : NodeId) (log now : Log) (run : RunState)
+    (end : InstanceEnd) : Type 0 where
   pub accesses : List Access
   pub performs : Performs t (map Accessed accesses)
   pub adds : Adds node log accesses now

@@ -1,5 +1,5 @@
 use Rattle.std.proofs.Common.{◌∙◌, sym, arith}
-use Rattle.cilkp_program.proofs.AnswerStatus.{answer_has_cause, answer_is_logged, answer_is_small, no_write_fault}
+use Rattle.cilkp_program.proofs.ResultStatus.{result_has_cause, result_is_logged, result_is_small, no_write_fault}
 use Rattle.cilkp_program.proofs.GivenUp.{text_cut_short, text_whole, given_up_writing}
 use Rattle.cilkp_program.proofs.FormatLaws.{text_printed}
 use Rattle.cilkp_program.proofs.HeadlineLaws.{printed_meets}
@@ -10,15 +10,17 @@ use Rattle.cilkp_program.proofs.call.cilkp.Goals as goal
 pub returns-in-NoMemory-clause-given_up : goal.returns-in-NoMemory-clause-given_up
 returns-in-NoMemory-clause-given_up g c =
     let w = c.write_text-written.ensures in
-    given_up_writing _ _ _ _ _ _ _ _ _ (text_cut_short _ _ _ _ _ _ _ _ _ _ _ _ c.in_ok-answer.ensures.answer (rw c.as_slice.ensures at w.count) (rw c.as_slice.ensures at w.whole)
+    given_up_writing _ _ _ _ _ _ _ _ _ (text_cut_short _ _ _ _ _ _ _ _ _ _ _ _ c.in_ok-outcome.ensures.outcome (rw c.as_slice.ensures at w.count)
+    (rw c.as_slice.ensures at w.whole)
     (λ e. let f = c.in-NoMemory.is in cc (e, f)) (rw c.as_slice.ensures at w.taken))
 
 pub returns-clause-cut_short : goal.returns-clause-cut_short
 returns-clause-cut_short g c = λ five.
     let w = c.write_text-written.ensures in
     elim c.match-written.branch [
-      | in-Whole b ↦ absurd (no_write_fault c.in_ok-answer.ensures.answer (sym b.status-is ∙ five))
-      | in-Failed b ↦ text_cut_short _ _ _ _ _ _ _ _ _ _ _ _ c.in_ok-answer.ensures.answer (rw c.as_slice.ensures at w.count) (rw c.as_slice.ensures at w.whole)
+      | in-Whole b ↦ absurd (no_write_fault c.in_ok-outcome.ensures.outcome (sym b.status-is ∙ five))
+      | in-Failed b ↦ text_cut_short _ _ _ _ _ _ _ _ _ _ _ _ c.in_ok-outcome.ensures.outcome (rw c.as_slice.ensures at w.count)
+          (rw c.as_slice.ensures at w.whole)
           (λ e. let f = b.in-Failed.is in cc (e, f)) (rw c.as_slice.ensures at w.taken)
     ]
 
@@ -26,7 +28,7 @@ pub returns-clause-headline : goal.returns-clause-headline
 returns-clause-headline g c = λ calm_files calm_out.
     let w = c.write_text-written.ensures in
     elim c.match-written.branch [
-      | in-Whole b ↦ rw b.status-is (printed_meets _ _ _ _ _ _ _ _ _ _ calm_files (text_whole _ _ _ _ _ _ _ _ _ _ _ c.in_ok-answer.ensures.answer
+      | in-Whole b ↦ rw b.status-is (printed_meets _ _ _ _ _ _ _ _ _ _ calm_files (text_whole _ _ _ _ _ _ _ _ _ _ _ c.in_ok-outcome.ensures.outcome
           ((rw c.as_slice.ensures at w.whole).0 b.in-Whole.is) (rw c.as_slice.ensures at w.taken)))
       | in-Failed b ↦ (let cause = rw b.in-Failed.is at w.cause in absurd (calm_out cause.1))
     ]
@@ -35,7 +37,7 @@ pub returns-clause-serial : goal.returns-clause-serial
 returns-clause-serial g c = λ calm_files calm_out.
     let w = c.write_text-written.ensures in
     elim c.match-written.branch [
-      | in-Whole b ↦ rw b.status-is (printed_elision _ _ _ _ _ _ _ _ _ _ calm_files (text_whole _ _ _ _ _ _ _ _ _ _ _ c.in_ok-answer.ensures.answer
+      | in-Whole b ↦ rw b.status-is (printed_elision _ _ _ _ _ _ _ _ _ _ calm_files (text_whole _ _ _ _ _ _ _ _ _ _ _ c.in_ok-outcome.ensures.outcome
           ((rw c.as_slice.ensures at w.whole).0 b.in-Whole.is) (rw c.as_slice.ensures at w.taken)))
       | in-Failed b ↦ (let cause = rw b.in-Failed.is at w.cause in absurd (calm_out cause.1))
     ]
@@ -44,7 +46,7 @@ pub returns-clause-formatted : goal.returns-clause-formatted
 returns-clause-formatted g c = λ calm_files calm_out.
     let w = c.write_text-written.ensures in
     elim c.match-written.branch [
-      | in-Whole b ↦ rw b.status-is (text_printed _ _ _ _ _ _ _ _ _ _ calm_files (text_whole _ _ _ _ _ _ _ _ _ _ _ c.in_ok-answer.ensures.answer
+      | in-Whole b ↦ rw b.status-is (text_printed _ _ _ _ _ _ _ _ _ _ calm_files (text_whole _ _ _ _ _ _ _ _ _ _ _ c.in_ok-outcome.ensures.outcome
           ((rw c.as_slice.ensures at w.whole).0 b.in-Whole.is) (rw c.as_slice.ensures at w.taken)))
       | in-Failed b ↦ (let cause = rw b.in-Failed.is at w.cause in absurd (calm_out cause.1))
     ]
@@ -52,27 +54,27 @@ returns-clause-formatted g c = λ calm_files calm_out.
 pub returns-clause-logged : goal.returns-clause-logged
 returns-clause-logged g c = λ other.
     elim c.match-written.branch [
-      | in-Whole b ↦ rw b.status-is (answer_is_logged c.in_ok-answer.ensures.answer)
+      | in-Whole b ↦ rw b.status-is (result_is_logged c.in_ok-outcome.ensures.outcome)
       | in-Failed b ↦ absurd (other b.status-is)
     ]
 
 pub returns-clause-read_fault : goal.returns-clause-read_fault
 returns-clause-read_fault g c = λ four.
     elim c.match-written.branch [
-      | in-Whole b ↦ answer_has_cause c.in_ok-answer.ensures.answer (sym b.status-is ∙ four)
+      | in-Whole b ↦ result_has_cause c.in_ok-outcome.ensures.outcome (sym b.status-is ∙ four)
       | in-Failed b ↦ (let five = b.status-is in absurd (omega (arith, five, four)))
     ]
 
 pub returns-clause-write_fault : goal.returns-clause-write_fault
 returns-clause-write_fault g c = λ five.
     elim c.match-written.branch [
-      | in-Whole b ↦ absurd (no_write_fault c.in_ok-answer.ensures.answer (sym b.status-is ∙ five))
+      | in-Whole b ↦ absurd (no_write_fault c.in_ok-outcome.ensures.outcome (sym b.status-is ∙ five))
       | in-Failed b ↦ (let cause = rw b.in-Failed.is at c.write_text-written.ensures.cause in cause.1)
     ]
 
 pub returns-clause-statuses : goal.returns-clause-statuses
 returns-clause-statuses g c =
     elim c.match-written.branch [
-      | in-Whole b ↦ (let same = b.status-is in let small = answer_is_small c.in_ok-answer.ensures.answer in omega (arith, same, small))
+      | in-Whole b ↦ (let same = b.status-is in let small = result_is_small c.in_ok-outcome.ensures.outcome in omega (arith, same, small))
       | in-Failed b ↦ (let five = b.status-is in omega (arith, five))
     ]

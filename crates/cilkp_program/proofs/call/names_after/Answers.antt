@@ -14,7 +14,9 @@ returns-then-eq-clause-some c =
 
 pub returns-else-eq-clause-none : goal.returns-else-eq-clause-none
 returns-else-eq-clause-none c = λ source input e.
-    let all = sym (three_words c.args.words.now c.first-item.result c.source-item.result c.input-item.result (omega arith) c.first-item.is c.source-item.is c.input-item.is) ∙ e in
+    let all = sym (three_words c.args.words.now c.first-item.result c.source-item.result c.input-item.result (omega arith) c.first-item.is
+    c.source-item.is c.input-item.is) ∙ e in
     let same : string_bytes c.first-item.result ≡ c.args.command.now = cc (all) in
-    let yes : bytes_eq c.as_str.result.now c.args.command.now ≡ true = (bytes_eq-Decides c.as_str.result.now c.args.command.now).1 (c.as_str.ensures.value ∙ same) in
+    let yes : bytes_eq c.as_str.result.now c.args.command.now ≡ true =
+    (bytes_eq-Decides c.as_str.result.now c.args.command.now).1 (c.as_str.ensures.value ∙ same) in
     cc (yes, c.eq.ensures, c.if-eq.false)

@@ -4,7 +4,8 @@ use Rattle.cilkp_program.proofs.call.prepare.Goals as goal
 
 pub returns-in-Refused-clause-prepared : goal.returns-in-Refused-clause-prepared
 returns-in-Refused-clause-prepared g c =
-    rw c.refused.ensures (source_refused _ _ _ _ _ _ (rw c.in-Refused.is at c.in_ok-program.ensures.cause) (rw c.in-Refused.is at c.in_ok-program.ensures.answer))
+    rw c.refused.ensures (source_refused _ _ _ _ _ _ (rw c.in-Refused.is at c.in_ok-program.ensures.cause)
+    (rw c.in-Refused.is at c.in_ok-program.ensures.outcome))
 
 pub returns-in-Failed-clause-prepared : goal.returns-in-Failed-clause-prepared
 returns-in-Failed-clause-prepared g c =
@@ -12,16 +13,18 @@ returns-in-Failed-clause-prepared g c =
 
 pub returns-in-Empty-clause-prepared : goal.returns-in-Empty-clause-prepared
 returns-in-Empty-clause-prepared g c =
-    files_ready _ _ _ _ _ _ _ _ c.in_ok-program.ensures.keeps (rw c.in-Accepted.is at c.in_ok-program.ensures.cause) (rw c.in-Empty.is at c.in_ok-load_input.ensures.cause)
-    (rw c.in-Accepted.is at c.in_ok-program.ensures.answer) (rw c.in-Empty.is at c.in_ok-load_input.ensures.answer)
+    files_ready _ _ _ _ _ _ _ _ c.in_ok-program.ensures.keeps (rw c.in-Accepted.is at c.in_ok-program.ensures.cause)
+    (rw c.in-Empty.is at c.in_ok-load_input.ensures.cause)
+    (rw c.in-Accepted.is at c.in_ok-program.ensures.outcome) (rw c.in-Empty.is at c.in_ok-load_input.ensures.outcome)
 
 pub returns-in-Refused-2-clause-prepared : goal.returns-in-Refused-2-clause-prepared
 returns-in-Refused-2-clause-prepared g c =
     rw c.refused-in-Refused-2.ensures (input_refused _ _ _ _ _ _ _ _ _ c.in_ok-program.ensures.keeps (rw c.in-Accepted.is at c.in_ok-program.ensures.cause)
-    (rw c.in-Refused-2.is at c.in_ok-load_input.ensures.cause) (rw c.in-Accepted.is at c.in_ok-program.ensures.answer) (rw c.in-Refused-2.is at c.in_ok-load_input.ensures.answer))
+    (rw c.in-Refused-2.is at c.in_ok-load_input.ensures.cause) (rw c.in-Accepted.is at c.in_ok-program.ensures.outcome)
+    (rw c.in-Refused-2.is at c.in_ok-load_input.ensures.outcome))
 
 pub returns-in_ok-read_fault-in-Failed-2-clause-prepared :
     goal.returns-in_ok-read_fault-in-Failed-2-clause-prepared
 returns-in_ok-read_fault-in-Failed-2-clause-prepared g c =
     rw c.in_ok-read_fault-in-Failed-2.ensures (input_failed _ _ _ _ _ _ _ (rw c.in-Accepted.is at c.in_ok-program.ensures.cause)
-    (rw c.in-Failed-2.is at c.in_ok-load_input.ensures.cause) (rw c.in-Accepted.is at c.in_ok-program.ensures.answer))
+    (rw c.in-Failed-2.is at c.in_ok-load_input.ensures.cause) (rw c.in-Accepted.is at c.in_ok-program.ensures.outcome))

@@ -1,17 +1,17 @@
 use Rattle.std.proofs.Common.{ap, Some}
 use Rattle.pipe_model.specs.Language.SyntaxTree.{tree_of}
-use Rattle.cilkp_program.proofs.SerialDags.{outcome_of_run, told_accesses_inside, told_columns_rise, told_log}
+use Rattle.cilkp_program.proofs.SerialDags.{outcome_of_run, given_accesses_inside, given_columns_rise, given_log}
 use Rattle.cilkp_program.proofs.call.run_program.Goals as goal
 
 pub run_serial-requires : goal.run_serial-requires
 run_serial-requires c = record { code = record { accepted = c.requires.1.obeys; limits = c.in_ok-code.ensures.limits; runs = c.in_ok-code.ensures.runs } }
 
 pub of-requires : goal.of-requires
-of-requires c = told_columns_rise _ _ _ c.requires.1 (rw c.new.ensures at c.in_ok-output.ensures.columns)
+of-requires c = given_columns_rise _ _ _ c.requires.1 (rw c.new.ensures at c.in_ok-output.ensures.columns)
 
 pub races-requires : goal.races-requires
 races-requires c =
-    told_accesses_inside _ _ _ _ _ c.requires.1 c.in_ok-of.ensures (rw c.new.ensures at c.in_ok-output.ensures.columns)
+    given_accesses_inside _ _ _ _ _ c.requires.1 c.in_ok-of.ensures (rw c.new.ensures at c.in_ok-output.ensures.columns)
     (rw c.new.ensures at c.in_ok-output.ensures.accesses)
 
 pub returns-clause-outcome : goal.returns-clause-outcome
@@ -22,4 +22,5 @@ returns-clause-outcome c =
 
 pub returns-clause-log : goal.returns-clause-log
 returns-clause-log c =
-    ap Some (told_log (tree_of c.args.checked.now) _ _ (rw c.new.ensures at c.in_ok-output.ensures.columns) (rw c.new.ensures at c.in_ok-output.ensures.events))
+    ap Some (given_log (tree_of c.args.checked.now) _ _ (rw c.new.ensures at c.in_ok-output.ensures.columns)
+    (rw c.new.ensures at c.in_ok-output.ensures.events))

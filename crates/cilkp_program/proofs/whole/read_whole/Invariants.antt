@@ -1,5 +1,5 @@
 use Rattle.std.proofs.Common.{◌≡◌, ◌-◌, ◌+◌, length, IfSome}
-use Rattle.cilkp_program.specs.WholeFiles.{IsFrontOf}
+use Rattle.cilkp_program.specs.WholeFiles.{IsPrefixOf}
 use Rattle.cilkp_program.proofs.whole.read_whole.Given as goal
 
 abbrev pub invariant-loop-part : goal.invariant-loop-part
@@ -7,7 +7,7 @@ invariant-loop-part g l = record {
   holds : g.F.Files.holds l.files ≡ g.F.Files.holds l.fn.files;
   count : g.F.Files.faults l.files ≡ g.F.Files.faults l.fn.files;
   room : length l.part ≡ 4096;
-  front : IfSome (g.F.Files.holds l.files) (λ content. IsFrontOf (content l.name) l.bytes.items);
+  prefix : IfSome (g.F.Files.holds l.files) (λ content. IsPrefixOf (content l.name) l.bytes.items);
 }
 
 abbrev pub decreases-loop-part : goal.decreases-loop-part

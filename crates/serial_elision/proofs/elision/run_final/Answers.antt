@@ -15,7 +15,8 @@ returns-then-is_some c =
     let run = c.args.run in
     let some : is_some run.trap ≡ true = sym c.is_some.ensures ∙ c.if-is_some.true in
     trapped_in_loop w run c.into_output.result c.requires.no_trap c.requires.ran some
-    (c.into_output.ensures.output w.loop.store (init_accesses w ++ accesses_of run.log.accesses) c.requires.ran.cells (has_output run.log.cells c.requires.serves.whole))
+    (c.into_output.ensures.output w.loop.store (init_accesses w ++ accesses_of run.log.accesses) c.requires.ran.cells
+    (has_output run.log.cells c.requires.serves.whole))
 
 pub returns : goal.returns
 returns c =
@@ -24,5 +25,6 @@ returns c =
     let before = init_accesses w ++ accesses_of run.log.accesses in
     let none : is_some run.trap ≡ false = sym c.is_some.ensures ∙ c.if-is_some.false in
     ran_to_end w run c.into_output-2.result c.in_ok-trap.trap c.requires.no_trap c.requires.ran none (c.in_ok-trap.ensures.trap before c.requires.ran.cells)
-    (c.into_output-2.ensures.output w.loop.store (before ++ accesses_in (last_trace w (accesses_of run.log.accesses))) (c.in_ok-trap.ensures.state before c.requires.ran.cells)
+    (c.into_output-2.ensures.output w.loop.store (before ++ accesses_in (last_trace w (accesses_of run.log.accesses)))
+    (c.in_ok-trap.ensures.state before c.requires.ran.cells)
     (has_output c.in_ok-trap.cells c.in_ok-trap.ensures.serves.whole))

@@ -16,11 +16,14 @@ loop-iteration-init c =
     let p = loop_after_init (whole_of tree c.args.prepared.now.input.now) in
     let log = c.new-log.result in
     let begun = c.new-log.ensures in
-    let limit : c.last_iteration-last.result ≡ natural tree.limits.iterations = c.last_iteration-last.ensures.limit ∙ ap (λ (l : Limits). natural l.iterations) c.requires.code.limits in
+    let limit : c.last_iteration-last.result ≡ natural tree.limits.iterations = c.last_iteration-last.ensures.limit
+    ∙ ap (λ (l : Limits). natural l.iterations) c.requires.code.limits in
     let all : p.last_iteration + 1 ≡ c.last_iteration-last.result + 1 - 0 = omega (arith, limit) in
     record {
-      elided = subst (λ n. Elided p n 0 c.new-columns.result None log) all (subst (λ l. Elided p (p.last_iteration + 1) 0 l None log) (sym c.new-columns.ensures)
-          (elided_none p log (ap (λ (l : Log). l.accesses) begun) (ap (λ (l : Log). l.events) begun) (subst (λ (l : Log). IsStateAfter p.store p.preamble l.cells) (sym begun) c.requires.state)));
+      elided = subst (λ n. Elided p n 0 c.new-columns.result None log) all (subst (λ l. Elided p (p.last_iteration + 1) 0 l None log)
+          (sym c.new-columns.ensures)
+          (elided_none p log (ap (λ (l : Log). l.accesses) begun) (ap (λ (l : Log). l.events) begun)
+          (subst (λ (l : Log). IsStateAfter p.store p.preamble l.cells) (sym begun) c.requires.state)));
       made = c.requires.made;
       serves = subst (λ (l : Log). Serves tree l.cells) (sym begun) c.requires.serves;
     }
@@ -34,8 +37,10 @@ loop-iteration-preserved c =
     let more : last + 1 - s.iteration ≡ suc rest = omega (arith, c.loop-iteration-test.true) in
     let was = subst (λ n. Elided p n s.iteration s.columns s.trap s.log) more s.invariant.elided in
     record {
-      elided = elided_push p rest rest s.iteration s.columns c.push.new.self s.trap c.column_trap.result c.or-trap.result s.log c.in_ok-column.ran c.in_ok-column.column c.column_closes-closes.result
-          was (c.in_ok-column.ensures.ran _ s.invariant.elided.cells) c.column_closes-closes.ensures (λ h. absurd (let e : false ≡ true = sym c.if-closes.false ∙ h in cc (e))) (λ h. refl)
+      elided = elided_push p rest rest s.iteration s.columns c.push.new.self s.trap c.column_trap.result c.or-trap.result s.log
+          c.in_ok-column.ran c.in_ok-column.column c.column_closes-closes.result
+          was (c.in_ok-column.ensures.ran _ s.invariant.elided.cells) c.column_closes-closes.ensures
+          (λ h. absurd (let e : false ≡ true = sym c.if-closes.false ∙ h in cc (e))) (λ h. refl)
           c.in_ok-push.ensures.ok c.or-trap.ensures c.column_trap.ensures;
       made = c.in_ok-column.ensures.made c.args.prepared.now.code.now s.invariant.made;
       serves = c.in_ok-column.ensures.serves;
@@ -49,8 +54,10 @@ returns-then-closes-clause-ran c =
     let more : last + 1 - s.iteration ≡ suc (last - s.iteration) = omega (arith, c.loop-iteration-test.true) in
     let was = subst (λ n. Elided p n s.iteration s.columns s.trap s.log) more s.invariant.elided in
     elided_all p (s.iteration + 1) c.push.new.self c.or-trap.result c.in_ok-column.ran
-    (elided_push p (last - s.iteration) zero s.iteration s.columns c.push.new.self s.trap c.column_trap.result c.or-trap.result s.log c.in_ok-column.ran c.in_ok-column.column c.column_closes-closes.result
-    was (c.in_ok-column.ensures.ran _ s.invariant.elided.cells) c.column_closes-closes.ensures (λ h. refl) (λ h. absurd (let e : true ≡ false = sym c.if-closes.true ∙ h in cc (e)))
+    (elided_push p (last - s.iteration) zero s.iteration s.columns c.push.new.self s.trap c.column_trap.result c.or-trap.result s.log
+    c.in_ok-column.ran c.in_ok-column.column c.column_closes-closes.result
+    was (c.in_ok-column.ensures.ran _ s.invariant.elided.cells) c.column_closes-closes.ensures (λ h. refl)
+    (λ h. absurd (let e : true ≡ false = sym c.if-closes.true ∙ h in cc (e)))
     c.in_ok-push.ensures.ok c.or-trap.ensures c.column_trap.ensures)
 
 pub returns-then-closes-clause-made : goal.returns-then-closes-clause-made

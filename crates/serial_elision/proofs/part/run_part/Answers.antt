@@ -22,7 +22,8 @@ loop-nodes-init c =
     let begun = c.in_ok-log.ensures in
     let one = ap length c.in_ok-nodes.ensures in
     record {
-      left = left_begun code cells input (store_of tree) (behaviour_in tree input c.args.part c.args.iteration) c.args.iteration c.args.log c.reset.new.self.run c.in_ok-nodes.nodes c.in_ok-log.log
+      left = left_begun code cells input (store_of tree) (behaviour_in tree input c.args.part c.args.iteration) c.args.iteration c.args.log
+          c.reset.new.self.run c.in_ok-nodes.nodes c.in_ok-log.log
           stands c.in_ok-nodes.ensures begun;
       made = c.reset.ensures.made;
       shard = ap (λ (l : Log). l.cells.shard) begun;
@@ -42,13 +43,16 @@ loop-nodes-preserved c =
     let fits : SFits w64 c.in-Next.number = search rules in
     let entered = simp to_z-of_z at c.in_ok-log-in-Next.ensures in
     let grown = simp to_z-of_z at c.in_ok-push-in-Next.ensures.ok in
-    let counts = subst (λ e. CountsNext e s.machine.run.state.stage.count c.run_instance.new.machine.run.state.stage.count (natural code.limits.stages)) c.in-Next.is c.in_ok-end.ensures.counts in
+    let counts = subst (λ e. CountsNext e s.machine.run.state.stage.count c.run_instance.new.machine.run.state.stage.count
+    (natural code.limits.stages)) c.in-Next.is c.in_ok-end.ensures.counts in
     let more = counts.0 in
     let within = counts.1 in
     let longer = ap length grown ∙ length-append s.nodes _ in
     record {
-      left = left_entered code c.args.log.cells.shard.cells s.log.cells.shard.cells input (store_of tree) (behaviour_in tree input c.args.part c.args.iteration) c.args.iteration c.args.log s.machine.run
-          c.run_instance.new.machine.run c.last_node-node.result s.nodes c.push.new.self s.log ran c.in_ok-log-in-Next.log c.in_ok-end.end c.in-Next.kind c.in-Next.number s.invariant.left
+      left = left_entered code c.args.log.cells.shard.cells s.log.cells.shard.cells input (store_of tree)
+          (behaviour_in tree input c.args.part c.args.iteration) c.args.iteration c.args.log s.machine.run
+          c.run_instance.new.machine.run c.last_node-node.result s.nodes c.push.new.self s.log ran c.in_ok-log-in-Next.log c.in_ok-end.end
+          c.in-Next.kind c.in-Next.number s.invariant.left
           c.in_ok-end.ensures.ran (ap (λ x. x.cells) s.invariant.shard) c.last_node-node.ensures c.in-Next.is grown entered;
       made = λ k h. c.run_instance.ensures.made k (s.invariant.made k h);
       shard = ap (λ (l : Log). l.cells.shard) entered ∙ c.in_ok-end.ensures.shard ∙ s.invariant.shard;
@@ -64,8 +68,10 @@ returns-in-Ended-clause-ran c = λ before state.
     let code = c.args.prepared.now.code.now in
     let input = c.args.prepared.now.input.now in
     let s = c.loop-nodes in
-    left_ended code c.args.log.cells.shard.cells s.log.cells.shard.cells input (store_of tree) (behaviour_in tree input c.args.part c.args.iteration) c.args.iteration c.args.log s.machine.run
-    c.run_instance.new.machine.run c.last_node-node.result s.nodes s.log c.in_ok-end.ran c.in_ok-finish-in-Ended.field-0 c.in_ok-end.end c.in-Ended.end before s.invariant.left
+    left_ended code c.args.log.cells.shard.cells s.log.cells.shard.cells input (store_of tree)
+    (behaviour_in tree input c.args.part c.args.iteration) c.args.iteration c.args.log s.machine.run
+    c.run_instance.new.machine.run c.last_node-node.result s.nodes s.log c.in_ok-end.ran c.in_ok-finish-in-Ended.field-0 c.in_ok-end.end
+    c.in-Ended.end before s.invariant.left
     c.in_ok-end.ensures.ran (ap (λ x. x.cells) s.invariant.shard) c.last_node-node.ensures c.in-Ended.is c.in_ok-finish-in-Ended.ensures state
 
 pub returns-in-Ended-clause-made : goal.returns-in-Ended-clause-made

@@ -12,7 +12,8 @@ abbrev pub invariant-loop-nodes : goal.invariant-loop-nodes
 invariant-loop-nodes l =
     let tree = tree_of l.prepared.checked.now in
     let input = l.prepared.input.now in record {
-      left : Left l.prepared.code.now l.fn.log.cells.shard.cells input (store_of tree) (behaviour_in tree input l.fn.part l.iteration) l.iteration l.fn.log l.machine.run l.nodes l.log;
+      left : Left l.prepared.code.now l.fn.log.cells.shard.cells input (store_of tree) (behaviour_in tree input l.fn.part l.iteration)
+          l.iteration l.fn.log l.machine.run l.nodes l.log;
       made : (code : FlatCode) → IsMadeFor code l.fn.machine → IsMadeFor code l.machine;
       shard : l.log.cells.shard ≡ l.fn.log.cells.shard;
       whole : IsWhole l.log.cells;

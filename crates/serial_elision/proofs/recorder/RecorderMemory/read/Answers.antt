@@ -19,7 +19,8 @@ invariant_of-self-else-not-record_access g c =
     let events = simp to_z-of_z at c.if-not-record_access.ensures.events in
     let adds = subst (λ (x : NodeId). Adds x log (made_since log was) was) (sym is.node_is) (is.adds c.if-self.false) in
     let more = adds_more log was now c.self.inside.node (read_access c.args.cell.0 c.read-value.result) adds accesses events
-    (λ store before state. rw c.record_access.ensures.cells (c.read-value.ensures.state store before state)) (λ store before state kind. c.read-value.ensures.value store before state) in
+    (λ store before state. rw c.record_access.ensures.cells (c.read-value.ensures.state store before state))
+    (λ store before state kind. c.read-value.ensures.value store before state) in
     record {
       node_is = is.node_is;
       whole = rw c.record_access.ensures.cells is.whole;

@@ -55,7 +55,8 @@ without_log unlogged is = record {
 }
 
 -- a run
-with_run : {words : List (List ℕ)} {before now status : ℕ} (log : RunLog) → (IsUnlogged words → ⊥) → IsRunStatus status → TellsStatus words before now status (Some log)
+with_run : {words : List (List ℕ)} {before now status : ℕ} (log : RunLog) → (IsUnlogged words → ⊥) → IsRunStatus status
+    → TellsStatus words before now status (Some log)
 with_run {words} {before} {now} {status} log run is =
     let some : (Some log ≡ None) → ⊥ = λ e. cc (e) in
     record {
@@ -89,24 +90,24 @@ tells_status : {words : List (List ℕ)} {holds : Option Content} {before now st
     → IsCallResult words holds before now status text log reports → TellsStatus words before now status log
 tells_status (OfRow same row) = row_status row.row
 tells_status (SourceFault s grew rose w) = read_fault rose
-tells_status (InputFault s i file tree grew rose w told of) = read_fault rose
+tells_status (InputFault s i file tree grew rose w known of) = read_fault rose
 
 -- no result has the status of a write that failed
 pub no_write_fault : {words : List (List ℕ)} {holds : Option Content} {before now status : ℕ} {text : List ℕ} {log : Option RunLog} {reports : List Report}
     → IsCallResult words holds before now status text log reports → status ≡ 5 → ⊥
-no_write_fault answer five = let t = tells_status answer in let small = t.small in absurd (omega (arith, small, five))
+no_write_fault outcome five = let t = tells_status outcome in let small = t.small in absurd (omega (arith, small, five))
 
 -- the status is at most 4
-pub answer_is_small : {words : List (List ℕ)} {holds : Option Content} {before now status : ℕ} {text : List ℕ} {log : Option RunLog} {reports : List Report}
+pub result_is_small : {words : List (List ℕ)} {holds : Option Content} {before now status : ℕ} {text : List ℕ} {log : Option RunLog} {reports : List Report}
     → IsCallResult words holds before now status text log reports → status ≤ 4
-answer_is_small answer = let t = tells_status answer in t.small
+result_is_small outcome = let t = tells_status outcome in t.small
 
 -- the status 4 has its cause
-pub answer_has_cause : {words : List (List ℕ)} {holds : Option Content} {before now status : ℕ} {text : List ℕ} {log : Option RunLog} {reports : List Report}
+pub result_has_cause : {words : List (List ℕ)} {holds : Option Content} {before now status : ℕ} {text : List ℕ} {log : Option RunLog} {reports : List Report}
     → IsCallResult words holds before now status text log reports → status ≡ 4 → CountRose before now
-answer_has_cause answer four = let t = tells_status answer in t.fault four
+result_has_cause outcome four = let t = tells_status outcome in t.fault four
 
 -- there is a run log, unless the call was refused, a read failed, or the words are a `format` or a `serial` command
-pub answer_is_logged : {words : List (List ℕ)} {holds : Option Content} {before now status : ℕ} {text : List ℕ} {log : Option RunLog} {reports : List Report}
+pub result_is_logged : {words : List (List ℕ)} {holds : Option Content} {before now status : ℕ} {text : List ℕ} {log : Option RunLog} {reports : List Report}
     → IsCallResult words holds before now status text log reports → (log ≡ None) ↔ ((status ≡ 1) ⊎ ((status ≡ 4) ⊎ (IsFormat words ⊎ IsSerial words)))
-answer_is_logged answer = let t = tells_status answer in t.logged
+result_is_logged outcome = let t = tells_status outcome in t.logged
