@@ -1,6 +1,6 @@
 //! The serial elision of a whole program.
 
-ghost use Rattle.std.specs.Prelude.{◌≡◌, ◌++◌, ◌<◌, [], List, IfOk, IsTrue, is_some, false, true};
+ghost use Rattle.std.specs.Prelude.{◌≡◌, ◌++◌, [], List, IfOk, is_some, false};
 ghost use Rattle.cell_store.specs.ShardState.{IsStateAfter};
 ghost use Rattle.pipe_model.specs.declared.access.Access.{Access};
 ghost use Rattle.pipe_model.specs.Language.Programs.{store_of};
@@ -9,7 +9,7 @@ ghost use Rattle.pipe_model.specs.Language.SyntaxTree.{tree_of};
 ghost use Rattle.pipe_model.specs.Pipelines.Behaviour.{accesses_in, trace_end};
 ghost use Rattle.pipe_model.specs.Pipelines.SerialElision.{serial_trace};
 ghost use Rattle.pipe_model.specs.Pipelines.WholePrograms as whole_programs;
-ghost use Rattle.pipe_model.specs.Pipelines.WholePrograms.{init_accesses, init_trap, loop_accesses, loop_after_init, program_columns, program_log, program_output, program_trap};
+ghost use Rattle.pipe_model.specs.Pipelines.WholePrograms.{init_trap, loop_accesses, loop_after_init, program_columns, program_log, program_output, program_trap};
 ghost use Rattle.stage_interp.specs.MachineState.{IsMadeFor};
 ghost use Rattle.stage_interp.specs.Standing.{IsCodeOf, behaviour_in};
 ghost use Rattle.serial_elision.specs.Elisions.{IsElision};
@@ -57,7 +57,8 @@ fn first_cells(alloc: Global, checked: &Checked) -> Result<Cells, NoMemory>
     Cells::new(alloc, checked, 0, 1)
 }
 
-// Runs `init` or `final`, whose accesses are not part of the result. Returns its trap.
+// Runs `init` or `final`. Its accesses are not part of the result: they are recorded in a log that
+// is then dropped. Returns its trap.
 fn run_alone(
     alloc: Global,
     machine: &mut Machine,

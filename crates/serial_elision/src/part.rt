@@ -6,7 +6,6 @@ ghost use Rattle.pipe_model.specs.declared.access.Access.{Access};
 ghost use Rattle.pipe_model.specs.declared.event.Event.TheVariants as events;
 ghost use Rattle.pipe_model.specs.Language.Programs.{store_of};
 ghost use Rattle.pipe_model.specs.Language.SyntaxTree.{tree_of};
-ghost use Rattle.pipe_model.specs.Pipelines.Behaviour.{node_of};
 ghost use Rattle.pipe_model.specs.Pipelines.SerialElision.{serial_trace};
 ghost use Rattle.pipe_model.specs.Races.Columns.{at, no_node};
 ghost use Rattle.stage_code.specs.FlatCode.{FlatCode};

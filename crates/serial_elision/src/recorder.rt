@@ -6,7 +6,8 @@ use pipe_model::node::NodeId;
 use stage_interp::memory::Memory;
 use std::marker::{Brand, Model, PhantomData};
 
-/// The log with which a stage instance begins, and the instance. The call that runs it picks them.
+/// The log with which a stage instance begins, and the instance. They exist in proofs only, and the
+/// call that runs the instance picks them.
 pub trait Beginning {
     ghost use Rattle.pipe_model.specs.declared.node.NodeId.{NodeId};
     ghost use Rattle.serial_elision.specs.declared.log.Log.{Log};
@@ -50,7 +51,6 @@ impl<B: Beginning> Model for Recorder<B> {
 
 impl<B: Beginning> Recorder<B> {
     ghost use Rattle.std.specs.Prelude.{◌≡◌, false};
-    ghost use Rattle.std.specs.Bool.{OnFalse};
     ghost use Rattle.serial_elision.specs.Recording.{Adds, IsWhole, made_since};
 
     // Returns a recorder at the beginning of the instance.
