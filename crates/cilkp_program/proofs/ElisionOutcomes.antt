@@ -1,5 +1,5 @@
 -- The result of a program's serial elision: its reports are right, and its status and text are those of the elision.
-use Rattle.std.proofs.Common.{◌≡◌, ◌≢◌, ◌∙◌, ◌++◌, ℕ, ℤ, List, [], Option, Some, None, inl, inr, refl, ap, sym, arith, append-nil}
+use Rattle.std.proofs.Common.{◌≡◌, ◌≢◌, ◌∙◌, ◌++◌, ℕ, ℤ, List, [], Some, None, inl, inr, refl, ap, sym, arith, append-nil}
 use Rattle.pipe_model.specs.declared.report.Report.{Report}
 use Rattle.pipe_model.specs.declared.trap.TrapAt.{TrapAt}
 use Rattle.pipe_model.specs.Races.Reports.{AreRight}

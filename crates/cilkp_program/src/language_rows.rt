@@ -533,12 +533,131 @@ const ROWS: [Row; 45] = [
     ),
 ];
 
+// Pipelines whose stages depend on the iteration, `init`, `final` and traps, by `run` and by `serial`.
+const PIPELINES: [Row; 16] = [
+    // Stage numbers that depend on the iteration.
+    (
+        [4, 3, 50, 4],
+        "cell n = 0; cell s = 0; pipe_while (n < 4) { n = n + 1; let t = n; if (iter() % 2 == 0) { pipe_wait(1); } pipe_wait(2); s = s + t; emit s; }",
+        0,
+        "1\n3\n6\n10\n",
+    ),
+    // The edges into stages 6 and 7 are redundant.
+    (
+        [2, 4, 50, 4],
+        "cell n = 0; cell c = 0; pipe_while (n < 2) { n = n + 1; if (iter() == 0) { pipe_wait(5); c = 7; } else { pipe_wait(5); pipe_wait(6); pipe_wait(7); emit c; } }",
+        0,
+        "7\n",
+    ),
+    // A wait for a skipped stage follows the last stage before it: stage 5, and then stage 0.
+    (
+        [2, 4, 50, 4],
+        "cell n = 0; cell c = 0; pipe_while (n < 2) { n = n + 1; if (iter() == 0) { pipe_wait(5); c = 7; } else { pipe_wait(6); emit c; } }",
+        0,
+        "7\n",
+    ),
+    (
+        [2, 4, 50, 4],
+        "cell n = 0; cell c = 0; pipe_while (n < 2) { n = n + 1; if (iter() == 0) { pipe_wait(5); c = 7; } else { pipe_wait(4); emit c; } }",
+        2,
+        "race c write 0/5 read 1/4\n",
+    ),
+    // Two readers in parallel before a write.
+    (
+        [2, 3, 50, 2],
+        "cell n = 0; cell c = 0; pipe_while (n < 2) { n = n + 1; let x = 0; if (iter() == 0) { pipe_continue(1); x = c; } else { x = c; pipe_continue(1); c = 5; } }",
+        2,
+        "race c read 0/1 write 1/1\n",
+    ),
+    (
+        [2, 3, 50, 2],
+        "cell n = 0; cell c = 0; pipe_while (n < 2) { n = n + 1; let x = 0; if (iter() == 0) { pipe_continue(1); x = c; pipe_continue(2); c = 5; } else { x = c; } }",
+        2,
+        "race c write 0/2 read 1/0\n",
+    ),
+    (
+        [1, 1, 100, 1],
+        "cell n = 0; pipe_while (n < 1) { n = 1; let k = 0; while (k < 3) { n = n + 1; k = k + 1; } emit n; }",
+        0,
+        "4\n",
+    ),
+    // Both instances of iteration 0 take 12 steps, and then the second needs 13.
+    (
+        [3, 2, 12, 3],
+        "cell n = 0; pipe_while (n < 2) { n = n + 1; let t = n; pipe_wait(1); emit t; if (t == 1) { let k = t + t + t; } }",
+        0,
+        "1\n2\n",
+    ),
+    (
+        [3, 2, 12, 3],
+        "cell n = 0; pipe_while (n < 2) { n = n + 1; let t = n; pipe_wait(1); emit t; if (t == 1) { let k = -(t + t + t); } }",
+        3,
+        "1\n2\ntrap Budget at 0/1\n",
+    ),
+    // A racy read decides which stages follow.
+    (
+        [2, 3, 50, 2],
+        "cell n = 0; cell f = 0; cell c = 0; pipe_while (n < 2) { n = n + 1; if (iter() == 0) { pipe_continue(1); f = 1; } else { if (f == 0) { pipe_continue(1); } pipe_continue(2); c = 1; } }",
+        2,
+        "race f write 0/1 read 1/0\n",
+    ),
+    // `init` and `final` around an empty loop, and traps of `init`.
+    (
+        [1, 1, 20, 2],
+        "cell s = 0; init { s = 4; emit s; } pipe_while (0) { } final { s = s * 10 + 2; emit s; }",
+        0,
+        "4\n42\n",
+    ),
+    (
+        [1, 1, 20, 2],
+        "cell s = 0; init { emit 1 / 0; } pipe_while (0) { } final { s = s * 10 + 2; emit s; }",
+        3,
+        "trap DivZero in init\n",
+    ),
+    (
+        [1, 1, 20, 1],
+        "cell s = 0; init { emit 1; emit 2; } pipe_while (0) { } final { s = s * 10 + 2; emit s; }",
+        3,
+        "1\ntrap OutputLimit in init\n",
+    ),
+    // A trap in instance 0 closes the loop.
+    (
+        [1, 1, 20, 1],
+        "cell a[2] = 0; pipe_while (1) { emit a[2]; }",
+        3,
+        "trap Index at 0/0\n",
+    ),
+    (
+        [1, 1, 20, 1],
+        "cell a[2] = 0; pipe_while (1) { emit 9223372036854775807 + 1; }",
+        3,
+        "trap Overflow at 0/0\n",
+    ),
+    // The steps of operands come before that of their operator.
+    (
+        [1, 1, 3, 1],
+        "init { emit 1 / 0; } pipe_while (0) { }",
+        3,
+        "trap DivZero in init\n",
+    ),
+];
+
+fn pipelines(alloc: Global) -> Result<(), Fail> {
+    for (limits, rest, status, text) in PIPELINES {
+        let source = source(alloc, limits, rest)?;
+        Case::of(source.as_bytes()).check(alloc, rest, status, text)?;
+        Case::serial(source.as_bytes()).check(alloc, rest, status, text)?;
+    }
+    Ok(())
+}
+
 #[test]
 fn rows_of_the_language(rt: HostRuntime) -> Result<(), Fail> {
     for (limits, rest, status, text) in ROWS {
         let source = source(rt.alloc(), limits, rest)?;
         Case::of(source.as_bytes()).check(rt.alloc(), rest, status, text)?;
     }
+    pipelines(rt.alloc())?;
     traps(rt.alloc())?;
     costs(rt.alloc())?;
     values(rt.alloc())?;
