@@ -5,9 +5,9 @@ use Rattle.pipe_model.specs.declared.report.Report.{Report}
 use Rattle.pipe_model.specs.Language.CanonicalText.{program_text}
 use Rattle.pipe_model.specs.Language.SyntaxTree.{SyntaxTree}
 use Rattle.cilkp_program.specs.CallResults.{HasTaken, IsCallResult, OfRow, SourceFault, InputFault, IsPrinted}
-use Rattle.cilkp_program.specs.Faults.{CountRose}
+use Rattle.pipe_io.specs.Faults.{CountRose}
 use Rattle.cilkp_program.specs.Formatting.{ReturnsText, IsToFormat}
-use Rattle.cilkp_program.specs.Reads.{Content}
+use Rattle.pipe_io.specs.Reads.{Content}
 use Rattle.cilkp_program.specs.Rows.{FileContents, IsSourceOf, Row, Formats, ByFormat, format_words}
 use Rattle.cilkp_program.proofs.OneRow.{one_row}
 

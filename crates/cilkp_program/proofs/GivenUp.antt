@@ -3,9 +3,9 @@ use Rattle.std.proofs.Common.{◌≡◌, ◌≢◌, ◌≤◌, ◌↔◌, ℕ, L
 use Rattle.pipe_model.specs.declared.event.RunLog.{RunLog}
 use Rattle.pipe_model.specs.declared.report.Report.{Report}
 use Rattle.cilkp_program.specs.CallResults.{IsCallResult, IsCutShort, IsGivenUp, IsPrinted, HasTaken}
-use Rattle.cilkp_program.specs.Reads.{Content}
-use Rattle.cilkp_program.specs.declared.whole.WriteEnd.{WriteEnd}
-use Rattle.cilkp_program.specs.declared.whole.WriteEnd.TheVariants as ends
+use Rattle.pipe_io.specs.Reads.{Content}
+use Rattle.pipe_io.specs.declared.whole.WriteEnd.{WriteEnd}
+use Rattle.pipe_io.specs.declared.whole.WriteEnd.TheVariants as ends
 
 -- a text that was written completely was printed
 pub text_whole : (words : List (List ℕ)) (holds : Option Content) (before now status written : ℕ) (text : List ℕ) (log : Option RunLog) (reports : List Report)

@@ -8,9 +8,9 @@ use Rattle.cilkp_program.proofs.ElisionOutcomes.{outcome_agrees, outcome_is_righ
 use Rattle.cilkp_program.proofs.OneRow.{files_are_no_format, one_source, refused_not_accepted_file, refused_not_empty, run_is_not_serial}
 use Rattle.cilkp_program.proofs.SerialDags.{serial_log}
 use Rattle.cilkp_program.specs.CallResults.{IsCallResult, OfRow, SourceFault, InputFault, IsPrinted}
-use Rattle.cilkp_program.specs.Faults.{CountRose}
+use Rattle.pipe_io.specs.Faults.{CountRose}
 use Rattle.cilkp_program.specs.Headline.{ReturnsRun, IsToRun, MeetsHeadline}
-use Rattle.cilkp_program.specs.Reads.{Content}
+use Rattle.pipe_io.specs.Reads.{Content}
 use Rattle.cilkp_program.specs.Rows.{FileContents, RunResult, Row, NoCommand, SourceRefused, Formats, InputRefused, Runs, RunsSerially, ByRun, WithInput, elision_log}
 
 -- the result of a program and its log meet the headline

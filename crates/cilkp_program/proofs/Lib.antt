@@ -1,4 +1,3 @@
-pub mod Taken
 pub mod Loading
 pub mod RowOfCall
 pub mod GivenUp

@@ -8,14 +8,14 @@ use Rattle.pipe_model.specs.Language.SourceRefusals.{ForItsText, Lexical}
 use Rattle.pipe_model.specs.Language.Tokens.{IsTooLong, SourceTooLong}
 use Rattle.pipe_model.specs.Texts.{refused_missing}
 use Rattle.cilkp_program.specs.NotYetBuilt.{refused_input}
-use Rattle.cilkp_program.specs.declared.whole.Whole.{Whole}
-use Rattle.cilkp_program.specs.declared.whole.Whole.TheVariants as whole
-use Rattle.cilkp_program.specs.Reads.{Content}
+use Rattle.pipe_io.specs.declared.whole.Whole.{Whole}
+use Rattle.pipe_io.specs.declared.whole.Whole.TheVariants as whole
+use Rattle.pipe_io.specs.Reads.{Content}
 use Rattle.cilkp_program.specs.Rows.{InputRefusal, InputMissing, InputNotEmpty, SourceRefusal, SourceMissing, NotAccepted}
 use Rattle.cilkp_program.specs.LoadedFiles.{IsLoadOf, IsSourceFrom, IsSourceResult}
 use Rattle.cilkp_program.specs.declared.load.Source.{Source}
 use Rattle.cilkp_program.specs.declared.load.Source.TheVariants as sources
-use Rattle.cilkp_program.specs.WholeFiles.{IsUpTo, IsWholeOf}
+use Rattle.pipe_io.specs.WholeFiles.{IsUpTo, IsWholeOf}
 
 -- some content of the file explains the result; where the content is known, it is that one
 pub record IsOfFile (holds : Option Content) (name : List ℕ) (limit : ℕ) (outcome : Whole) : Type 0 where

@@ -3,8 +3,8 @@ use Rattle.std.proofs.Common.{◌≡◌, ◌≤◌, ◌⊎◌, ◌↔◌, ℕ, L
 use Rattle.pipe_model.specs.declared.event.RunLog.{RunLog}
 use Rattle.pipe_model.specs.declared.report.Report.{Report}
 use Rattle.cilkp_program.specs.CallResults.{IsCallResult, OfRow, SourceFault, InputFault}
-use Rattle.cilkp_program.specs.Faults.{CountRose}
-use Rattle.cilkp_program.specs.Reads.{Content}
+use Rattle.pipe_io.specs.Faults.{CountRose}
+use Rattle.pipe_io.specs.Reads.{Content}
 use Rattle.cilkp_program.specs.Rows.{FileContents, IsFormat, IsSerial, ByRun, run_words, Row, NoCommand, SourceRefused, Formats, InputRefused, Runs, RunsSerially, elision_log}
 use Rattle.cilkp_program.specs.Headline.{IsRunStatus}
 use Rattle.cilkp_program.proofs.ElisionOutcomes.{outcome_status}

@@ -12,9 +12,9 @@ use Rattle.cilkp_program.specs.declared.call.CommandResult.{CommandResult}
 use Rattle.cilkp_program.specs.declared.load.Source.TheVariants as sources
 use Rattle.cilkp_program.specs.declared.load.Input.TheVariants as inputs
 use Rattle.cilkp_program.specs.CallResults.{IsCallResult, OfRow, SourceFault, InputFault}
-use Rattle.cilkp_program.specs.Faults.{CountsFault}
+use Rattle.pipe_io.specs.Faults.{CountsFault}
 use Rattle.cilkp_program.specs.LoadedFiles.{IsInputResult, IsSourceResult}
-use Rattle.cilkp_program.specs.Reads.{Content}
+use Rattle.pipe_io.specs.Reads.{Content}
 use Rattle.cilkp_program.specs.Rows.{AreHeldBy, FileContents, NamesFiles, ByRun, BySerial, NamesSource, WithInput, ByFormat, NoCommand, SourceRefused, Formats, InputRefused, Runs, RunsSerially, RunResult, elision_log, words_of, run_words, serial_words, format_words}
 use Rattle.cilkp_program.specs.PreparedFiles.{AreReady}
 use Rattle.cilkp_program.proofs.OneRow.{files_are_no_format, one_name, one_pair}

@@ -6,8 +6,8 @@ use Rattle.pipe_model.specs.Language.SyntaxTree.{SyntaxTree}
 use Rattle.cilkp_program.proofs.ElisionOutcomes.{outcome_agrees, outcome_is_right, outcome_status}
 use Rattle.cilkp_program.proofs.OneRow.{files_are_no_format, one_source, refused_not_accepted_file, refused_not_empty, run_is_not_serial}
 use Rattle.cilkp_program.specs.CallResults.{IsCallResult, OfRow, SourceFault, InputFault, IsPrinted}
-use Rattle.cilkp_program.specs.Faults.{CountRose}
-use Rattle.cilkp_program.specs.Reads.{Content}
+use Rattle.pipe_io.specs.Faults.{CountRose}
+use Rattle.pipe_io.specs.Reads.{Content}
 use Rattle.cilkp_program.specs.Rows.{FileContents, RunResult, Row, NoCommand, SourceRefused, Formats, InputRefused, Runs, RunsSerially, BySerial, WithInput}
 use Rattle.cilkp_program.specs.SerialCalls.{ReturnsElision, IsToRunSerially}
 

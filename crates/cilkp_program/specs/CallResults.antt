@@ -5,8 +5,8 @@ use Rattle.pipe_model.specs.declared.event.RunLog.{RunLog}
 use Rattle.pipe_model.specs.declared.report.Report.{Report}
 use Rattle.pipe_model.specs.Language.SyntaxTree.{SyntaxTree}
 use Rattle.pipe_model.specs.Texts.{fault_read}
-use Rattle.cilkp_program.specs.Faults.{CountRose}
-use Rattle.cilkp_program.specs.Reads.{Content}
+use Rattle.pipe_io.specs.Faults.{CountRose}
+use Rattle.pipe_io.specs.Reads.{Content}
 use Rattle.cilkp_program.specs.Rows.{AreHeldBy, FileContents, IsSourceOf, NamesFiles, NamesSource, Row}
 
 -- the result of a call in which no read failed: the row of its words and of some content of its files; where the content is known, it is that one

@@ -5,7 +5,7 @@ use Rattle.pipe_model.specs.declared.report.Report.{Report}
 use Rattle.pipe_model.specs.Language.CanonicalText.{program_text}
 use Rattle.pipe_model.specs.Language.SyntaxTree.{SyntaxTree}
 use Rattle.cilkp_program.specs.CallResults.{HasTaken}
-use Rattle.cilkp_program.specs.Reads.{Content}
+use Rattle.pipe_io.specs.Reads.{Content}
 use Rattle.cilkp_program.specs.Rows.{IsSourceOf, format_words}
 
 -- the words are `format SOURCE`, and the source is accepted as the program

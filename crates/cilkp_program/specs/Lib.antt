@@ -1,7 +1,3 @@
-pub mod Faults
-pub mod FaultPlan
-pub mod Reads
-pub mod Writes
 pub mod NotYetBuilt
 pub mod Rows
 pub mod CellNames
@@ -14,5 +10,3 @@ pub mod RefusalLines
 pub mod CallResults
 pub mod PreparedFiles
 pub mod LoadedFiles
-pub mod WholeFiles
-pub mod MemoryFiles

@@ -4,7 +4,7 @@ use Rattle.pipe_model.specs.Language.SyntaxTree.{SyntaxTree, tree_of}
 use Rattle.cilkp_program.specs.declared.call.Prepared.{Prepared}
 use Rattle.cilkp_program.specs.declared.call.Prepared.TheVariants as prepared
 use Rattle.cilkp_program.specs.CallResults.{IsCallResult}
-use Rattle.cilkp_program.specs.Reads.{Content}
+use Rattle.pipe_io.specs.Reads.{Content}
 use Rattle.cilkp_program.specs.Rows.{FileContents, IsSourceOf, NamesFiles}
 
 -- no read failed, the source is accepted as the program, and the input is empty, by some content of the two files; where the content is known, by that one

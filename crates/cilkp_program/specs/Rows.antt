@@ -17,7 +17,7 @@ use Rattle.pipe_model.specs.Language.SyntaxTree.{SyntaxTree}
 use Rattle.pipe_model.specs.Texts.{output_lines, trap_line, refusal_line, refused_usage, refused_missing}
 use Rattle.cilkp_program.specs.CellNames.{race_lines}
 use Rattle.cilkp_program.specs.NotYetBuilt.{refused_input}
-use Rattle.cilkp_program.specs.Reads.{Content}
+use Rattle.pipe_io.specs.Reads.{Content}
 
 -- the words of a call, as bytes
 abbrev pub words_of : List (String Global) → List (List ℕ)

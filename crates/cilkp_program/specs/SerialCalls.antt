@@ -6,7 +6,7 @@ use Rattle.pipe_model.specs.Races.Reports.{AreRight}
 use Rattle.pipe_model.specs.Language.SyntaxTree.{SyntaxTree}
 use Rattle.cilkp_program.specs.CallResults.{HasTaken}
 use Rattle.cilkp_program.specs.Headline.{AgreesWithElision, IsRunStatus}
-use Rattle.cilkp_program.specs.Reads.{Content}
+use Rattle.pipe_io.specs.Reads.{Content}
 use Rattle.cilkp_program.specs.Rows.{IsSourceOf, elision_accesses, elision_columns, serial_words}
 
 -- the words are `serial SOURCE INPUT`, the source is accepted as the program, and the input is empty

@@ -6,7 +6,7 @@ ghost use Rattle.pipe_model.specs.Language.SourceRefusals.{IsAccepted};
 ghost use Rattle.pipe_model.specs.Language.SyntaxTree.{SyntaxTree, tree_of};
 ghost use Rattle.pipe_model.specs.Texts.{fault_read};
 ghost use Rattle.cilkp_program.specs.CallResults.{IsCallResult, IsPrinted, IsCutShort, IsGivenUp};
-ghost use Rattle.cilkp_program.specs.Faults.{CountGrew, CountRose};
+ghost use Rattle.pipe_io.specs.Faults.{CountGrew, CountRose};
 ghost use Rattle.cilkp_program.specs.Formatting.{ReturnsText, IsToFormat};
 ghost use Rattle.cilkp_program.specs.Headline.{ReturnsRun, IsToRun};
 ghost use Rattle.cilkp_program.specs.PreparedFiles.{IsPreparation};
@@ -14,16 +14,16 @@ ghost use Rattle.cilkp_program.specs.Rows.{IsFormat, IsSerial, RunResult, elisio
 ghost use Rattle.cilkp_program.specs.RunTexts.{IsPrintedAs};
 ghost use Rattle.cilkp_program.specs.SerialCalls.{ReturnsElision, IsToRunSerially};
 
-use crate::files::Files;
 use crate::gate::Gate;
 use crate::load::{Input, Source, load_input, load_source};
 use crate::race_text::race_text;
-use crate::sink::Sink;
 use crate::text::{line, named_line, outcome_text};
-use crate::whole::{WriteEnd, write_text};
 use dag_build::dag::Dag;
 use pipe_check::checked::Checked;
 use pipe_format::program::format;
+use pipe_io::files::Files;
+use pipe_io::sink::Sink;
+use pipe_io::whole::{WriteEnd, write_text};
 use pipe_model::event::RunLog;
 use pipe_model::list::{Bytes, Numbers};
 use pipe_model::memory::NoMemory;

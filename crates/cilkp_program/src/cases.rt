@@ -2,8 +2,8 @@
 
 use crate::call::{Ended, cilkp};
 use crate::gate::OpenGate;
-use crate::mem_files::MemFiles;
-use crate::mem_sink::MemSink;
+use pipe_io::mem_files::MemFiles;
+use pipe_io::mem_sink::MemSink;
 use pipe_model::list::Bytes;
 use pipe_model::memory::NoMemory;
 use std::alloc::Global;

@@ -1,15 +1,15 @@
 //! The source and the input of a command.
 
 ghost use Rattle.std.specs.Prelude.{◌≡◌, IfOk, OnErr};
-ghost use Rattle.cilkp_program.specs.Faults.{CountsFault};
+ghost use Rattle.pipe_io.specs.Faults.{CountsFault};
 ghost use Rattle.cilkp_program.specs.LoadedFiles.{is_source_fault, IsLoadOf, IsSourceResult, is_input_fault, IsInputResult};
 
-use crate::files::Files;
 use crate::refusal::{check_line, lexical_line, syntax_line};
 use crate::text::{line, named_line};
-use crate::whole::{Whole, read_whole};
 use pipe_check::checked::Checked;
 use pipe_check::program::check;
+use pipe_io::files::Files;
+use pipe_io::whole::{Whole, read_whole};
 use pipe_lexer::scan::tokens;
 use pipe_model::bounds::LONGEST_SOURCE;
 use pipe_model::list::Bytes;

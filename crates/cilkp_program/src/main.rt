@@ -5,34 +5,26 @@
 pub mod call;
 #[cfg(test)]
 mod cases;
-pub mod fault_count;
-pub mod fault_plan;
-pub mod files;
 pub mod gate;
 #[cfg(test)]
 mod language_rows;
 pub mod law;
 pub mod load;
-pub mod mem_files;
-pub mod mem_sink;
 pub mod race_text;
 #[cfg(test)]
 mod race_text_tests;
-pub mod real;
 pub mod refusal;
 #[cfg(test)]
 mod refusal_tests;
 #[cfg(test)]
 mod row_tests;
-pub mod sink;
 #[cfg(test)]
 mod tests;
 pub mod text;
-pub mod whole;
 
 use crate::call::{Ended, cilkp};
 use crate::gate::OpenGate;
-use crate::real::{RealFiles, RealSink};
+use pipe_io::real::{RealFiles, RealSink};
 use pipe_model::memory::NoMemory;
 use std::env;
 use std::io::ErrorKind;

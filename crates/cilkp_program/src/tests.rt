@@ -1,13 +1,13 @@
 // The real files and the real sink, and the files and sinks in memory that never fail. `row_tests`
 // has those that fail.
 
-use crate::files::{Files, ReadPart};
 use crate::gate::{Gate, OpenGate};
-use crate::mem_files::CleanFiles;
-use crate::mem_sink::CleanSink;
-use crate::real::{RealFiles, RealSink};
-use crate::sink::{Sink, WritePart};
-use crate::whole::{Whole, WriteEnd, read_whole, write_text};
+use pipe_io::files::{Files, ReadPart};
+use pipe_io::mem_files::CleanFiles;
+use pipe_io::mem_sink::CleanSink;
+use pipe_io::real::{RealFiles, RealSink};
+use pipe_io::sink::{Sink, WritePart};
+use pipe_io::whole::{Whole, WriteEnd, read_whole, write_text};
 use pipe_model::list::Bytes;
 use pipe_model::node::NodeId;
 use std::fs;

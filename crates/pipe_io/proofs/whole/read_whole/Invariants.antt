@@ -1,6 +1,6 @@
 use Rattle.std.proofs.Common.{◌≡◌, ◌-◌, ◌+◌, length, IfSome}
-use Rattle.cilkp_program.specs.WholeFiles.{IsPrefixOf}
-use Rattle.cilkp_program.proofs.whole.read_whole.Given as goal
+use Rattle.pipe_io.specs.WholeFiles.{IsPrefixOf}
+use Rattle.pipe_io.proofs.whole.read_whole.Given as goal
 
 abbrev pub invariant-loop-part : goal.invariant-loop-part
 invariant-loop-part g l = record {

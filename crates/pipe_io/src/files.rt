@@ -15,8 +15,8 @@ pub enum ReadPart {
 
 /// Files that can be read by name.
 pub trait Files {
-    ghost use Rattle.cilkp_program.specs.Faults.{CountsFault};
-    ghost use Rattle.cilkp_program.specs.Reads.{Content, is_read_fault, IsWithin, ReadsFrom};
+    ghost use Rattle.pipe_io.specs.Faults.{CountsFault};
+    ghost use Rattle.pipe_io.specs.Reads.{Content, is_read_fault, IsWithin, ReadsFrom};
 
     /// The content of the files, if it is known.
     ghost holds: { Self → Option Content };

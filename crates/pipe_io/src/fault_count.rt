@@ -1,7 +1,7 @@
 //! A count of faults.
 
 ghost use Rattle.std.specs.Prelude.{◌≡◌};
-ghost use Rattle.cilkp_program.specs.Faults.{CountsFault, next_count};
+ghost use Rattle.pipe_io.specs.Faults.{CountsFault, next_count};
 ghost use Rattle.std.specs.Prelude.{true};
 
 use std::marker::Model;

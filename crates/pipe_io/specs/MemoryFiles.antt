@@ -2,9 +2,9 @@
 use Rattle.std.specs.Prelude.{ℕ, ◌-◌, List, [], ◌∷◌, length, map, min, Option, Some, None, if◌then◌else◌, String, string_bytes}
 use Rattle.std.specs.Str.{bytes_eq}
 use Rattle.std.specs.declared.alloc.Global.{Global}
-use Rattle.cilkp_program.specs.Reads.{Content}
-use Rattle.cilkp_program.specs.declared.files.ReadPart.{ReadPart}
-use Rattle.cilkp_program.specs.declared.files.ReadPart.TheVariants.{Got, Missing}
+use Rattle.pipe_io.specs.Reads.{Content}
+use Rattle.pipe_io.specs.declared.files.ReadPart.{ReadPart}
+use Rattle.pipe_io.specs.declared.files.ReadPart.TheVariants.{Got, Missing}
 
 -- files in memory, each with its name, and the greatest number of bytes that a call serves
 pub record StoredFiles : Type 0 where

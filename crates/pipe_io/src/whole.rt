@@ -2,9 +2,9 @@
 
 ghost use Rattle.std.specs.Prelude.{◌≡◌, ◌+◌, ◌++◌, ◌≤◌, ◌<◌, ◌↔◌, length, take, IsOk, IfOk, OnErr, IfSome};
 ghost use Rattle.std.specs.Option.{option_map};
-ghost use Rattle.cilkp_program.specs.Faults.{CountsFault};
-ghost use Rattle.cilkp_program.specs.Reads.{is_read_fault, bytes_read};
-ghost use Rattle.cilkp_program.specs.WholeFiles.{is_file_fault, IsUpTo, IsWholeOf, is_text_fault, IsPrefixOf, EndsAt};
+ghost use Rattle.pipe_io.specs.Faults.{CountsFault};
+ghost use Rattle.pipe_io.specs.Reads.{is_read_fault, bytes_read};
+ghost use Rattle.pipe_io.specs.WholeFiles.{is_file_fault, IsUpTo, IsWholeOf, is_text_fault, IsPrefixOf, EndsAt};
 
 use crate::files::{Files, ReadPart};
 use crate::sink::{Sink, WritePart};

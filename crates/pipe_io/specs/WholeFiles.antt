@@ -1,11 +1,11 @@
 -- The results of reading a whole file and of writing a whole text.
 use Rattle.std.specs.Prelude.{◌≡◌, ℕ, ◌≤◌, ◌<◌, List, [], length, take, Option, Some, None, Bool, true, false}
-use Rattle.cilkp_program.specs.declared.files.ReadPart.{ReadPart}
-use Rattle.cilkp_program.specs.declared.files.ReadPart.TheVariants as reads
-use Rattle.cilkp_program.specs.declared.whole.WriteEnd.{WriteEnd}
-use Rattle.cilkp_program.specs.declared.whole.WriteEnd.TheVariants as ends
-use Rattle.cilkp_program.specs.declared.whole.Whole.{Whole}
-use Rattle.cilkp_program.specs.declared.whole.Whole.TheVariants.{Bytes, TooLong, Missing, Failed}
+use Rattle.pipe_io.specs.declared.files.ReadPart.{ReadPart}
+use Rattle.pipe_io.specs.declared.files.ReadPart.TheVariants as reads
+use Rattle.pipe_io.specs.declared.whole.WriteEnd.{WriteEnd}
+use Rattle.pipe_io.specs.declared.whole.WriteEnd.TheVariants as ends
+use Rattle.pipe_io.specs.declared.whole.Whole.{Whole}
+use Rattle.pipe_io.specs.declared.whole.Whole.TheVariants.{Bytes, TooLong, Missing, Failed}
 
 -- whether a read failed
 abbrev pub is_file_fault : Whole → Bool

@@ -16,8 +16,8 @@ pub enum WritePart {
 
 /// A sink of bytes.
 pub trait Sink {
-    ghost use Rattle.cilkp_program.specs.Faults.{CountsFault};
-    ghost use Rattle.cilkp_program.specs.Writes.{is_write_fault, TakesSome, taken_after};
+    ghost use Rattle.pipe_io.specs.Faults.{CountsFault};
+    ghost use Rattle.pipe_io.specs.Writes.{is_write_fault, TakesSome, taken_after};
 
     /// The bytes that were taken, if they are known.
     ghost taken: { Self → Option (List ℕ) };

@@ -2,9 +2,9 @@
 //! bytes are read and taken.
 
 ghost use Rattle.std.specs.Prelude.{◌≡◌, ◌≢◌, ◌≤◌, length, IfOk};
-ghost use Rattle.cilkp_program.specs.Faults.{CountsFault, count_after};
-ghost use Rattle.cilkp_program.specs.Reads.{is_read_fault, IsWithin};
-ghost use Rattle.cilkp_program.specs.Writes.{is_write_fault, TakesSome};
+ghost use Rattle.pipe_io.specs.Faults.{CountsFault, count_after};
+ghost use Rattle.pipe_io.specs.Reads.{is_read_fault, IsWithin};
+ghost use Rattle.pipe_io.specs.Writes.{is_write_fault, TakesSome};
 
 use crate::fault_count::FaultCount;
 use crate::files::{Files, ReadPart};

@@ -1,7 +1,7 @@
 -- The possible results of writing a part of a text.
 use Rattle.std.specs.Prelude.{ℕ, ◌≤◌, ◌<◌, List, ◌++◌, length, take, Bool, true, false}
-use Rattle.cilkp_program.specs.declared.sink.WritePart.{WritePart}
-use Rattle.cilkp_program.specs.declared.sink.WritePart.TheVariants.{Took, Failed, NoMemory}
+use Rattle.pipe_io.specs.declared.sink.WritePart.{WritePart}
+use Rattle.pipe_io.specs.declared.sink.WritePart.TheVariants.{Took, Failed, NoMemory}
 
 -- whether the write failed
 abbrev pub is_write_fault : WritePart → Bool

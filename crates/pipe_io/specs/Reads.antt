@@ -1,7 +1,7 @@
 -- The possible results of reading a part of a file.
 use Rattle.std.specs.Prelude.{◌≡◌, ℕ, ◌-◌, ◌≤◌, ◌↔◌, List, length, take, drop, Option, Some, None, Bool, true, false}
-use Rattle.cilkp_program.specs.declared.files.ReadPart.{ReadPart}
-use Rattle.cilkp_program.specs.declared.files.ReadPart.TheVariants.{Got, Missing, Failed}
+use Rattle.pipe_io.specs.declared.files.ReadPart.{ReadPart}
+use Rattle.pipe_io.specs.declared.files.ReadPart.TheVariants.{Got, Missing, Failed}
 
 -- the content of the files by name; none if there is no such file
 abbrev pub Content : Type 0

@@ -1,10 +1,10 @@
 //! Files in memory, which serve a limited number of bytes a call, and may fail at chosen calls.
 
 ghost use Rattle.std.specs.Prelude.{◌≡◌, ◌<◌, length, IfSome, IfNone, Some, None, if◌then◌else◌, false};
-ghost use Rattle.cilkp_program.specs.Faults.{CountsFault};
-ghost use Rattle.cilkp_program.specs.FaultPlan.{first_plan, fails_next, after_call};
-ghost use Rattle.cilkp_program.specs.Reads.{is_read_fault, IsWithin, ReadsFrom, IsPartAt};
-ghost use Rattle.cilkp_program.specs.MemoryFiles.{named_bytes, content_of, served, served_len};
+ghost use Rattle.pipe_io.specs.Faults.{CountsFault};
+ghost use Rattle.pipe_io.specs.FaultPlan.{first_plan, fails_next, after_call};
+ghost use Rattle.pipe_io.specs.Reads.{is_read_fault, IsWithin, ReadsFrom, IsPartAt};
+ghost use Rattle.pipe_io.specs.MemoryFiles.{named_bytes, content_of, served, served_len};
 
 use crate::fault_plan::FaultPlan;
 use crate::files::{Files, ReadPart};
@@ -20,7 +20,7 @@ pub struct CleanFiles {
 
 impl Model for CleanFiles {
     ghost use Rattle.std.specs.Prelude.{◌<◌};
-    ghost use Rattle.cilkp_program.specs.MemoryFiles.{StoredFiles, named_bytes};
+    ghost use Rattle.pipe_io.specs.MemoryFiles.{StoredFiles, named_bytes};
 
     ghost Value = { StoredFiles };
 
@@ -86,7 +86,7 @@ fn copy_part(bytes: &[u8], place: u64, most: u32, part: &mut [u8]) -> u32
 
 impl Files for CleanFiles {
     ghost use Rattle.std.specs.Prelude.{Some};
-    ghost use Rattle.cilkp_program.specs.MemoryFiles.{content_of};
+    ghost use Rattle.pipe_io.specs.MemoryFiles.{content_of};
 
     ghost holds = { λ c. Some (content_of c.files) };
 
@@ -131,7 +131,7 @@ impl MemFiles {
 
 impl Files for MemFiles {
     ghost use Rattle.std.specs.Prelude.{Some};
-    ghost use Rattle.cilkp_program.specs.MemoryFiles.{content_of};
+    ghost use Rattle.pipe_io.specs.MemoryFiles.{content_of};
 
     ghost holds = { λ m. Some (content_of m.files.files) };
 

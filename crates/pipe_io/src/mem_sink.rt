@@ -1,9 +1,9 @@
 //! Sinks in memory, which take a limited number of bytes a call, and may fail at chosen calls.
 
 ghost use Rattle.std.specs.Prelude.{◌≡◌, ◌≢◌, ◌<◌, ◌↔◌, [], length, min, true, false};
-ghost use Rattle.cilkp_program.specs.Faults.{CountsFault};
-ghost use Rattle.cilkp_program.specs.FaultPlan.{first_plan, fails_next, after_call};
-ghost use Rattle.cilkp_program.specs.Writes.{is_write_fault, TakesSome, taken_after};
+ghost use Rattle.pipe_io.specs.Faults.{CountsFault};
+ghost use Rattle.pipe_io.specs.FaultPlan.{first_plan, fails_next, after_call};
+ghost use Rattle.pipe_io.specs.Writes.{is_write_fault, TakesSome, taken_after};
 
 use crate::fault_plan::FaultPlan;
 use crate::sink::{Sink, WritePart};
@@ -22,7 +22,7 @@ pub struct CleanSink {
 
 impl Model for CleanSink {
     ghost use Rattle.std.specs.Prelude.{◌<◌};
-    ghost use Rattle.cilkp_program.specs.MemoryFiles.{StoredText};
+    ghost use Rattle.pipe_io.specs.MemoryFiles.{StoredText};
 
     ghost Value = { StoredText };
 

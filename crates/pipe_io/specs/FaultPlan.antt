@@ -1,7 +1,7 @@
 -- Plans of faults: which calls are to fail.
 use Rattle.std.specs.Prelude.{◌==◌, ℕ, List, Bool}
 use Rattle.std.specs.List.{list_any}
-use Rattle.cilkp_program.specs.Faults.{next_count, count_after}
+use Rattle.pipe_io.specs.Faults.{next_count, count_after}
 
 -- the calls that are to fail, by their numbers from 0, and the counts of calls and faults so far
 pub record Plan : Type 0 where

@@ -1,8 +1,8 @@
 //! Which calls are to fail.
 
 ghost use Rattle.std.specs.Prelude.{◌≡◌};
-ghost use Rattle.cilkp_program.specs.Faults.{CountsFault};
-ghost use Rattle.cilkp_program.specs.FaultPlan.{first_plan, fails_next, after_call};
+ghost use Rattle.pipe_io.specs.Faults.{CountsFault};
+ghost use Rattle.pipe_io.specs.FaultPlan.{first_plan, fails_next, after_call};
 
 use crate::fault_count::FaultCount;
 use std::marker::Model;
@@ -18,7 +18,7 @@ pub struct FaultPlan {
 }
 
 impl Model for FaultPlan {
-    ghost use Rattle.cilkp_program.specs.FaultPlan.{Plan};
+    ghost use Rattle.pipe_io.specs.FaultPlan.{Plan};
 
     ghost Value = { Plan };
 
