@@ -1,0 +1,7 @@
+pub mod CountedPrefixes
+pub mod DigitValues
+pub mod NumeralLaws
+pub mod ReadingLaws
+pub mod OneReading
+pub mod OneFault
+pub mod EachInput

@@ -1,0 +1,3 @@
+pub mod InputFile
+pub mod Numerals
+pub mod InputLaws
