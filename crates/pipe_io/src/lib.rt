@@ -5,5 +5,5 @@ pub mod bounds;
 pub mod decimal;
 pub mod input_fault;
 pub mod law;
-mod numerals;
 pub mod numbers;
+mod numerals;
