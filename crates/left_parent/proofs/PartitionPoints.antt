@@ -39,16 +39,14 @@ point_is_last numbers s count point bound some = record {
   last = λ k after within. int_le_false _ s (point.1 k (pos 0) (omega arith) within);
 }
 
--- some number is at most s, if the first is
-pub point_some : (numbers : List ℤ) (s : ℤ) (count : ℕ)
+-- if the point is at the front, no number is at most s
+pub none_at_front : (numbers : List ℤ) (s : ℤ) (count : ℕ)
     → IsPartitionPoint (λ y. int_le y s ≡ true) (λ y. int_le y s ≡ false) numbers count
-    → 0 < length numbers → get_or numbers 0 (pos 0) ≤ℤ s → 1 ≤ count
-point_some numbers s count point some first = elim (cases_lt 0 count) [
-  | inl less ↦ omega arith
-  | inr none ↦ (
-      let above = int_le_false (get_or numbers 0 (pos 0)) s (point.1 0 (pos 0) none some) in
-      absurd (omega (arith, ints, above, first)))
-]
+    → count ≡ 0 → (j : ℕ) → IsLastUpTo numbers j s → ⊥
+none_at_front numbers s count point none j last =
+    let above = int_le_false (get_or numbers j (pos 0)) s (point.1 j (pos 0) (omega (arith, none)) last.within) in
+    let at_most = last.up_to in
+    omega (arith, ints, above, at_most)
 
 -- the last number up to s is at one index
 pub last_is_one : (numbers : List ℤ) (s : ℤ) (i j : ℕ) → IsLastUpTo numbers i s → IsLastUpTo numbers j s → j ≤ i
