@@ -152,17 +152,17 @@ next_event events h n e l is = by_test (is_access e) refl
     by_test true t =
         let same : events_before events (n + 1) ≡ events_before events n =
         ap without_accesses more ∙ (without-append (take n events) (e ∷ [])
-            ∙ (ap (λ b. events_before events n ++ cond b [] (e ∷ [])) t ∙ append-nil (events_before events n))) in
+        ∙ (ap (λ b. events_before events n ++ cond b [] (e ∷ [])) t ∙ append-nil (events_before events n))) in
         skipped e t same
     by_test false t =
         let same : events_before events (n + 1) ≡ events_before events n ++ e ∷ [] =
         ap without_accesses more ∙ (without-append (take n events) (e ∷ [])
-            ∙ ap (λ b. events_before events n ++ cond b [] (e ∷ [])) t) in
+        ∙ ap (λ b. events_before events n ++ cond b [] (e ∷ [])) t) in
         let rest : List Event = without_accesses (drop (n + 1) events) in
         let all : without_accesses events ≡ events_before events n ++ e ∷ rest =
         ap without_accesses (split_at events n e l) ∙ (without-append (take n events) (get_or events n e ∷ drop (n + 1) events)
-            ∙ (ap (λ x. events_before events n ++ without_accesses (x ∷ drop (n + 1) events)) (sym is)
-            ∙ ap (λ b. events_before events n ++ cond b rest (e ∷ rest)) t)) in
+        ∙ (ap (λ x. events_before events n ++ without_accesses (x ∷ drop (n + 1) events)) (sym is)
+        ∙ ap (λ b. events_before events n ++ cond b rest (e ∷ rest)) t)) in
         let at = allowed_at h.run (events_before events n) e rest all in
         let state : at.state ≡ state_before events n = control_state_is at.before in
         let one = counted h.limit (state_before events n) e t (subst (λ s. ControlAllows h.limit s e) state at.control) in

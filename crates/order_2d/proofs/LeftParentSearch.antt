@@ -138,9 +138,9 @@ left_parent_is columns (suc i) (suc k) above a left is some =
     let here : suc i ≡ i + 1 = omega arith in
     let column : suc i - 1 ≡ i = omega arith in
     ap (λ c. parent_by (node_at (nodes_at columns c) (suc k)).kind a.joined
-        (last_up_to (nodes_at columns (suc i - 1)) (node_at (nodes_at columns c) (suc k)).number)) here
+    (last_up_to (nodes_at columns (suc i - 1)) (node_at (nodes_at columns c) (suc k)).number)) here
     ∙ (ap (λ d. parent_by (node_at (nodes_at columns (i + 1)) (suc k)).kind a.joined
-        (last_up_to (nodes_at columns d) (node_at (nodes_at columns (i + 1)) (suc k)).number)) column
+    (last_up_to (nodes_at columns d) (node_at (nodes_at columns (i + 1)) (suc k)).number)) column
     ∙ (ap (λ j. parent_by (node_at (nodes_at columns (i + 1)) (suc k)).kind j
-        (last_up_to (nodes_at columns i) (node_at (nodes_at columns (i + 1)) (suc k)).number)) joined
+    (last_up_to (nodes_at columns i) (node_at (nodes_at columns (i + 1)) (suc k)).number)) joined
     ∙ sym (left_parent_below columns i k)))

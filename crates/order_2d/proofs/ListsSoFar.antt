@@ -24,7 +24,7 @@ log_entries-push taken m [] x =
 log_entries-push taken m (y ∷ xs) x =
     let e : m + 1 + length xs ≡ m + suc (length xs) = omega arith in
     ap (λ es. taken y.iteration y.index ∷ first_placeholder m ∷ es) (log_entries-push taken (m + 1) xs x
-        ∙ ap (λ k. log_entries taken (m + 1) xs ++ taken x.iteration x.index ∷ first_placeholder k ∷ []) e)
+    ∙ ap (λ k. log_entries taken (m + 1) xs ++ taken x.iteration x.index ∷ first_placeholder k ∷ []) e)
 
 length-log_entries : (taken : ℕ → ℕ → ℕ) (m : ℕ) (xs : List NodeId) → length (log_entries taken m xs) ≡ 2 * length xs
 length-log_entries taken m [] = refl
@@ -120,8 +120,7 @@ orders_are_precedes columns starts ok ord nodes same marks marks_same o down rig
         let d : down_element starts x ≡ (marks_at (marks_of_starts columns starts starts) m).down_first = sym (ap (λ (k : Marks). k.down_first) a) in
         let d' : down_element starts y ≡ (marks_at (marks_of_starts columns starts starts) n).down_first = sym (ap (λ (k : Marks). k.down_first) b) in
         let r : right_element columns starts x ≡ (marks_at (marks_of_starts columns starts starts) m).right_first = sym (ap (λ (k : Marks). k.right_first) a) in
-        let r' : right_element columns starts y ≡ (marks_at (marks_of_starts columns starts starts) n).right_first = sym (ap (λ (k : Marks). k.right_first) b) in
-        (
+        let r' : right_element columns starts y ≡ (marks_at (marks_of_starts columns starts starts) n).right_first = sym (ap (λ (k : Marks). k.right_first) b) in (
           (λ before. law.0 (record {
             down = subst (λ z. StandsBefore (list_of_log (down_first_log starts)) z (down_element starts y)) (sym d)
                 (subst (λ z. StandsBefore (list_of_log (down_first_log starts)) (marks_at (marks_of_starts columns starts starts) m).down_first z) (sym d')

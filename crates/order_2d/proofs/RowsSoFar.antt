@@ -158,4 +158,4 @@ pub read_row : (rows : List (List StartedNode)) (i n k : ℕ) (row : List Starte
     → n ≡ k → k < length (row_at rows i) → Some (get_or row n d) ≡ Some (node_in (row_at rows i) k)
 read_row rows i n k row d same index l =
     ap Some (ap (λ r. get_or r n d) same ∙ (ap (λ j. get_or (row_at rows i) j d) index
-        ∙ get_or_default (row_at rows i) k d no_started_node l))
+    ∙ get_or_default (row_at rows i) k d no_started_node l))

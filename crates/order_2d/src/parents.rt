@@ -27,10 +27,7 @@ fn stage_numbers(alloc: Global, nodes: &[Node]) -> Result<Numbers, NoMemory>
 }
 
 /// Returns the stage numbers of each column. Returns an error only if memory runs out.
-pub(crate) fn column_numbers(
-    alloc: Global,
-    columns: &[Column],
-) -> Result<ListOf<Numbers>, NoMemory>
+pub(crate) fn column_numbers(alloc: Global, columns: &[Column]) -> Result<ListOf<Numbers>, NoMemory>
     ensures { IfOk result (λ rows. rows ≡ numbers_of (nodes_of_columns columns.now)) }
 {
     let mut rows = ListOf::with_capacity(alloc, columns.len())?;

@@ -11,11 +11,12 @@ use Rattle.pipe_model.specs.Races.Columns.{no_node, nodes_at}
 
 pub parent_below-requires-clause-rising : goal.parent_below-requires-clause-rising
 parent_below-requires-clause-rising c =
-    let inside = c.requires.node.0 in
-    (nodes_at (nodes_of_columns c.args.columns.now) (c.args.x.iteration - 1),
+    let inside = c.requires.node.0 in (
+      nodes_at (nodes_of_columns c.args.columns.now) (c.args.x.iteration - 1),
       c.as_slice-left.ensures ∙ numbers_at (nodes_of_columns c.args.columns.now) c.args.numbers.now c.requires.numbers (c.args.x.iteration - 1)
-      c.index-numbers-x.result c.index-numbers-x.is (omega (arith, inside)),
-      c.requires.rising (c.args.x.iteration - 1))
+          c.index-numbers-x.result c.index-numbers-x.is (omega (arith, inside)),
+      c.requires.rising (c.args.x.iteration - 1),
+    )
 
 pub parent_below-requires-clause-few : goal.parent_below-requires-clause-few
 parent_below-requires-clause-few c =
@@ -37,5 +38,5 @@ returns-in-Some c =
     let nodes = c.as_slice.ensures ∙ nodes_read c.args.columns.now c.args.x.iteration c.index-columns-x.result (omega (arith, inside, wide)) in
     c.parent_below.ensures left numbers
     ∙ (ap (λ ns. parent_by (slice_index_or ns c.args.x.index no_node).kind c.in-Some.above.joined
-        (last_up_to left (slice_index_or ns c.args.x.index no_node).number)) nodes
+    (last_up_to left (slice_index_or ns c.args.x.index no_node).number)) nodes
     ∙ left_parent_is columns c.args.x.iteration c.args.x.index c.args.above c.in-Some.above c.if-x-eq0.false c.requires.above c.in-Some.is)

@@ -18,7 +18,7 @@ find-requires-clause-rising c =
 pub returns-in-Wait : goal.returns-in-Wait
 returns-in-Wait c = λ nodes same.
     let fits : SFits w64 c.args.node.number = search rules in
-    let is : to_z w64 (of_z w64 c.args.node.number) ≡ c.args.node.number = to_z-of_z fits in
+    let is : to_z w64 (of_z w64 c.args.node.number) ≡ c.args.node.number = to_z-of_z w64 c.args.node.number fits in
     found_is nodes c.args.numbers.now c.args.node.number c.args.joined c.find.result same
     (subst (λ s. IfSome c.find.result (λ j. IsLastUpTo c.args.numbers.now j s)) is c.find.ensures.last)
     c.find.ensures.later

@@ -76,7 +76,7 @@ returns-clause-node c =
     (ap₂ down_taken both.0 both.1 ∙ taken_down columns starts x.iteration x.index)
     (ap₂ right_taken both.0 both.1 ∙ taken_right columns starts x.iteration x.index) in
     let joined = c.joined_index.ensures ∙ (ap₂ joined_from c.left_index-left.ensures above
-        ∙ joined_is columns x.iteration x.index (above_node columns starts x.iteration x.index) (is_above columns starts x.iteration x.index)) in
+    ∙ joined_is columns x.iteration x.index (above_node columns starts x.iteration x.index) (is_above columns starts x.iteration x.index)) in
     ap₂ (λ a b. let n : StartedNode = record { marks = a; joined = b } in n) marks joined
 
 pub returns-clause-lists : goal.returns-clause-lists

@@ -17,8 +17,7 @@ invariant_of-self g c =
     let right_first = ap (λ (l : OrderedList). l.log) c.insert_after-right_child.ensures.list in
     let right_second = ap (λ (l : OrderedList). l.log) c.insert_after-down_child_last.ensures.list in
     let long = length_by_calls _ _ _ _ _ down_first down_second in
-    let right_long = length_by_calls _ _ _ _ _ right_first right_second in
-    (
+    let right_long = length_by_calls _ _ _ _ _ right_first right_second in (
       omega (arith, long, right_long, same),
       log_by_calls _ _ _ _ _ c.self.invariant.1 there down_first c.insert_after-down_child.ensures.element down_second,
       log_by_calls _ _ _ _ _ c.self.invariant.2 right_there right_first c.insert_after-right_child.ensures.element right_second,
