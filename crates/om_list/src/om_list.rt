@@ -36,7 +36,8 @@ impl Model for OmList {
 
     ghost view = { λ l. record { log = l.log.items; capacity = l.capacity; labels = l.labels.items } };
 
-    ghost invariant = { λ l. IsKept l.next.items l.labels.items l.log.items × HasRoom l.capacity (length l.log.items) (vec_capacity l.next) (vec_capacity l.labels) (vec_capacity l.log) };
+    ghost invariant = { λ l. IsKept l.next.items l.labels.items l.log.items
+        × HasRoom l.capacity (length l.log.items) (vec_capacity l.next) (vec_capacity l.labels) (vec_capacity l.log) };
 }
 
 impl OmList {

@@ -138,7 +138,8 @@ pub fn replay(alloc: Global, run_log: &RunLog) -> Result<Replayed, NoMemory>
     ensures nodes { IfOk result (λ r. r.nodes ≡ log_starts run_log.now.events) }
     ensures down { IfOk result (λ r. r.orders.down.log ≡ down_first_log (log_starts run_log.now.events)) }
     ensures right { IfOk result (λ r. r.orders.right.log ≡ right_first_log (log_columns run_log.now.events) (log_starts run_log.now.events)) }
-    ensures marks { IfOk result (λ r. r.marks.items ≡ marks_of_starts (log_columns run_log.now.events) (log_starts run_log.now.events) (log_starts run_log.now.events)) }
+    ensures marks { IfOk result (λ r. r.marks.items ≡ marks_of_starts (log_columns run_log.now.events) (log_starts run_log.now.events)
+        (log_starts run_log.now.events)) }
     ensures instances { IfOk result (λ r. (x : PlainNodeId) → IsStarted r.nodes x ↔ IsNodeOf (log_columns run_log.now.events) x) }
     ensures orders { IfOk result (λ r. OrdersArePrecedes (log_columns run_log.now.events) r.nodes r.marks.items r.orders) }
 {

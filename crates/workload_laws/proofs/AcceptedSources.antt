@@ -131,7 +131,19 @@ spells size few = record {
   pieces = program_pieces (generated_tree size);
   split = refl;
   derived = program_derived (generated_tree size) (writable size few);
-  short = (omega arith, (omega arith, (omega arith, (omega arith, (omega arith, (omega arith, (omega arith, (omega arith, (omega arith, (omega arith, (omega arith, (omega arith, (omega arith, tt)))))))))))));
+  short = (
+    omega arith,
+    (
+      omega arith,
+      (
+        omega arith,
+        (
+          omega arith,
+          (omega arith, (omega arith, (omega arith, (omega arith, (omega arith, (omega arith, (omega arith, (omega arith, (omega arith, tt))))))))),
+        ),
+      ),
+    ),
+  );
   shallow = shallow size;
 }
 

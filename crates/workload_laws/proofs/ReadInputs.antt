@@ -48,7 +48,8 @@ lines_listed seed j zero = Stops []
 lines_listed seed j (suc n) =
     let small = item_small seed j in
     subst (λ x. ListsNumbers x (items_from seed j (suc n)) []) (sym (append_assoc (decimal (item seed j)) (codes "\n") (lines_from seed (suc j) n)))
-    (Number (decimal (item seed j)) (pos (item seed j)) (decimal_value (item seed j) (omega (arith, small))) refl (Separator 10 refl (lines_listed seed (suc j) n)))
+    (Number (decimal (item seed j)) (pos (item seed j)) (decimal_value (item seed j) (omega (arith, small))) refl
+    (Separator 10 refl (lines_listed seed (suc j) n)))
 
 -- the lines are short, few, and their items narrow
 lines_short : (seed j n : ℕ) → length (lines_from seed j n) ≤ 4 * n
