@@ -1,5 +1,5 @@
 -- An insertion: links, labels and log with the new element.
-use Rattle.std.proofs.Common.{◌≡◌, ◌≢◌, ℕ, zero, suc, ◌+◌, ◌-◌, ◌/◌, ◌^◌, ◌<◌, ◌≤◌, ◌↔◌, List, [], ◌∷◌, ◌++◌, length, get_or, slice_index, slice_set, true, IsTrue, ltb, refl, sym, ap, ◌∙◌, subst, arith, eq-eqb, ne_eqb, inl, inr, length-set}
+use Rattle.std.proofs.Common.{◌≡◌, ℕ, ◌+◌, ◌-◌, ◌/◌, ◌^◌, ◌<◌, ◌≤◌, ◌↔◌, List, [], ◌∷◌, ◌++◌, length, get_or, slice_index, slice_set, true, IsTrue, ltb, refl, sym, ap, ◌∙◌, subst, arith, eq-eqb, ne_eqb, inl, inr, length-set}
 use Rattle.std.proofs.lemmas.Bool.{cases_eq, lt-ltb, ltb-true}
 use Rattle.std.proofs.lemmas.List.{get_or_append_left, get_or_push, get_or-set_other, get_or-set_same, length_push}
 use Rattle.pipe_model.specs.Orders.OrderList.{has, insert_after, list_of_log, StandsBefore}
@@ -13,7 +13,7 @@ use Rattle.om_list.specs.Labels.{LabelsRise}
 use Rattle.om_list.specs.Links.{AreLinked, chain, first_of, followed, label_after, label_or}
 use Rattle.om_list.proofs.LinkedLists.{LinksAfter, first_inserted, followed_is, length_followed, length_inserted, linked_inserted, rises_inserted}
 use Rattle.om_list.proofs.RisingLabels.{before_by_label, rises_same}
-use Rattle.om_list.proofs.Relabelling.{label_of_link, link_below}
+use Rattle.om_list.proofs.Relabelling.{link_below}
 
 -- the links with a new element after x
 abbrev links_with : List ℕ → ℕ → List ℕ

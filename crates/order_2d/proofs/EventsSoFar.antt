@@ -1,17 +1,16 @@
 -- The first events of a log, without the accesses: their state, their starts, and how many instances each iteration has.
 use Rattle.std.proofs.Common.{◌≡◌, ◌∙◌, refl, sym, ap, subst, ℕ, ℤ, zero, suc, ◌+◌, ◌<◌, ◌≤◌, List, [], ◌∷◌, ◌++◌, length, map, get_or, set, slice_index, slice_set, take, drop, true, false, Bool, arith, append-nil, append_assoc, inl, inr, Some, cond}
 use Rattle.std.proofs.lemmas.Bool.{cases_eq, cases_lt}
-use Rattle.std.proofs.lemmas.List.{length-map, length_push, length-append, map-append, take_all, take_more, take-append-drop, get_or_append_left, get_or_push, get_or_past, get_or-set_same, get_or-set_other, length-set}
+use Rattle.std.proofs.lemmas.List.{length-map, length_push, length-append, take_all, take_more, take-append-drop, get_or_append_left, get_or_push, get_or_past, get_or-set_same, get_or-set_other, length-set}
 use Rattle.pipe_model.specs.declared.event.Event.{Event}
 use Rattle.pipe_model.specs.declared.event.Event.TheVariants.{Begin, Advance, Enter, Finish, Stop, Access}
 use Rattle.pipe_model.specs.declared.node.Kind.{Kind}
 use Rattle.pipe_model.specs.declared.node.Node.{Node}
-use Rattle.pipe_model.specs.declared.node.NodeId.{NodeId}
 use Rattle.pipe_model.specs.declared.status.Status.TheVariants.{Pending, Completed}
 use Rattle.pipe_model.specs.Orders.Starts.{started_by, starts_from, starts_of}
 use Rattle.pipe_model.specs.Pipelines.Behaviour.{Staged, Ended}
 use Rattle.pipe_model.specs.Races.Columns.{at, nodes_at}
-use Rattle.pipe_model.specs.Runs.Allowed.{ControlAllows, MayEnter}
+use Rattle.pipe_model.specs.Runs.Allowed.{ControlAllows}
 use Rattle.pipe_model.specs.Runs.ControlParts.{without_accesses}
 use Rattle.pipe_model.specs.Runs.ControlRun.{is_access}
 use Rattle.pipe_model.specs.Runs.Run.{state_from}

@@ -1,5 +1,5 @@
 -- The two lists of the first starts, and of one start more.
-use Rattle.std.proofs.Common.{◌≡◌, ◌∙◌, refl, sym, ap, ap₂, subst, ℕ, zero, suc, ◌+◌, ◌*◌, ◌<◌, ◌≤◌, ◌↔◌, List, [], ◌∷◌, ◌++◌, length, map, take, get_or, arith}
+use Rattle.std.proofs.Common.{◌≡◌, ◌∙◌, refl, sym, ap, ap₂, subst, ℕ, zero, suc, ◌+◌, ◌*◌, ◌<◌, ◌≤◌, ◌↔◌, List, [], ◌∷◌, ◌++◌, length, map, take, arith}
 use Rattle.std.proofs.lemmas.List.{length-take-le, map-append, take_more}
 use Rattle.order_2d.specs.OrderPairs.{HasRoom, OrderPair, marks_after, with_start}
 use Rattle.order_2d.specs.ReplayedOrders.{IsBeforeInLists, OrdersArePrecedes, marks_at, marks_of_starts}
@@ -8,7 +8,7 @@ use Rattle.pipe_model.specs.declared.marks.Marks.{Marks}
 use Rattle.pipe_model.specs.declared.node.Node.{Node}
 use Rattle.pipe_model.specs.declared.node.NodeId.{NodeId}
 use Rattle.pipe_model.specs.Orders.OrderList.{StandsBefore, list_of_log}
-use Rattle.pipe_model.specs.Orders.OrderMarks.{instance_marks, start_marks}
+use Rattle.pipe_model.specs.Orders.OrderMarks.{instance_marks}
 use Rattle.pipe_model.specs.Orders.Starts.{AreStarts, start_at, start_number}
 use Rattle.pipe_model.specs.Orders.TwoOrders.{down_element, down_first_log, down_first_taken, first_placeholder, log_entries, right_element, right_first_log, right_first_taken}
 use Rattle.pipe_model.specs.Races.Columns.{AreColumns, at}

@@ -1,5 +1,5 @@
 -- The parents of the next instance, and the elements that it takes.
-use Rattle.std.proofs.Common.{◌≡◌, ◌∙◌, refl, sym, ap, subst, ℕ, zero, suc, ◌+◌, ◌-◌, ◌*◌, ◌<◌, ◌≤◌, List, length, arith, inl, inr}
+use Rattle.std.proofs.Common.{◌≡◌, ◌∙◌, refl, sym, ap, subst, ℕ, zero, suc, ◌+◌, ◌-◌, ◌*◌, ◌<◌, List, length, arith}
 use Rattle.std.specs.Prelude.{Option, Some, None, option_map}
 use Rattle.order_2d.specs.declared.started.StartedNode.{StartedNode}
 use Rattle.order_2d.specs.OrderPairs.{AreInserted, down_taken, right_taken}

@@ -3,12 +3,11 @@ use Rattle.std.specs.Prelude.{◌≡◌, ℕ, ℤ, zero, suc, ◌<◌, ◌*◌, 
 use Rattle.std.specs.Prelude.{Option, Some, None}
 use Rattle.order_2d.specs.declared.started.StartedNode.{StartedNode}
 use Rattle.pipe_model.specs.declared.column.Column.{Column}
-use Rattle.pipe_model.specs.declared.marks.Marks.{Marks}
 use Rattle.pipe_model.specs.declared.node.Kind.{Kind}
 use Rattle.pipe_model.specs.declared.node.Kind.TheVariants.{Zero, Wait, Continue}
 use Rattle.pipe_model.specs.declared.node.Node.{Node}
 use Rattle.pipe_model.specs.declared.node.NodeId.{NodeId}
-use Rattle.pipe_model.specs.Orders.LeftParent.{joined_at, left_parent}
+use Rattle.pipe_model.specs.Orders.LeftParent.{joined_at}
 use Rattle.pipe_model.specs.Orders.OrderMarks.{instance_marks, start_marks}
 use Rattle.pipe_model.specs.Orders.Starts.{AreStarts, start_number}
 use Rattle.pipe_model.specs.Orders.TwoOrders.{down_first_taken, log_entries, right_first_taken}

@@ -7,7 +7,6 @@ use Rattle.std.proofs.lemmas.List.{take-append-drop}
 use Rattle.std.proofs.lemmas.List.Sums.{prefix_len-le-length}
 use Rattle.pipe_model.specs.Language.Lexis.{is_digit, number_of}
 use Rattle.pipe_io.specs.declared.numerals.Flaw.TheVariants as flaws
-use Rattle.pipe_io.specs.declared.numerals.Numeral.{Numeral}
 use Rattle.pipe_io.specs.declared.bounds.TheConstants.{MOST_NUMBERS}
 use Rattle.pipe_io.specs.InputFile.{BeginsNothing, BeginsNumber, FitsI64, EndsNumber, begins_digit, digits_value, signed, value_of, minus}
 use Rattle.pipe_io.specs.Numerals.{BeginsPlain, CutNumber, IsFlaw, IsNumeralOf, OneMore, WideNumber, BareMinus, StrayByte, with_sign}

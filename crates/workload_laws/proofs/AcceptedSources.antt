@@ -11,7 +11,7 @@ use Rattle.pipe_model.specs.Language.CheckingRules.{fault_of}
 use Rattle.pipe_model.specs.Language.Grammar.{flat}
 use Rattle.pipe_model.specs.Language.SourceRefusals.{IsAccepted}
 use Rattle.pipe_model.specs.Language.SourceSpelling.{SourceSpells}
-use Rattle.pipe_model.specs.Language.Spelling.{IsShallow, Spells, is_opening_bracket, open_brackets}
+use Rattle.pipe_model.specs.Language.Spelling.{IsShallow, Spells, is_opening_bracket}
 use Rattle.grammar_laws.proofs.CanonicalDerivations.{program_derived}
 use Rattle.grammar_laws.proofs.CanonicalDivision.{program_source}
 use Rattle.grammar_laws.proofs.CanonicalSymbols.{program_pieces, IsName, IsNumeral, Numeral, Positive, IsWritableProgram}

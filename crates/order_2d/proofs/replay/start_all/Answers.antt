@@ -1,5 +1,5 @@
 -- Start after start.
-use Rattle.std.proofs.Common.{◌≡◌, ◌∙◌, ◌++◌, ◌∷◌, [], ap, slice_set}
+use Rattle.std.proofs.Common.{◌∙◌, ◌++◌, ◌∷◌, [], ap, slice_set}
 use Rattle.order_2d.specs.declared.started.StartedNode.{StartedNode}
 use Rattle.order_2d.specs.LogStarts.{nodes_of_columns}
 use Rattle.order_2d.specs.StartedNodes.{row_at}

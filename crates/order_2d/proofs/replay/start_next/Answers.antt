@@ -1,6 +1,5 @@
 -- The next instance takes the placeholders of its parents.
-use Rattle.std.proofs.Common.{◌≡◌, ◌∙◌, ◌<◌, ◌+◌, sym, ap, ap₂, subst, arith, length}
-use Rattle.std.specs.Prelude.{Some}
+use Rattle.std.proofs.Common.{◌∙◌, ◌+◌, sym, ap₂, subst, arith, length}
 use mathlib.Core.Path.{subst₂}
 use Rattle.order_2d.specs.declared.started.StartedNode.{StartedNode}
 use Rattle.order_2d.specs.LogStarts.{nodes_of_columns}
@@ -8,7 +7,7 @@ use Rattle.order_2d.specs.OrderPairs.{AreInserted, down_taken, right_taken}
 use Rattle.order_2d.specs.StartedNodes.{HasLists, IsAbove, joined_from}
 use Rattle.order_2d.proofs.LeftParentSearch.{joined_is}
 use Rattle.order_2d.proofs.ListsSoFar.{has_room, lists_more, log_long, marks_are}
-use Rattle.order_2d.proofs.ParentMarks.{above_is, above_node, above_there, inserted, is_above, left_parent_marks, left_there, parents_are, taken_down, taken_right, up_marks}
+use Rattle.order_2d.proofs.ParentMarks.{above_is, above_node, above_there, inserted, is_above, left_there, parents_are, taken_down, taken_right}
 use Rattle.order_2d.proofs.replay.start_next.Goals as goal
 use Rattle.pipe_model.specs.Orders.Starts.{start_at, start_number}
 use Rattle.pipe_model.specs.Orders.TwoOrders.{down_first_taken}

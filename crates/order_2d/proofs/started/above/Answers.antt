@@ -1,5 +1,5 @@
 -- The instance above is in the row of the column.
-use Rattle.std.proofs.Common.{◌≡◌, ◌∙◌, ◌-◌, ◌<◌, ◌+◌, ap, arith, length, []}
+use Rattle.std.proofs.Common.{◌∙◌, ◌-◌, ◌<◌, ap, arith, length, []}
 use Rattle.std.proofs.lemmas.List.{get_or_default}
 use Rattle.order_2d.specs.StartedNodes.{row_at}
 use Rattle.order_2d.proofs.RowsSoFar.{read_row}

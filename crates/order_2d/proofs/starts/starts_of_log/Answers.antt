@@ -1,5 +1,5 @@
 -- Event after event.
-use Rattle.std.proofs.Common.{◌≡◌, ◌∙◌, ◌++◌, sym, ap, ap₂, subst, arith, ℕ, List, length, get_or, slice_index}
+use Rattle.std.proofs.Common.{◌∙◌, ◌++◌, sym, ap, ap₂, subst, arith, ℕ, List, length, get_or, slice_index}
 use Rattle.std.proofs.lemmas.List.{get_or_default, length-append}
 use Rattle.order_2d.specs.LogStarts.{EntersBegun, counts_after, counts_in, started_after}
 use Rattle.order_2d.proofs.EventsSoFar.{counted_after, events_before, next_event, state_before}
