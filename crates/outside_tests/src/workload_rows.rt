@@ -2,6 +2,7 @@
 
 use pipe_gen::choices::choice;
 use pipe_gen::workload::generate;
+use pipe_io::numbers::numbers;
 use std::test::Fail;
 
 const SOURCE: &str = "limits iterations 3, stages 6, steps 100, emits 3;
@@ -39,16 +40,11 @@ fn a_workload_is_generated(rt: HostRuntime) -> Result<(), Fail> {
     Ok(())
 }
 
-// The greatest workload has one line for each item.
+// The greatest workload has the most items, and its input is read as numbers.
 #[test]
 fn the_greatest_workload_is_generated(rt: HostRuntime) -> Result<(), Fail> {
     let made = generate(rt.alloc(), 65_535, 40_000)?;
-    let lines = made
-        .input
-        .as_slice()
-        .iter()
-        .filter(|b| **b == b'\n')
-        .count();
-    assert_eq!(rt; lines, 40_000);
+    let items = numbers(rt.alloc(), made.input.as_slice())?;
+    assert_eq!(rt; items.len(), 40_000);
     Ok(())
 }
