@@ -4,3 +4,6 @@ pub mod Reads
 pub mod Writes
 pub mod WholeFiles
 pub mod MemoryFiles
+pub mod InputFile
+pub mod Numerals
+pub mod InputLaws

@@ -1,0 +1,3 @@
+pub mod Choices
+pub mod Workload
+pub mod WorkloadExamples
