@@ -163,6 +163,7 @@ one_fault_at {bytes} {f} {g} a b = by_side (one_continues a.reached.listed b.rea
         let place : a.place ≡ b.place = same_place bytes a.place b.place a.reached.within b.reached.within rests in
         let flaw : a.flaw ≡ b.flaw = one_flaw a.wrong (rw (← rests, ← counts) at b.wrong) in
         a.fault_is ∙ ap (λ x. fault_at x a.place) flaw ∙ ap (λ x. fault_at b.flaw x) place ∙ sym b.fault_is
+
     by_side : Continues (drop a.place bytes) (drop b.place bytes) a.before b.before ⊎ Continues (drop b.place bytes) (drop a.place bytes) b.before a.before → f ≡ g
     by_side (inl s) = let e = no_further (drop b.place bytes) b.before a s b.reached.few b.reached.narrow in at_one e.1 (ap length (sym e.0))
     by_side (inr s) = let e = no_further (drop a.place bytes) a.before b s a.reached.few a.reached.narrow in at_one (sym e.1) (ap length e.0)
@@ -204,6 +205,7 @@ numbers_have_no_fault {bytes} {f} {numbers} h a = by_kind (flawed h)
     by_side : (x : IsFlawed bytes f) → Continues (drop x.place bytes) [] x.before numbers ⊎ Continues [] (drop x.place bytes) numbers x.before → ⊥
     by_side x (inl s) = byte_there x.wrong (no_further [] numbers x s a.few a.narrow).1
     by_side x (inr s) = byte_there x.wrong (nothing_left s.2 refl)
+
     by_kind : ((f ≡ faults.TooLong) × (LONGEST_INPUT < length bytes)) ⊎ IsFlawed bytes f → ⊥
     by_kind (inl x) = let short = a.short in omega (arith, x.1, short)
     by_kind (inr x) = by_side x (one_continues x.reached.listed a.listed refl)

@@ -72,6 +72,7 @@ past_number bytes rest found numeral r p few =
   where
     parts_within : (rest text following : List ℕ) → rest ≡ text ++ following → numeral.length ≡ length text → numeral.length ≤ length rest
     parts_within rest text following e m = rw (m, e, length-append text following) (omega arith)
+
     one_longer : (found : List ℤ) (n : ℤ) → length (found ++ n ∷ []) ≡ suc (length found)
     one_longer [] n = refl
     one_longer (x ∷ xs) n = ap suc (one_longer xs n)

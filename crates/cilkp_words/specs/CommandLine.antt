@@ -1,0 +1,46 @@
+-- The command line: four subcommands with their files and options, without help and version.
+use Rattle.std.specs.Prelude.{true, false, List, [], ◌∷◌, codes, Some}
+use Rattle.clap.specs.Simple.{App, Shape, new_rule, new_shape}
+use Rattle.clap.specs.Walk.{Rule, Text}
+
+-- the name of a file, by its position among the words that are no options
+abbrev pub file_rule : Text → Rule
+file_rule name = record (new_rule name) { required = true }
+
+-- an option `--NAME` with one value
+abbrev pub option_rule : Text → Rule
+option_rule name = record (new_rule name) { long = Some name }
+
+-- a subcommand with these arguments
+abbrev pub subcommand_shape : Text → List Rule → Shape
+subcommand_shape name rules = record (new_shape name) { rules = rules }
+
+-- run SOURCE INPUT [--workers P] [--throttle K]
+abbrev pub run_shape : Shape
+run_shape = subcommand_shape (codes "run") (file_rule (codes "source") ∷ file_rule (codes "input") ∷ option_rule (codes "workers") ∷ option_rule (codes "throttle") ∷ [])
+
+-- serial SOURCE INPUT
+abbrev pub serial_shape : Shape
+serial_shape = subcommand_shape (codes "serial") (file_rule (codes "source") ∷ file_rule (codes "input") ∷ [])
+
+-- format SOURCE
+abbrev pub format_shape : Shape
+format_shape = subcommand_shape (codes "format") (file_rule (codes "source") ∷ [])
+
+-- bench [--seed n] [--size m]
+abbrev pub bench_shape : Shape
+bench_shape = subcommand_shape (codes "bench") (option_rule (codes "seed") ∷ option_rule (codes "size") ∷ [])
+
+-- the command line without its subcommands; the name of the program is not among the words
+abbrev pub bare_line : App
+bare_line = record {
+  top = record (new_shape (codes "cilkp")) { no_binary_name = true; disable_help_flag = true; disable_help_subcommand = true };
+  subs = [];
+}
+
+-- the whole command line
+abbrev pub command_line : App
+command_line = record {
+  top = record bare_line.top { is_leaf = false };
+  subs = run_shape ∷ serial_shape ∷ format_shape ∷ bench_shape ∷ [];
+}

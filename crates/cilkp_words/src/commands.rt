@@ -1,0 +1,27 @@
+//! The commands.
+
+/// What a call is to do.
+#[derive(Clone, Copy, PartialEq, Eq, Debug)]
+pub enum Command<'a> {
+    /// Runs a source on an input, with `workers` workers and at most `throttle` iterations alive.
+    Run {
+        source: &'a str,
+        input: &'a str,
+        workers: u32,
+        throttle: u32,
+    },
+    /// Runs a source on an input serially.
+    Serial {
+        source: &'a str,
+        input: &'a str,
+    },
+    /// Prints the canonical text of a source.
+    Format {
+        source: &'a str,
+    },
+    /// Runs a generated workload.
+    Bench {
+        seed: u32,
+        size: u32,
+    },
+}

@@ -1,0 +1,40 @@
+//! Worked command lines, which the checker computes from the definitions.
+
+ghost use Rattle.cilkp_words.specs.WordExamples.{CallsForHelp, FileNames, LaterForms, MisplacedOptions, OptionNumbers, OtherCommands, SeparateAndJoinedValues};
+
+/// The value of an option is the next word or joined by `=`, and options may be anywhere among the
+/// files.
+pub fn separate_and_joined_values()
+    ensures { SeparateAndJoinedValues }
+{}
+
+/// An option before the command, twice, without a value, abbreviated, or of another command is
+/// refused.
+pub fn misplaced_options()
+    ensures { MisplacedOptions }
+{}
+
+/// The number of an option is plain decimal and within its range.
+pub fn option_numbers()
+    ensures { OptionNumbers }
+{}
+
+/// Words after `--` are file names, and so are `-` and the empty word.
+pub fn file_names()
+    ensures { FileNames }
+{}
+
+/// No command, and calls for help or a version, are refused.
+pub fn calls_for_help()
+    ensures { CallsForHelp }
+{}
+
+/// The commands `serial`, `format` and `bench`.
+pub fn other_commands()
+    ensures { OtherCommands }
+{}
+
+/// The command `play` and the flag `--record` do not exist yet.
+pub fn later_forms()
+    ensures { LaterForms }
+{}

@@ -1,0 +1,100 @@
+//! Which command the words of a call ask for.
+
+ghost use Rattle.std.specs.Prelude.{◌≡◌, IfOk, option_and_then, option_map};
+ghost use Rattle.clap.specs.Matches.{found_of};
+ghost use Rattle.clap.specs.Simple.{subcommand_rows_of};
+ghost use Rattle.clap.specs.Walk.{first_of, rows_of};
+ghost use Rattle.cilkp_words.specs.Commands.{command_data};
+ghost use Rattle.cilkp_words.specs.CommandWords.{bench_of, command_named, command_of, format_of, run_of, serial_of, words_of};
+
+use crate::commands::Command;
+use crate::line::command_line;
+use crate::option_numbers::number_or;
+use crate::ranges::{
+    DEFAULT_SEED, DEFAULT_SIZE, DEFAULT_WORKERS, MOST_THROTTLE, MOST_WORKERS, THROTTLE_PER_WORKER,
+};
+use clap::ArgMatches;
+use clap::error::ErrorKind;
+use pipe_gen::choices::MOST_SEED;
+use pipe_gen::workload::MOST_SIZE;
+use pipe_model::memory::NoMemory;
+use std::alloc::Global;
+
+// The word of an argument.
+fn word<'a>(matches: &ArgMatches<'a>, name: &str) -> Option<&'a str>
+    ensures { option_map (λ s. s.now) result ≡ first_of name.now (rows_of (found_of matches.now)) }
+{
+    matches.get_str(name)
+}
+
+fn run<'a>(matches: &ArgMatches<'a>) -> Option<Command<'a>>
+    ensures { option_map command_data result ≡ run_of (rows_of (found_of matches.now)) }
+{
+    let source = word(matches, "source")?;
+    let input = word(matches, "input")?;
+    let workers = number_or(DEFAULT_WORKERS, 1, MOST_WORKERS, word(matches, "workers"))?;
+    let default = THROTTLE_PER_WORKER * workers;
+    let throttle = number_or(default, 1, MOST_THROTTLE, word(matches, "throttle"))?;
+    Some(Command::Run {
+        source,
+        input,
+        workers,
+        throttle,
+    })
+}
+
+fn serial<'a>(matches: &ArgMatches<'a>) -> Option<Command<'a>>
+    ensures { option_map command_data result ≡ serial_of (rows_of (found_of matches.now)) }
+{
+    let source = word(matches, "source")?;
+    let input = word(matches, "input")?;
+    Some(Command::Serial { source, input })
+}
+
+fn format<'a>(matches: &ArgMatches<'a>) -> Option<Command<'a>>
+    ensures { option_map command_data result ≡ format_of (rows_of (found_of matches.now)) }
+{
+    let source = word(matches, "source")?;
+    Some(Command::Format { source })
+}
+
+fn bench<'a>(matches: &ArgMatches<'a>) -> Option<Command<'a>>
+    ensures { option_map command_data result ≡ bench_of (rows_of (found_of matches.now)) }
+{
+    let seed = number_or(DEFAULT_SEED, 0, MOST_SEED, word(matches, "seed"))?;
+    let size = number_or(DEFAULT_SIZE, 1, MOST_SIZE, word(matches, "size"))?;
+    Some(Command::Bench { seed, size })
+}
+
+// The command of the subcommand with this name.
+fn command_named<'a>(name: &str, matches: &ArgMatches<'a>) -> Option<Command<'a>>
+    ensures { option_map command_data result ≡ command_named name.now (rows_of (found_of matches.now)) }
+{
+    match name {
+        "run" => run(matches),
+        "serial" => serial(matches),
+        "format" => format(matches),
+        "bench" => bench(matches),
+        _ => None,
+    }
+}
+
+// The command of the subcommand that was given, if there is one.
+fn command_in<'a>(matches: &ArgMatches<'a>) -> Option<Command<'a>>
+    ensures { option_map command_data result ≡ option_and_then (λ p. command_named p.0 p.1) (subcommand_rows_of matches.now) }
+{
+    let (name, below) = matches.subcommand()?;
+    command_named(name, below)
+}
+
+/// Returns the command that the words ask for; `None` if they are no command. Calls for help or a
+/// version are none. Returns an error only if memory runs out.
+pub fn read_words<'a>(alloc: Global, words: &'a [String]) -> Result<Option<Command<'a>>, NoMemory>
+    ensures command { IfOk result (λ found. option_map command_data found ≡ command_of (words_of words.now)) }
+{
+    match command_line(alloc)?.try_get_matches_from(words) {
+        Ok(matches) => Ok(command_in(&matches)),
+        Err(error) if error.kind() == ErrorKind::OutOfMemory => Err(NoMemory),
+        Err(_) => Ok(None),
+    }
+}

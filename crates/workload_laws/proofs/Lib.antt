@@ -1,0 +1,3 @@
+mod AcceptedSources
+mod DecimalValues
+mod ReadInputs

@@ -1,0 +1,2 @@
+pub mod GeneratedPrograms
+pub mod GeneratedNumbers
