@@ -37,7 +37,7 @@ record TellsOf (columns : List (List Node)) (accesses : List NodeAccess) (cell :
 tells_of : (columns : List (List Node)) (accesses : List NodeAccess) (cell : ℕ) (r : Report) → r.cell.0 ≡ cell → ReportsFirstRaceOfCell columns accesses r
     → TellsOf columns accesses cell r
 tells_of columns accesses cell r e h =
-    subst (λ c. TellsOf columns accesses c r) e (record { earlier = h.earlier; later = h.later; first = h.first; known = h.known })
+    subst (λ c. TellsOf columns accesses c r) e (record { earlier = h.earlier; later = h.later; first = h.first; known = h.told })
 
 -- a cell has at most one report of its first race
 one_report : (columns : List (List Node)) (accesses : List NodeAccess) (cell : ℕ) (r s : Report) → TellsOf columns accesses cell r
