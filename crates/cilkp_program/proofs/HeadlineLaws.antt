@@ -39,10 +39,10 @@ accepted_row : {asked : Option Command} {content : Content} {held : FileContents
 accepted_row tree numbers a s i (NoCommand none) = absurd (no_command none a.command)
 accepted_row tree numbers a s i (SourceRefused source w r) = absurd (refused_not_accepted_file tree r (rw (← s) a.program))
 accepted_row tree numbers a s i (Formats source other w o) = absurd (run_is_not_format a.command w)
-accepted_row tree numbers a s i (InputRefused input other w o r) = absurd (refused_no_input numbers r (rw (← i) a.numbers))
+accepted_row tree numbers a s i (InputRefused input other w o r) = absurd (refused_no_input numbers r (rw (← i) a.read))
 accepted_row tree numbers a s i (Runs source input workers throttle other others w o r) =
     let same : other ≡ tree = one_source other tree o.program (rw (← s) a.program) in
-    let also : others ≡ numbers = one_input others numbers o.numbers (rw (← i) a.numbers) in
+    let also : others ≡ numbers = one_input others numbers o.read (rw (← i) a.read) in
     record { logged = λ j. Some (elision_log (same j) (also j)); outcome = rw (← same, ← also) r }
 accepted_row tree numbers a s i (RunsSerially source input other others w o r) = absurd (run_is_not_serial a.command w)
 

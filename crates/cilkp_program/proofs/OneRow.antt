@@ -93,7 +93,7 @@ one_run : {held : FileContents} (tree other_tree : SyntaxTree) (numbers others :
     → (status ≡ other) × (text ≡ other_text) × (Some (elision_log tree numbers) ≡ Some (elision_log other_tree others)) × (reports ≡ other_reports)
 one_run tree other_tree numbers others {status} {other} {text} {other_text} {reports} {other_reports} a b r r' =
     let same : tree ≡ other_tree = one_source tree other_tree a.program b.program in
-    let also : numbers ≡ others = one_input numbers others a.numbers b.numbers in
+    let also : numbers ≡ others = one_input numbers others a.read b.read in
     let one : AreOneRow status other text other_text reports other_reports = one_outcome r (rw (same, also) r') in
     (one.0, one.1, (λ i. Some (elision_log (same i) (also i))), one.2)
 
@@ -160,18 +160,18 @@ one_row (InputRefused i tree w o r) (NoCommand n) = absurd (no_input n w)
 one_row (InputRefused i tree w o r) (SourceRefused s' w' r') = absurd (refused_not_accepted_file tree r' o)
 one_row (InputRefused i tree w o r) (Formats s' tree' w' o') = absurd (format_has_no_input w' w)
 one_row (InputRefused i tree w o r) (InputRefused i' tree' w' o' r') = (refl, one_input_refusal r (rw (one_held _ i i' w w') r'), refl, refl)
-one_row (InputRefused i tree w o r) (Runs s' i' p k tree' xs w' a r') = absurd (refused_no_input xs r a.numbers)
-one_row (InputRefused i tree w o r) (RunsSerially s' i' tree' xs w' a r') = absurd (refused_no_input xs r a.numbers)
+one_row (InputRefused i tree w o r) (Runs s' i' p k tree' xs w' a r') = absurd (refused_no_input xs r a.read)
+one_row (InputRefused i tree w o r) (RunsSerially s' i' tree' xs w' a r') = absurd (refused_no_input xs r a.read)
 one_row (Runs s i p k tree xs w a r) (NoCommand n) = absurd (no_command n w)
 one_row (Runs s i p k tree xs w a r) (SourceRefused s' w' r') = absurd (refused_not_accepted_file tree r' a.program)
 one_row (Runs s i p k tree xs w a r) (Formats s' tree' w' o') = absurd (run_is_not_format w w')
-one_row (Runs s i p k tree xs w a r) (InputRefused i' tree' w' o' r') = absurd (refused_no_input xs r' a.numbers)
+one_row (Runs s i p k tree xs w a r) (InputRefused i' tree' w' o' r') = absurd (refused_no_input xs r' a.read)
 one_row (Runs s i p k tree xs w a r) (Runs s' i' p' k' tree' xs' w' a' r') = one_run tree tree' xs xs' a a' r r'
 one_row (Runs s i p k tree xs w a r) (RunsSerially s' i' tree' xs' w' a' r') = absurd (run_is_not_serial w w')
 one_row (RunsSerially s i tree xs w a r) (NoCommand n) = absurd (no_command n w)
 one_row (RunsSerially s i tree xs w a r) (SourceRefused s' w' r') = absurd (refused_not_accepted_file tree r' a.program)
 one_row (RunsSerially s i tree xs w a r) (Formats s' tree' w' o') = absurd (serial_is_not_format w w')
-one_row (RunsSerially s i tree xs w a r) (InputRefused i' tree' w' o' r') = absurd (refused_no_input xs r' a.numbers)
+one_row (RunsSerially s i tree xs w a r) (InputRefused i' tree' w' o' r') = absurd (refused_no_input xs r' a.read)
 one_row (RunsSerially s i tree xs w a r) (Runs s' i' p k tree' xs' w' a' r') = absurd (run_is_not_serial w' w)
 one_row (RunsSerially s i tree xs w a r) (RunsSerially s' i' tree' xs' w' a' r') =
     let one = one_run tree tree' xs xs' a a' r r' in (one.0, one.1, refl, one.3)

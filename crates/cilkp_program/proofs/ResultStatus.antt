@@ -37,23 +37,23 @@ record TellsStatus (asked : Option Command) (before now status : ℕ) (log : Opt
   logged : IsLogged asked status log
 
 -- a result without a log
-no_log : {asked : Option Command} {status : ℕ} → (KeepsLog asked × (status ≢ 1) × (status ≢ 4) → ⊥) → IsLogged asked status None
-no_log never = ((λ some. let d : false ≡ true = some in cc (d)), λ logs. absurd (never logs))
+no_log : (asked : Option Command) (status : ℕ) → (KeepsLog asked × (status ≢ 1) × (status ≢ 4) → ⊥) → IsLogged asked status None
+no_log asked status never = ((λ some. let d : false ≡ true = some in cc (d)), λ logs. absurd (never logs))
 
 -- a refusal
 refusal : {asked : Option Command} {before now : ℕ} → TellsStatus asked before now 1 None
-refusal = record { small = omega arith; fault = λ e. absurd (omega (arith, e)); logged = no_log (λ logs. logs.1 refl) }
+refusal = record { small = omega arith; fault = λ e. absurd (omega (arith, e)); logged = no_log _ _ (λ logs. logs.1 refl) }
 
 -- a read that failed
 read_fault : {asked : Option Command} {before now : ℕ} → CountRose before now → TellsStatus asked before now 4 None
-read_fault rose = record { small = omega arith; fault = λ e. rose; logged = no_log (λ logs. logs.2 refl) }
+read_fault rose = record { small = omega arith; fault = λ e. rose; logged = no_log _ _ (λ logs. logs.2 refl) }
 
 -- a command that keeps no log
 without_log : {asked : Option Command} {before now status : ℕ} → (KeepsLog asked → ⊥) → IsRunStatus status → TellsStatus asked before now status None
 without_log silent is = record {
   small = run_status_is_small is;
   fault = λ four. absurd (run_status_is_no_fault is (inr four));
-  logged = no_log (λ logs. silent logs.0);
+  logged = no_log _ _ (λ logs. silent logs.0);
 }
 
 -- a run

@@ -119,7 +119,7 @@ files_ready holds later before mid now source input checked numbers keeps same s
   calm = same' ∙ same;
   source_known = s.known;
   input_known = rw keeps at i.known;
-  accepted = record { program = s.result_is; numbers = i.result_is };
+  accepted = record { program = s.result_is; read = i.result_is };
 }
 
 -- ---- a program that is run

@@ -24,11 +24,11 @@ elided_row : {asked : Option Command} {content : Content} {held : FileContents} 
 elided_row tree numbers a s i (NoCommand none) = absurd (no_command none a.command)
 elided_row tree numbers a s i (SourceRefused source w r) = absurd (refused_not_accepted_file tree r (rw (← s) a.program))
 elided_row tree numbers a s i (Formats source other w o) = absurd (serial_is_not_format a.command w)
-elided_row tree numbers a s i (InputRefused input other w o r) = absurd (refused_no_input numbers r (rw (← i) a.numbers))
+elided_row tree numbers a s i (InputRefused input other w o r) = absurd (refused_no_input numbers r (rw (← i) a.read))
 elided_row tree numbers a s i (Runs source input workers throttle other others w o r) = absurd (run_is_not_serial w a.command)
 elided_row tree numbers a s i (RunsSerially source input other others w o r) =
     let same : other ≡ tree = one_source other tree o.program (rw (← s) a.program) in
-    let also : others ≡ numbers = one_input others numbers o.numbers (rw (← i) a.numbers) in
+    let also : others ≡ numbers = one_input others numbers o.read (rw (← i) a.read) in
     record { unlogged = refl; outcome = rw (← same, ← also) r }
 
 -- the result of a call that runs the elision of an accepted program, if no read failed

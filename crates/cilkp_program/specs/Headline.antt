@@ -23,7 +23,7 @@ pub record IsToRun (asked : Option Command) (content : Content) (tree : SyntaxTr
   pub throttle : ℕ
   pub command : asked ≡ Some (Run source input workers throttle)
   pub program : IsSourceOf (content source) tree
-  pub numbers : IsInputOf (content input) numbers
+  pub read : IsInputOf (content input) numbers
 
 -- the reports, the status and the text of a call agree with the serial elision of the program on its input
 pub record AgreesWithElision (tree : SyntaxTree) (input : List ℤ) (reports : List Report) (status : ℕ) (text : List ℕ) : Type 0 where

@@ -47,7 +47,7 @@ pub record IsInputOf (file : Option (List ℕ)) (numbers : List ℤ) : Type 0 wh
 -- the files hold an accepted program and its input numbers
 pub record AreAccepted (held : FileContents) (tree : SyntaxTree) (numbers : List ℤ) : Type 0 where
   pub program : IsSourceOf held.source tree
-  pub numbers : IsInputOf held.input numbers
+  pub read : IsInputOf held.input numbers
 
 -- the line that refuses a source of this name: there is no such file, or it is not accepted
 pub data SourceRefusal (name : List ℕ) (file : Option (List ℕ)) : List ℕ → Type 0 where

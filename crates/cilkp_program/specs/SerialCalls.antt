@@ -16,7 +16,7 @@ pub record IsToRunSerially (asked : Option Command) (content : Content) (tree : 
   pub input : List ℕ
   pub command : asked ≡ Some (Serial source input)
   pub program : IsSourceOf (content source) tree
-  pub numbers : IsInputOf (content input) numbers
+  pub read : IsInputOf (content input) numbers
 
 -- the call has the status, the text and the reports of the program's serial elision, its text was written completely, and there is no run log
 pub record ReturnsElision (tree : SyntaxTree) (numbers : List ℤ) (status written : ℕ) (run_log : Option RunLog) (reports : List Report)
