@@ -17,7 +17,8 @@ subcommand_shape name rules = record (new_shape name) { rules = rules }
 
 -- run SOURCE INPUT [--workers P] [--throttle K]
 abbrev pub run_shape : Shape
-run_shape = subcommand_shape (codes "run") (file_rule (codes "source") ∷ file_rule (codes "input") ∷ option_rule (codes "workers") ∷ option_rule (codes "throttle") ∷ [])
+run_shape = subcommand_shape (codes "run") (file_rule (codes "source") ∷ file_rule (codes "input") ∷ option_rule (codes "workers") ∷ option_rule
+    (codes "throttle") ∷ [])
 
 -- serial SOURCE INPUT
 abbrev pub serial_shape : Shape

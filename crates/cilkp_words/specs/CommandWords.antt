@@ -1,5 +1,5 @@
 -- Which command the words of a call ask for: `clap` states which lines it accepts, and which word each argument has.
-use Rattle.std.specs.Prelude.{◌*◌, ◌==◌, List, [], ◌∷◌, length, map, codes, String, string_bytes, Option, Some, None, if◌then◌else◌, option_and_then}
+use Rattle.std.specs.Prelude.{◌*◌, ◌==◌, List, [], length, map, codes, String, string_bytes, Option, Some, None, if◌then◌else◌, option_and_then}
 use Rattle.std.specs.Str.{bytes_eq}
 use Rattle.std.specs.declared.alloc.Global.{Global}
 use Rattle.clap.specs.Faults.{fault_of}

@@ -1,5 +1,5 @@
 -- Worked command lines.
-use Rattle.std.specs.Prelude.{◌≡◌, ℕ, ◌==◌, List, [], ◌∷◌, codes, Option, Some, None, if◌then◌else◌}
+use Rattle.std.specs.Prelude.{◌≡◌, ℕ, ◌==◌, List, [], ◌∷◌, codes, Some, None, if◌then◌else◌}
 use Rattle.clap.specs.Walk.{Text}
 use Rattle.cilkp_words.specs.Commands.{Command, Run, Serial, Format}
 use Rattle.cilkp_words.specs.CommandWords.{command_of}

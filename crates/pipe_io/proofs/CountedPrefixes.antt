@@ -20,6 +20,7 @@ pub rest_fails : (p : ℕ → Bool) (xs : List ℕ) (c : ℕ) (more : List ℕ) 
 rest_fails p [] c more e = cc (e)
 rest_fails p (x ∷ xs) c more e = by_first (p x) refl (rest_fails p xs c more) e
   where
-    by_first : (b : Bool) → p x ≡ b → (drop (prefix_len p xs) xs ≡ c ∷ more → p c ≡ false) → drop (cond (p x) (1 + prefix_len p xs) 0) (x ∷ xs) ≡ c ∷ more → p c ≡ false
+    by_first : (b : Bool) → p x ≡ b → (drop (prefix_len p xs) xs ≡ c ∷ more → p c ≡ false)
+        → drop (cond (p x) (1 + prefix_len p xs) 0) (x ∷ xs) ≡ c ∷ more → p c ≡ false
     by_first true t ih h = let s : 1 + prefix_len p xs ≡ suc (prefix_len p xs) = omega arith in ih (rw (t, s) at h)
     by_first false f ih h = let g : x ∷ xs ≡ c ∷ more = rw f at h in let same : x ≡ c = cc (g) in ap p (sym same) ∙ f

@@ -1,5 +1,5 @@
 -- Each input is a list of numbers, or it has a fault.
-use Rattle.std.proofs.Common.{◌≡◌, ◌∙◌, sym, ℕ, ℤ, pos, ◌+◌, ◌-◌, ◌<◌, ◌≤◌, ◌≤ℤ◌, ◌^◌, Bool, true, false, List, [], ◌∷◌, ◌++◌, length, length-drop, take, drop, refl, zero, suc, arith, ◌⊎◌, inl, inr, cond, ◌==◌}
+use Rattle.std.proofs.Common.{◌≡◌, ◌∙◌, sym, ℕ, ℤ, ◌+◌, ◌-◌, ◌<◌, ◌≤◌, ◌^◌, Bool, true, false, List, [], ◌∷◌, ◌++◌, length, length-drop, take, drop, refl, zero, suc, arith, ◌⊎◌, inl, inr, cond, ◌==◌}
 use Rattle.std.specs.List.{prefix_len}
 use Rattle.std.proofs.lemmas.Bool.{cases_lt, false≢true}
 use Rattle.std.proofs.lemmas.Bool.Decides.{nat_tests}
@@ -60,7 +60,8 @@ signed_or_flaw is_negative ds before few plain = by_count (cases_lt 0 (prefix_le
     by_end some room fits (inr never) = inr (_, cut is_negative ds before (cond is_negative 1 0) (prefix_len is_digit ds) _ refl some room refl refl fits never)
 
     by_value : 0 < prefix_len is_digit ds → before < MOST_NUMBERS
-        → FitsI64 (signed is_negative (number_of (take (prefix_len is_digit ds) ds))) ⊎ (FitsI64 (signed is_negative (number_of (take (prefix_len is_digit ds) ds))) → ⊥)
+        → FitsI64 (signed is_negative (number_of (take (prefix_len is_digit ds) ds)))
+        ⊎ (FitsI64 (signed is_negative (number_of (take (prefix_len is_digit ds) ds))) → ⊥)
         → NumeralOrFlaw (with_sign is_negative ds) before
     by_value some room (inl fits) = by_end some room fits (ends_or_not (drop (prefix_len is_digit ds) ds))
     by_value some room (inr never) = inr (_, wide is_negative ds before (prefix_len is_digit ds) refl some room never)

@@ -7,7 +7,6 @@ use Rattle.std.proofs.lemmas.List.{take-append-drop}
 use Rattle.std.proofs.lemmas.List.Sums.{prefix_len-le-length}
 use Rattle.pipe_model.specs.Language.Lexis.{is_digit, number_of}
 use Rattle.pipe_io.specs.declared.numerals.Flaw.TheVariants as flaws
-use Rattle.pipe_io.specs.declared.numerals.Numeral.{Numeral}
 use Rattle.pipe_io.specs.declared.bounds.TheConstants.{MOST_NUMBERS}
 use Rattle.pipe_io.specs.InputFile.{BeginsNothing, BeginsNumber, FitsI64, EndsNumber, begins_digit, digits_value, signed, value_of, minus}
 use Rattle.pipe_io.specs.Numerals.{BeginsPlain, CutNumber, IsFlaw, IsNumeralOf, OneMore, WideNumber, BareMinus, StrayByte, with_sign}
@@ -33,7 +32,8 @@ no_digit ds [] e = refl
 no_digit ds (c ∷ more) e = rest_fails is_digit ds c more e
 
 -- the bytes begin with the number of the counted digits
-pub begins : (b : Bool) (ds : List ℕ) (m : ℕ) → m ≡ prefix_len is_digit ds → 0 < m → BeginsNumber (with_sign b ds) (with_sign b (take m ds)) (drop m ds) (signed b (number_of (take m ds)))
+pub begins : (b : Bool) (ds : List ℕ) (m : ℕ) → m ≡ prefix_len is_digit ds → 0 < m
+    → BeginsNumber (with_sign b ds) (with_sign b (take m ds)) (drop m ds) (signed b (number_of (take m ds)))
 begins b ds m counted some =
     let within : m ≤ length ds = rw counted (prefix_len-le-length is_digit ds) in
     let long : length (take m ds) ≡ m = length-take-le m ds within in
@@ -52,7 +52,8 @@ none_counted : (ds : List ℕ) → prefix_len is_digit ds ≡ 0 → begins_digit
 none_counted ds none = no_digit ds ds (ap (λ n. drop n ds) none)
 
 -- if no digit is counted, there is a bare `-` or a stray byte
-pub no_number : (b : Bool) (ds : List ℕ) (before sign m : ℕ) → m ≡ prefix_len is_digit ds → m ≡ 0 → sign ≡ cond b 1 0 → (b ≡ false → BeginsPlain ds) → IsFlaw (with_sign b ds) before (flaws.BadByte sign)
+pub no_number : (b : Bool) (ds : List ℕ) (before sign m : ℕ) → m ≡ prefix_len is_digit ds → m ≡ 0 → sign ≡ cond b 1 0
+    → (b ≡ false → BeginsPlain ds) → IsFlaw (with_sign b ds) before (flaws.BadByte sign)
 no_number true ds before sign m counted none s bare = rw s (BareMinus (refl, none_counted ds (sym counted ∙ none)))
 no_number false ds before sign m counted none s bare = rw s (StrayByte (by_first ds (bare refl) (none_counted ds (sym counted ∙ none))))
   where
@@ -62,8 +63,10 @@ no_number false ds before sign m counted none s bare = rw s (StrayByte (by_first
 
 -- the length of a number with its sign
 signed_length : (b : Bool) (ds : List ℕ) (sign m : ℕ) → m ≡ prefix_len is_digit ds → sign ≡ cond b 1 0 → sign + m ≡ length (with_sign b (take m ds))
-signed_length true ds sign m counted s = let long : length (take m ds) ≡ m = length-take-le m ds (rw counted (prefix_len-le-length is_digit ds)) in omega (arith, long, s)
-signed_length false ds sign m counted s = let long : length (take m ds) ≡ m = length-take-le m ds (rw counted (prefix_len-le-length is_digit ds)) in omega (arith, long, s)
+signed_length true ds sign m counted s = let long : length (take m ds) ≡ m =
+    length-take-le m ds (rw counted (prefix_len-le-length is_digit ds)) in omega (arith, long, s)
+signed_length false ds sign m counted s = let long : length (take m ds) ≡ m =
+    length-take-le m ds (rw counted (prefix_len-le-length is_digit ds)) in omega (arith, long, s)
 
 -- the bytes after it
 after_sign : (b : Bool) (ds : List ℕ) (sign m : ℕ) → sign ≡ cond b 1 0 → drop (sign + m) (with_sign b ds) ≡ drop m ds
@@ -71,20 +74,25 @@ after_sign true ds sign m s = let next : 1 + m ≡ suc m = omega arith in rw (s,
 after_sign false ds sign m s = let none : 0 + m ≡ m = omega arith in rw (s, none) refl
 
 -- a number too many
-pub one_more : (b : Bool) (ds : List ℕ) (before m : ℕ) → m ≡ prefix_len is_digit ds → 0 < m → before ≡ MOST_NUMBERS → IsFlaw (with_sign b ds) before flaws.TooMany
+pub one_more : (b : Bool) (ds : List ℕ) (before m : ℕ) → m ≡ prefix_len is_digit ds → 0 < m → before ≡ MOST_NUMBERS
+    → IsFlaw (with_sign b ds) before flaws.TooMany
 one_more b ds before m counted some full = OneMore _ _ _ full (begins b ds m counted some)
 
 -- a number that is too wide
-pub wide : (b : Bool) (ds : List ℕ) (before m : ℕ) → m ≡ prefix_len is_digit ds → 0 < m → before < MOST_NUMBERS → (FitsI64 (signed b (number_of (take m ds))) → ⊥) → IsFlaw (with_sign b ds) before flaws.TooWide
+pub wide : (b : Bool) (ds : List ℕ) (before m : ℕ) → m ≡ prefix_len is_digit ds → 0 < m → before < MOST_NUMBERS
+    → (FitsI64 (signed b (number_of (take m ds))) → ⊥) → IsFlaw (with_sign b ds) before flaws.TooWide
 wide b ds before m counted some few never = WideNumber _ _ _ few (begins b ds m counted some) never
 
 -- a number that a bad byte follows
-pub cut : (b : Bool) (ds : List ℕ) (before sign m : ℕ) (v : ℤ) → m ≡ prefix_len is_digit ds → 0 < m → before < MOST_NUMBERS → sign ≡ cond b 1 0 → v ≡ signed b (number_of (take m ds)) → FitsI64 v
+pub cut : (b : Bool) (ds : List ℕ) (before sign m : ℕ) (v : ℤ) → m ≡ prefix_len is_digit ds → 0 < m → before < MOST_NUMBERS → sign ≡ cond b 1 0
+    → v ≡ signed b (number_of (take m ds)) → FitsI64 v
     → (EndsNumber (drop m ds) → ⊥) → IsFlaw (with_sign b ds) before (flaws.BadByte (sign + m))
-cut b ds before sign m v counted some few s value fits never = rw (signed_length b ds sign m counted s) (CutNumber _ _ _ few (begins b ds m counted some) (rw value at fits) never)
+cut b ds before sign m v counted some few s value fits never =
+    rw (signed_length b ds sign m counted s) (CutNumber _ _ _ few (begins b ds m counted some) (rw value at fits) never)
 
 -- a number that a separator or the end follows
-pub numeral : (b : Bool) (ds : List ℕ) (sign m : ℕ) (v : ℤ) → m ≡ prefix_len is_digit ds → 0 < m → sign ≡ cond b 1 0 → v ≡ signed b (number_of (take m ds)) → FitsI64 v
+pub numeral : (b : Bool) (ds : List ℕ) (sign m : ℕ) (v : ℤ) → m ≡ prefix_len is_digit ds → 0 < m → sign ≡ cond b 1 0
+    → v ≡ signed b (number_of (take m ds)) → FitsI64 v
     → EndsNumber (drop m ds) → IsNumeralOf (with_sign b ds) (record { value = v; length = sign + m })
 numeral b ds sign m v counted some s value fits ends = record {
   text = with_sign b (take m ds);

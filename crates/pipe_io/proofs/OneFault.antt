@@ -1,5 +1,5 @@
 -- An input has at most one fault, and none if it is a list of numbers.
-use Rattle.std.proofs.Common.{◌≡◌, ◌∙◌, ap, sym, subst, refl, ℕ, ℤ, ◌+◌, ◌<◌, ◌≤◌, ◌==◌, Bool, true, false, cond, List, [], ◌∷◌, ◌++◌, length, length-append, length-drop, drop, All, Option, Some, None, option_map, suc, arith, append-nil, ◌⊎◌, inl, inr, ◌-◌}
+use Rattle.std.proofs.Common.{◌≡◌, ◌∙◌, ap, sym, subst, refl, ℕ, ℤ, ◌+◌, ◌<◌, ◌≤◌, ◌==◌, true, false, List, [], ◌∷◌, ◌++◌, length, length-append, length-drop, drop, All, Some, None, option_map, suc, arith, append-nil, ◌⊎◌, inl, inr, ◌-◌}
 use Rattle.std.proofs.lemmas.Bool.{and_parts}
 use Rattle.std.proofs.lemmas.Bool.Decides.{nat_tests}
 use Rattle.std.specs.List.{list_all}
@@ -99,7 +99,8 @@ flaw_no_blank b bs (WideNumber t x n c s w) e = not_blank b bs t x n s.value (sy
 flaw_no_blank b bs (CutNumber t x n c s w u) e = not_blank b bs t x n s.value (sym e ∙ s.parts)
 
 -- no list of numbers goes on past a flaw
-pub no_more_numbers : {a rest end : List ℕ} {k : ℕ} {f : Flaw} {others : List ℤ} → IsFlaw rest k f → ListsNumbers a others end → a ≡ rest → k + length others ≤ MOST_NUMBERS → All FitsI64 others
+pub no_more_numbers : {a rest end : List ℕ} {k : ℕ} {f : Flaw} {others : List ℤ} → IsFlaw rest k f → ListsNumbers a others end → a ≡ rest
+    → k + length others ≤ MOST_NUMBERS → All FitsI64 others
     → (others ≡ []) × (rest ≡ end)
 no_more_numbers h (Stops r) e few narrow = (refl, sym e)
 no_more_numbers h (Separator b p d) e few narrow = let bad : true ≡ false = sym p ∙ flaw_no_blank b _ h (sym e) in cc (bad)
@@ -127,11 +128,24 @@ pub record IsFlawed (bytes : List ℕ) (fault : InputFault) : Type 0 where
 -- a fault is the length, or something wrong at an offset
 pub flawed : {bytes : List ℕ} {fault : InputFault} → HasFault bytes fault → ((fault ≡ faults.TooLong) × (LONGEST_INPUT < length bytes)) ⊎ IsFlawed bytes fault
 flawed (IsTooLong long) = inl (refl, long)
-flawed (HasStrayByte place before r h) = let none : place + 0 ≡ place = omega arith in inr (record { place = place; before = before; reached = r; flaw = flaws.BadByte 0; wrong = StrayByte h; fault_is = ap (λ n. faults.BadByte n) (sym none) })
-flawed (HasBareMinus place before r h) = inr (record { place = place; before = before; reached = r; flaw = flaws.BadByte 1; wrong = BareMinus h; fault_is = refl })
-flawed (HasTooMany place before t x n r c h) = inr (record { place = place; before = before; reached = r; flaw = flaws.TooMany; wrong = OneMore t x n c h; fault_is = refl })
-flawed (HasWideNumber place before t x n r c h w) = inr (record { place = place; before = before; reached = r; flaw = flaws.TooWide; wrong = WideNumber t x n c h w; fault_is = refl })
-flawed (HasCutNumber place before t x n r c h w u) = inr (record { place = place; before = before; reached = r; flaw = flaws.BadByte (length t); wrong = CutNumber t x n c h w u; fault_is = refl })
+flawed (HasStrayByte place before r h) = let none : place + 0 ≡ place = omega arith in
+    inr (record {
+      place = place;
+      before = before;
+      reached = r;
+      flaw = flaws.BadByte 0;
+      wrong = StrayByte h;
+      fault_is =
+          ap (λ n. faults.BadByte n) (sym none);
+    })
+flawed (HasBareMinus place before r h) = inr (record
+    { place = place; before = before; reached = r; flaw = flaws.BadByte 1; wrong = BareMinus h; fault_is = refl })
+flawed (HasTooMany place before t x n r c h) = inr (record
+    { place = place; before = before; reached = r; flaw = flaws.TooMany; wrong = OneMore t x n c h; fault_is = refl })
+flawed (HasWideNumber place before t x n r c h w) =
+    inr (record { place = place; before = before; reached = r; flaw = flaws.TooWide; wrong = WideNumber t x n c h w; fault_is = refl })
+flawed (HasCutNumber place before t x n r c h w u) =
+    inr (record { place = place; before = before; reached = r; flaw = flaws.BadByte (length t); wrong = CutNumber t x n c h w u; fault_is = refl })
 
 -- equal rests have equal offsets
 same_place : (bytes : List ℕ) (p q : ℕ) → p ≤ length bytes → q ≤ length bytes → drop p bytes ≡ drop q bytes → p ≡ q
@@ -145,7 +159,8 @@ all_after [] ys h = h
 all_after (x ∷ xs) ys h = all_after xs ys (λ k d lt. h (suc k) d (omega (arith, lt)))
 
 -- nothing after a flaw is reached
-no_further : {bytes : List ℕ} {fault : InputFault} (end : List ℕ) (numbers : List ℤ) → (h : IsFlawed bytes fault) → Continues (drop h.place bytes) end h.before numbers → length numbers ≤ MOST_NUMBERS → All FitsI64 numbers
+no_further : {bytes : List ℕ} {fault : InputFault} (end : List ℕ) (numbers : List ℤ) → (h : IsFlawed bytes fault)
+    → Continues (drop h.place bytes) end h.before numbers → length numbers ≤ MOST_NUMBERS → All FitsI64 numbers
     → (numbers ≡ h.before) × (drop h.place bytes ≡ end)
 no_further end numbers h g few narrow =
     let parts : numbers ≡ h.before ++ g.0 = g.1 in
@@ -164,7 +179,8 @@ one_fault_at {bytes} {f} {g} a b = by_side (one_continues a.reached.listed b.rea
         let flaw : a.flaw ≡ b.flaw = one_flaw a.wrong (rw (← rests, ← counts) at b.wrong) in
         a.fault_is ∙ ap (λ x. fault_at x a.place) flaw ∙ ap (λ x. fault_at b.flaw x) place ∙ sym b.fault_is
 
-    by_side : Continues (drop a.place bytes) (drop b.place bytes) a.before b.before ⊎ Continues (drop b.place bytes) (drop a.place bytes) b.before a.before → f ≡ g
+    by_side : Continues (drop a.place bytes) (drop b.place bytes) a.before b.before
+        ⊎ Continues (drop b.place bytes) (drop a.place bytes) b.before a.before → f ≡ g
     by_side (inl s) = let e = no_further (drop b.place bytes) b.before a s b.reached.few b.reached.narrow in at_one e.1 (ap length (sym e.0))
     by_side (inr s) = let e = no_further (drop a.place bytes) a.before b s a.reached.few a.reached.narrow in at_one (sym e.1) (ap length e.0)
 
@@ -192,7 +208,8 @@ nothing_left (Number (b ∷ bs) n v s d) e = cc (e)
 pub one_fault : {bytes : List ℕ} {f g : InputFault} → HasFault bytes f → HasFault bytes g → f ≡ g
 one_fault {bytes} {f} {g} a b = by_kind (flawed a) (flawed b)
   where
-    by_kind : ((f ≡ faults.TooLong) × (LONGEST_INPUT < length bytes)) ⊎ IsFlawed bytes f → ((g ≡ faults.TooLong) × (LONGEST_INPUT < length bytes)) ⊎ IsFlawed bytes g → f ≡ g
+    by_kind : ((f ≡ faults.TooLong) × (LONGEST_INPUT < length bytes)) ⊎ IsFlawed bytes f
+        → ((g ≡ faults.TooLong) × (LONGEST_INPUT < length bytes)) ⊎ IsFlawed bytes g → f ≡ g
     by_kind (inl x) (inl y) = x.0 ∙ sym y.0
     by_kind (inl x) (inr y) = let short = y.reached.short in absurd (omega (arith, x.1, short))
     by_kind (inr x) (inl y) = let short = x.reached.short in absurd (omega (arith, y.1, short))

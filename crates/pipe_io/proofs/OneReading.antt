@@ -33,7 +33,8 @@ tail_digits b bs n e = by_sign (b == minus) refl e
         (parts.1, grind (arith, nat_tests, parts.0))
 
 -- two prefixes that have all digits at the beginning are the same
-one_digits : (a b x y : List ℕ) → list_all is_digit a ≡ true → list_all is_digit b ≡ true → a ++ x ≡ b ++ y → begins_digit x ≡ false → begins_digit y ≡ false → (a ≡ b) × (x ≡ y)
+one_digits : (a b x y : List ℕ) → list_all is_digit a ≡ true → list_all is_digit b ≡ true → a ++ x ≡ b ++ y → begins_digit x ≡ false
+    → begins_digit y ≡ false → (a ≡ b) × (x ≡ y)
 one_digits [] [] x y p q e h g = (refl, e)
 one_digits [] (b ∷ bs) x y p q e h g =
     let digit : is_digit b ≡ true = (and_parts (is_digit b) (list_all is_digit bs) q).0 in
@@ -51,7 +52,8 @@ one_digits (a ∷ ts) (b ∷ bs) x y p q e h g =
     (cc (first, tails), ih.1)
 
 -- bytes begin with at most one number and its text
-pub one_text : (t u x y : List ℕ) (n m : ℤ) → value_of t ≡ Some n → value_of u ≡ Some m → t ++ x ≡ u ++ y → begins_digit x ≡ false → begins_digit y ≡ false → (t ≡ u) × (x ≡ y)
+pub one_text : (t u x y : List ℕ) (n m : ℤ) → value_of t ≡ Some n → value_of u ≡ Some m → t ++ x ≡ u ++ y → begins_digit x ≡ false
+    → begins_digit y ≡ false → (t ≡ u) × (x ≡ y)
 one_text [] u x y n m v w e h g = cc (v)
 one_text (b ∷ bs) [] x y n m v w e h g = cc (w)
 one_text (b ∷ bs) (c ∷ cs) x y n m v w e h g =
@@ -78,7 +80,8 @@ blank_number b bs (c ∷ cs) bytes n blank v e =
     let bad : true ≡ false = sym blank ∙ ap is_blank same ∙ (tail_digits c cs n v).1 in cc (bad)
 
 -- of two lists of numbers of the same bytes one continues the other
-pub one_continues : {a b rest end : List ℕ} {ns ms : List ℤ} → ListsNumbers a ns rest → ListsNumbers b ms end → a ≡ b → Continues rest end ns ms ⊎ Continues end rest ms ns
+pub one_continues : {a b rest end : List ℕ} {ns ms : List ℤ} → ListsNumbers a ns rest → ListsNumbers b ms end → a ≡ b
+    → Continues rest end ns ms ⊎ Continues end rest ms ns
 one_continues {end = end} {ms = ms} (Stops rest) d e = inl (ms, refl, subst (λ x. ListsNumbers x ms end) (sym e) d)
 one_continues {rest = rest} {ns = ns} d (Stops end) e = inr (ns, refl, subst (λ x. ListsNumbers x ns rest) e d)
 one_continues (Separator b p d) (Separator c q f) e = one_continues d f (cc (e))
@@ -91,7 +94,8 @@ one_continues (Number t n v r d) (Number u m w s f) e =
     let number : n ≡ m = cc (value) in
     with_number number (one_continues d f same.1)
   where
-    with_number : {rest end : List ℕ} {n m : ℤ} {ns ms : List ℤ} → n ≡ m → Continues rest end ns ms ⊎ Continues end rest ms ns → Continues rest end (n ∷ ns) (m ∷ ms) ⊎ Continues end rest (m ∷ ms) (n ∷ ns)
+    with_number : {rest end : List ℕ} {n m : ℤ} {ns ms : List ℤ} → n ≡ m → Continues rest end ns ms ⊎ Continues end rest ms ns
+        → Continues rest end (n ∷ ns) (m ∷ ms) ⊎ Continues end rest (m ∷ ms) (n ∷ ns)
     with_number e (inl g) = let list : _ ≡ _ = g.1 in inl (g.0, cc (e, list), g.2)
     with_number e (inr g) = let list : _ ≡ _ = g.1 in inr (g.0, cc (e, list), g.2)
 

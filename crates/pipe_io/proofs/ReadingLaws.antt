@@ -1,5 +1,5 @@
 -- The numbers found so far, and the rest of the input.
-use Rattle.std.proofs.Common.{◌≡◌, ◌∙◌, ap, sym, subst, refl, ℕ, ℤ, ◌+◌, ◌-◌, ◌<◌, ◌≤◌, Bool, true, false, List, [], ◌∷◌, ◌++◌, length, take, drop, All, arith, suc, Some, length-drop, length-append, append-nil, append_assoc}
+use Rattle.std.proofs.Common.{◌≡◌, ◌∙◌, ap, sym, subst, refl, ℕ, ℤ, ◌+◌, ◌-◌, ◌<◌, ◌≤◌, true, List, [], ◌∷◌, ◌++◌, length, drop, All, arith, suc, Some, length-drop, length-append, append-nil, append_assoc}
 use Rattle.std.proofs.lemmas.List.{drop-drop}
 use Rattle.std.proofs.lemmas.List.Elements.{All-push}
 use Rattle.pipe_model.specs.Language.Lexis.{is_blank}
@@ -7,7 +7,7 @@ use Rattle.pipe_io.specs.declared.numerals.Flaw.{Flaw}
 use Rattle.pipe_io.specs.declared.numerals.Flaw.TheVariants as flaws
 use Rattle.pipe_io.specs.declared.numerals.Numeral.{Numeral}
 use Rattle.pipe_io.specs.declared.bounds.TheConstants.{LONGEST_INPUT, MOST_NUMBERS}
-use Rattle.pipe_io.specs.InputFile.{AreNumbersOf, BeginsNumber, FitsI64, HasBareMinus, HasCutNumber, HasStrayByte, HasTooMany, HasWideNumber, IsFaultOf, IsReached, ListsNumbers, Number, Separator, Stops, value_of, EndsNumber}
+use Rattle.pipe_io.specs.InputFile.{AreNumbersOf, FitsI64, HasBareMinus, HasCutNumber, HasStrayByte, HasTooMany, HasWideNumber, IsFaultOf, IsReached, ListsNumbers, Number, Separator, Stops, value_of, EndsNumber}
 use Rattle.pipe_io.specs.Numerals.{CutNumber, IsFlaw, IsNumeralOf, OneMore, WideNumber, BareMinus, StrayByte, fault_at}
 
 -- `found` are the numbers before the rest, and numbers of the rest continue those of the input
@@ -33,7 +33,8 @@ at_start bytes short = record {
 }
 
 -- `Reaches` holds after a separator
-pub past_separator : (bytes rest following : List ℕ) (found : List ℤ) (b : ℕ) → Reaches bytes found rest → rest ≡ b ∷ following → is_blank b ≡ true → Reaches bytes found following
+pub past_separator : (bytes rest following : List ℕ) (found : List ℤ) (b : ℕ) → Reaches bytes found rest → rest ≡ b ∷ following
+    → is_blank b ≡ true → Reaches bytes found following
 past_separator bytes rest following found b r e blank = record {
   short = r.short;
   place = r.place + 1;
@@ -50,7 +51,8 @@ after_text [] following = refl
 after_text (b ∷ bs) following = after_text bs following
 
 -- a number before a list of numbers
-lists_past : (rest text following : List ℕ) (n : ℤ) (others : List ℤ) (end : List ℕ) → rest ≡ text ++ following → value_of text ≡ Some n → EndsNumber following → ListsNumbers following others end
+lists_past : (rest text following : List ℕ) (n : ℤ) (others : List ℤ) (end : List ℕ) → rest ≡ text ++ following → value_of text ≡ Some n
+    → EndsNumber following → ListsNumbers following others end
     → ListsNumbers rest (n ∷ others) end
 lists_past rest text following n others end e value ends d = rw e (Number text n value ends d)
 
@@ -65,7 +67,9 @@ past_number bytes rest found numeral r p few =
       place = r.place + n;
       within = omega (arith, r.within, length-drop n rest, long);
       here = sym (drop-drop n r.place bytes) ∙ ap (λ x. drop n x) r.here;
-      keeps = λ others end d. rw (append_assoc found (numeral.value ∷ []) others) (r.keeps (numeral.value ∷ others) end (lists_past rest p.text (drop n rest) numeral.value others end p.number.parts p.number.value p.ends d));
+      keeps = λ others end d. rw (append_assoc found (numeral.value ∷ []) others)
+          (r.keeps (numeral.value ∷ others) end (lists_past rest p.text (drop n rest) numeral.value others end p.number.parts p.number.value
+          p.ends d));
       few = rw (one_longer found numeral.value) few;
       narrow = All-push FitsI64 found numeral.value r.narrow p.narrow;
     }
@@ -97,7 +101,8 @@ reached bytes rest found r = record {
 }
 
 -- what is wrong at the beginning of the rest is the fault of the input
-pub at_flaw : (bytes rest : List ℕ) (found : List ℤ) (flaw : Flaw) (place : ℕ) → Reaches bytes found rest → IsFlaw rest (length found) flaw → place ≡ length bytes - length rest
+pub at_flaw : (bytes rest : List ℕ) (found : List ℤ) (flaw : Flaw) (place : ℕ) → Reaches bytes found rest → IsFlaw rest (length found) flaw
+    → place ≡ length bytes - length rest
     → IsFaultOf bytes (fault_at flaw place)
 at_flaw bytes rest found flaw place r f e = let same : place ≡ r.place = omega (arith, e, r.within) in rw same (by_flaw f)
   where
@@ -106,4 +111,5 @@ at_flaw bytes rest found flaw place r f e = let same : place ≡ r.place = omega
     by_flaw (BareMinus h) = HasBareMinus r.place found (reached bytes rest found r) (rw r.here h)
     by_flaw (OneMore text following n full h) = HasTooMany r.place found text following n (reached bytes rest found r) full (rw r.here h)
     by_flaw (WideNumber text following n few h never) = HasWideNumber r.place found text following n (reached bytes rest found r) few (rw r.here h) never
-    by_flaw (CutNumber text following n few h fits never) = HasCutNumber r.place found text following n (reached bytes rest found r) few (rw r.here h) fits never
+    by_flaw (CutNumber text following n few h fits never) =
+        HasCutNumber r.place found text following n (reached bytes rest found r) few (rw r.here h) fits never

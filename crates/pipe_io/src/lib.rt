@@ -1,5 +1,5 @@
-//! The outside of the program: files that are read part by part, sinks that take a text part by part,
-//! and the numbers of an input file.
+//! The outside of the program: files that are read part by part, sinks that take a text part by
+//! part, the real ones and doubles in memory; and the numbers of an input file.
 #![tactic(auto)]
 
 pub mod bounds;

@@ -11,7 +11,7 @@ use Rattle.pipe_model.specs.Language.CheckingRules.{fault_of}
 use Rattle.pipe_model.specs.Language.Grammar.{flat}
 use Rattle.pipe_model.specs.Language.SourceRefusals.{IsAccepted}
 use Rattle.pipe_model.specs.Language.SourceSpelling.{SourceSpells}
-use Rattle.pipe_model.specs.Language.Spelling.{IsShallow, Spells, is_opening_bracket, open_brackets}
+use Rattle.pipe_model.specs.Language.Spelling.{IsShallow, Spells, is_opening_bracket}
 use Rattle.grammar_laws.proofs.CanonicalDerivations.{program_derived}
 use Rattle.grammar_laws.proofs.CanonicalDivision.{program_source}
 use Rattle.grammar_laws.proofs.CanonicalSymbols.{program_pieces, IsName, IsNumeral, Numeral, Positive, IsWritableProgram}
@@ -131,7 +131,19 @@ spells size few = record {
   pieces = program_pieces (generated_tree size);
   split = refl;
   derived = program_derived (generated_tree size) (writable size few);
-  short = (omega arith, (omega arith, (omega arith, (omega arith, (omega arith, (omega arith, (omega arith, (omega arith, (omega arith, (omega arith, (omega arith, (omega arith, (omega arith, tt)))))))))))));
+  short = (
+    omega arith,
+    (
+      omega arith,
+      (
+        omega arith,
+        (
+          omega arith,
+          (omega arith, (omega arith, (omega arith, (omega arith, (omega arith, (omega arith, (omega arith, (omega arith, (omega arith, tt))))))))),
+        ),
+      ),
+    ),
+  );
   shallow = shallow size;
 }
 

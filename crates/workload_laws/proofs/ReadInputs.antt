@@ -1,14 +1,9 @@
 -- Each generated input is read as its items.
 use Rattle.workload_laws.proofs.DecimalValues.{decimal_value}
-use Rattle.std.proofs.Common.{◌≡◌, ◌∙◌, ap, sym, subst, refl, ℕ, ℤ, zero, suc, pos, ◌+◌, ◌-◌, ◌*◌, ◌/◌, ◌%◌, ◌<◌, ◌≤◌, ◌^◌, true, false, List, [], ◌∷◌, ◌++◌, length, length-append, All, Some, fold, arith, append_assoc, append-nil, codes}
+use Rattle.std.proofs.Common.{◌≡◌, ◌∙◌, ap, sym, subst, refl, ℕ, zero, suc, pos, ◌+◌, ◌-◌, ◌*◌, ◌%◌, ◌<◌, ◌≤◌, List, [], ◌++◌, length, length-append, All, arith, append_assoc, append-nil, codes}
 use Rattle.std.specs.Fmt.{decimal}
-use Rattle.std.specs.List.{list_all}
 use Rattle.std.proofs.lemmas.Int.{ints}
-use Rattle.std.proofs.lemmas.Bool.Decides.{nat_tests}
-use Rattle.std.proofs.lemmas.Fmt.{decimal_by_steps, length-decimal-le}
-use Rattle.std.proofs.lemmas.List.Folds.{list_all-append}
-use Rattle.std.proofs.lemmas.List.Sums.{fold-append}
-use Rattle.pipe_model.specs.Language.Lexis.{is_digit, number_of}
+use Rattle.std.proofs.lemmas.Fmt.{length-decimal-le}
 use Rattle.pipe_gen.specs.Choices.{choice}
 use Rattle.pipe_gen.specs.Workload.{input_text, item, number_line}
 use Rattle.pipe_io.specs.InputFile.{AreNumbersOf, FitsI64, ListsNumbers, Number, Separator, Stops}
@@ -48,7 +43,8 @@ lines_listed seed j zero = Stops []
 lines_listed seed j (suc n) =
     let small = item_small seed j in
     subst (λ x. ListsNumbers x (items_from seed j (suc n)) []) (sym (append_assoc (decimal (item seed j)) (codes "\n") (lines_from seed (suc j) n)))
-    (Number (decimal (item seed j)) (pos (item seed j)) (decimal_value (item seed j) (omega (arith, small))) refl (Separator 10 refl (lines_listed seed (suc j) n)))
+    (Number (decimal (item seed j)) (pos (item seed j)) (decimal_value (item seed j) (omega (arith, small))) refl
+    (Separator 10 refl (lines_listed seed (suc j) n)))
 
 -- the lines are short, few, and their items narrow
 lines_short : (seed j n : ℕ) → length (lines_from seed j n) ≤ 4 * n

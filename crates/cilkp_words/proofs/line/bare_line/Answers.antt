@@ -1,4 +1,4 @@
-use Rattle.std.proofs.Common.{◌≡◌, ◌∙◌, ap, true}
+use Rattle.std.proofs.Common.{◌∙◌, ap, true}
 use Rattle.clap.specs.Simple.{Shape, app_of_fields, on_top}
 use Rattle.cilkp_words.proofs.line.bare_line.Goals as goal
 

@@ -1,4 +1,4 @@
-use Rattle.std.proofs.Common.{◌≡◌, ◌∙◌, ap₂}
+use Rattle.std.proofs.Common.{◌∙◌, ap₂}
 use Rattle.clap.specs.Simple.{with_subcommand}
 use Rattle.cilkp_words.proofs.line.command_line.Goals as goal
 

@@ -1,0 +1,4 @@
+pub mod Insertions
+pub mod LinkedLists
+pub mod Relabelling
+pub mod RisingLabels

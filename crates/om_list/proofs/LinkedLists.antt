@@ -1,0 +1,143 @@
+-- Lists that are kept as links, and an insertion of an element with a label between two others.
+use Rattle.std.proofs.Common.{◌≡◌, ◌≢◌, ℕ, zero, suc, ◌+◌, ◌<◌, List, [], ◌∷◌, length, get_or, true, refl, sym, ap, ◌∙◌, subst, arith, eq-eqb, ne_eqb, ◌⊎◌, inl, inr}
+use Rattle.std.proofs.lemmas.Bool.{cases_eq}
+use Rattle.pipe_model.specs.Orders.OrderList.{has, insert_after}
+use Rattle.om_list.specs.declared.links.TheConstants.{END}
+use Rattle.om_list.specs.Labels.{LabelsRise}
+use Rattle.om_list.specs.Links.{AreLinked, first_of, followed, label_or}
+use Rattle.om_list.proofs.RisingLabels.{has_head, has_later, head_once}
+
+-- following the links gives the list
+pub followed_is : (next : ℕ → ℕ) (xs : List ℕ) (n : ℕ) → n ≡ length xs → AreLinked next xs
+    → followed next (first_of xs) n ≡ xs
+followed_is next [] zero e c = refl
+followed_is next [] (suc n) e c = absurd (omega (arith, e))
+followed_is next (x ∷ xs) zero e c = absurd (omega (arith, e))
+followed_is next (x ∷ xs) (suc n) e c =
+    ap (λ l. x ∷ l) (ap (λ y. followed next y n) c.0 ∙ followed_is next xs n (omega (arith, e)) c.1)
+
+pub length_followed : (next : ℕ → ℕ) (x n : ℕ) → length (followed next x n) ≡ n
+length_followed next x zero = refl
+length_followed next x (suc n) = let rest = length_followed next (next x) n in omega (arith, rest)
+
+first_at : (xs : List ℕ) → get_or xs 0 END ≡ first_of xs
+first_at [] = refl
+first_at (x ∷ xs) = refl
+
+-- the link of the element at an index is the element at the next index
+pub linked_at : (next : ℕ → ℕ) (xs : List ℕ) (k d : ℕ) → AreLinked next xs → k < length xs
+    → next (get_or xs k d) ≡ get_or xs (suc k) END
+linked_at next [] k d c l = absurd (omega (arith, l))
+linked_at next (x ∷ xs) zero d c l = c.0 ∙ sym (first_at xs)
+linked_at next (x ∷ xs) (suc k) d c l = linked_at next xs k d c.1 (omega (arith, l))
+
+-- a link leads to an element, or is END
+pub link_within : (next : ℕ → ℕ) (xs : List ℕ) (x : ℕ) → AreLinked next xs → has x xs ≡ true
+    → (next x ≡ END) ⊎ (has (next x) xs ≡ true)
+link_within next [] x c h = cc
+link_within next (z ∷ zs) x c h = elim (cases_eq z x) [
+  | inl same ↦ subst (λ y. (next y ≡ END) ⊎ (has (next y) (z ∷ zs) ≡ true)) same (first zs c.0)
+  | inr apart ↦ elim (link_within next zs x c.1 (rw (ne_eqb z x apart) at h)) [
+    | inl end ↦ inl end
+    | inr there ↦ inr (has_later z zs (next x) there)
+  ]
+]
+  where
+    first : (ys : List ℕ) → next z ≡ first_of ys → (next z ≡ END) ⊎ (has (next z) (z ∷ ys) ≡ true)
+    first [] e = inl e
+    first (w ∷ ws) e = inr (subst (λ u. has u (z ∷ (w ∷ ws)) ≡ true) (sym e) (has_later z (w ∷ ws) w (has_head w ws)))
+
+-- an element is at some index
+pub index_of : (xs : List ℕ) (x : ℕ) → has x xs ≡ true → (k : ℕ) × (k < length xs) × (get_or xs k 0 ≡ x)
+index_of [] x h = cc
+index_of (z ∷ zs) x h = elim (cases_eq z x) [
+  | inl same ↦ (0, omega arith, same)
+  | inr apart ↦ (
+      let later = index_of zs x (rw (ne_eqb z x apart) at h) in
+      (suc later.0, (let l = later.1 in omega (arith, l)), later.2))
+]
+
+-- the element at an index is in the list
+pub has_at : (xs : List ℕ) (k d : ℕ) → k < length xs → has (get_or xs k d) xs ≡ true
+has_at [] k d l = absurd (omega (arith, l))
+has_at (x ∷ xs) zero d l = has_head x xs
+has_at (x ∷ xs) (suc k) d l = has_later x xs (get_or xs k d) (has_at xs k d (omega (arith, l)))
+
+-- how the links change if element e is inserted after x
+pub record LinksAfter (next next' : ℕ → ℕ) (x e : ℕ) : Type 0 where
+  pub here : next' x ≡ e
+  pub new : next' e ≡ next x
+  pub other : (y : ℕ) → y < e → y ≢ x → next' y ≡ next y
+
+linked_same : (next next' : ℕ → ℕ) (xs : List ℕ) → ((y : ℕ) → has y xs ≡ true → next' y ≡ next y)
+    → AreLinked next xs → AreLinked next' xs
+linked_same next next' [] same c = tt
+linked_same next next' (x ∷ xs) same c =
+    (same x (has_head x xs) ∙ c.0, linked_same next next' xs (λ y h. same y (has_later x xs y h)) c.1)
+
+pub first_inserted : (x e : ℕ) (xs : List ℕ) → first_of (insert_after x e xs) ≡ first_of xs
+first_inserted x e [] = refl
+first_inserted x e (y ∷ ys) = elim (cases_eq y x) [
+  | inl same ↦ rw (eq-eqb y x same) refl
+  | inr apart ↦ rw (ne_eqb y x apart) refl
+]
+
+pub length_inserted : (x e : ℕ) (xs : List ℕ) → has x xs ≡ true → length (insert_after x e xs) ≡ length xs + 1
+length_inserted x e [] h = cc
+length_inserted x e (y ∷ ys) h = elim (cases_eq y x) [
+  | inl same ↦ rw (eq-eqb y x same) (omega arith)
+  | inr apart ↦ (
+      let rest = length_inserted x e ys (rw (ne_eqb y x apart) at h) in
+      rw (ne_eqb y x apart) (omega (arith, rest)))
+]
+
+-- the links after an insertion are those of the list with the new element
+pub linked_inserted : (next next' label : ℕ → ℕ) (low top : ℕ) (xs : List ℕ) (x e : ℕ) → LabelsRise label low top xs
+    → ((y : ℕ) → has y xs ≡ true → y < e) → LinksAfter next next' x e → AreLinked next xs
+    → AreLinked next' (insert_after x e xs)
+linked_inserted next next' label low top [] x e r below changed c = tt
+linked_inserted next next' label low top (z ∷ zs) x e r below changed c = elim (cases_eq z x) [
+  | inl same ↦ rw (eq-eqb z x same) (
+    ap next' same ∙ changed.here,
+    (
+      changed.new ∙ (ap next (sym same) ∙ c.0),
+      linked_same next next' zs (λ y h. changed.other y (below y (has_later z zs y h))
+          (λ q. head_once label low top z zs r y h (q ∙ sym same))) c.1,
+    ),
+  )
+  | inr apart ↦ rw (ne_eqb z x apart) (
+    changed.other z (below z (has_head z zs)) apart ∙ (c.0 ∙ sym (first_inserted x e zs)),
+    linked_inserted next next' label (label z + 1) top zs x e r.1 (λ y h. below y (has_later z zs y h)) changed c.1,
+  )
+]
+
+-- a new element whose label is between those of x and of the next element keeps the labels rising
+pub rises_inserted : (next label : ℕ → ℕ) (low top : ℕ) (xs : List ℕ) (x e : ℕ)
+    → ((y : ℕ) → has y xs ≡ true → y ≢ END) → LabelsRise label low top xs → AreLinked next xs → label x < label e
+    → label e < label_or label top (next x) → LabelsRise label low top (insert_after x e xs)
+rises_inserted next label low top [] x e ends r c above below = r
+rises_inserted next label low top (z ∷ zs) x e ends r c above below = elim (cases_eq z x) [
+  | inl same ↦ (
+      let after : next x ≡ first_of zs = ap next (sym same) ∙ c.0 in
+      let a : label z ≡ label x = ap label same in
+      rw (eq-eqb z x same) (
+        r.0,
+        (
+          omega (arith, a, above),
+          rest zs (λ y h. ends y (has_later z zs y h)) r.1
+              (subst (λ u. label e < label_or label top u) after below),
+        ),
+      ))
+  | inr apart ↦ rw (ne_eqb z x apart) (
+    r.0,
+    rises_inserted next label (label z + 1) top zs x e
+        (λ y h. ends y (has_later z zs y h)) r.1 c.1 above below,
+  )
+]
+  where
+    rest : (ys : List ℕ) → ((y : ℕ) → has y ys ≡ true → y ≢ END) → LabelsRise label (label z + 1) top ys
+        → label e < label_or label top (first_of ys) → LabelsRise label (label e + 1) top ys
+    rest [] no_end rises less = omega (arith, less)
+    rest (w ∷ ws) no_end rises less =
+        let less' : label e < label w = rw (ne_eqb w END (no_end w (has_head w ws))) at less in
+        (omega (arith, less'), rises.1)

@@ -1,0 +1,5 @@
+pub mod KeptLists
+pub mod LabelledLinks
+pub mod LabelledList
+pub mod Labels
+pub mod Links

@@ -1,0 +1,111 @@
+//! The list, kept as links and labels.
+
+ghost use Rattle.std.specs.Prelude.{◌≡◌, ◌<◌, ◌≤◌, ◌+◌, ◌++◌, ◌∷◌, [], ◌↔◌, IfOk, IsTrue, length, slice_index};
+ghost use Rattle.om_list.specs.LabelledList.{HasRisingLabels};
+ghost use Rattle.pipe_model.specs.Orders.OrderList.{StandsBefore, list_of_log};
+
+use crate::error::OutOfMemory;
+use crate::labels::{free_label_after, next_label};
+use crate::links::{END, link_after};
+use std::alloc::Global;
+use std::marker::Model;
+
+/// The greatest capacity of a list.
+pub const MOST_ELEMENTS: u32 = 1 << 21;
+
+/// A list of elements, which are numbered from 0 in the order in which they were inserted. Contracts
+/// see the log of the insertions, the capacity, and the label of each element.
+#[derive(Drop)]
+pub struct OmList {
+    // For each element the next one in the list, or `END`.
+    next: Vec<u32>,
+    // For each element its label.
+    labels: Vec<u64>,
+    // For each element but the first, the element after which it was inserted.
+    log: Vec<u32>,
+    capacity: u32,
+}
+
+impl Model for OmList {
+    ghost use Rattle.std.specs.Prelude.{◌<◌, ◌≤◌, length, vec_capacity};
+    ghost use Rattle.om_list.specs.LabelledList.{LabelledList};
+
+    ghost Value = { LabelledList };
+
+    ghost use Rattle.om_list.specs.KeptLists.{HasRoom, IsKept};
+
+    ghost view = { λ l. record { log = l.log.items; capacity = l.capacity; labels = l.labels.items } };
+
+    ghost invariant = { λ l. IsKept l.next.items l.labels.items l.log.items
+        × HasRoom l.capacity (length l.log.items) (vec_capacity l.next) (vec_capacity l.labels) (vec_capacity l.log) };
+}
+
+impl OmList {
+    /// Returns the list of element 0 alone, with room for `capacity` elements in all. No other call
+    /// allocates. Returns an error only if memory runs out.
+    pub fn new(alloc: Global, capacity: u32) -> Result<OmList, OutOfMemory>
+        requires some { 0 < capacity }
+        requires few { capacity ≤ MOST_ELEMENTS }
+        ensures log { IfOk result (λ list. list.log ≡ []) }
+        ensures capacity { IfOk result (λ list. list.capacity ≡ capacity) }
+        ensures labels { IfOk result HasRisingLabels }
+    {
+        let mut next = Vec::with_capacity(alloc, capacity as usize)?;
+        let mut labels = Vec::with_capacity(alloc, capacity as usize)?;
+        let log = Vec::with_capacity(alloc, capacity as usize)?;
+        next.push_reserved(END);
+        labels.push_reserved(0);
+        Ok(OmList {
+            next,
+            labels,
+            log,
+            capacity,
+        })
+    }
+
+    /// Returns the number of elements.
+    pub fn len(&self) -> u32
+        ensures { result ≡ length self.now.log + 1 }
+    {
+        self.log.len() as u32 + 1
+    }
+
+    /// Returns the label of an element, below 2^62. Along the list the labels rise.
+    pub fn label(&self, x: u32) -> u64
+        requires there { x ≤ length self.now.log }
+        ensures label { result ≡ slice_index self.now.labels x }
+        ensures labels { HasRisingLabels self.now }
+    {
+        self.labels[x as usize]
+    }
+
+    /// Returns whether `x` is strictly before `y` in the list. Constant time.
+    pub fn before(&self, x: u32, y: u32) -> bool
+        requires first { x ≤ length self.now.log }
+        requires second { y ≤ length self.now.log }
+        ensures { IsTrue result ↔ StandsBefore (list_of_log self.now.log) x y }
+    {
+        self.labels[x as usize] < self.labels[y as usize]
+    }
+
+    /// Inserts a new element right after `x`, and returns its number, which is the old length.
+    /// Constant time, unless no label is free between `x` and the next element: then the whole list
+    /// gets new labels.
+    pub fn insert_after(&mut self, x: u32) -> u32
+        requires there { x ≤ length self.old.log }
+        requires room { length self.old.log + 1 < self.old.capacity }
+        ensures element { result ≡ length self.old.log + 1 }
+        ensures log { self.new.log ≡ self.old.log ++ x ∷ [] }
+        ensures capacity { self.new.capacity ≡ self.old.capacity }
+        ensures labels { HasRisingLabels self.new }
+    {
+        let element = self.labels.len() as u32;
+        free_label_after(&self.next, &mut self.labels, x);
+        let low = self.labels[x as usize];
+        let high = next_label(&self.next, &self.labels, x);
+        self.labels.push_reserved(low + (high - low) / 2);
+        link_after(&mut self.next, x);
+        self.log.push_reserved(x);
+        element
+    }
+}

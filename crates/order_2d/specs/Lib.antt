@@ -1,0 +1,4 @@
+pub mod LogStarts
+pub mod OrderPairs
+pub mod ReplayedOrders
+pub mod StartedNodes

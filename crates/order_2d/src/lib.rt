@@ -1,0 +1,12 @@
+//! Down-first and right-first, the two orders of stage instances that together say which instances
+//! precede which (Xu, Lee and Agrawal, "Efficient Parallel Determinacy Race Detection for
+//! Two-Dimensional Dags", PPoPP 2018).
+#![tactic(auto)]
+
+pub mod list_writer;
+mod parents;
+pub mod plain_orders;
+pub mod replay;
+mod started;
+mod starts;
+pub mod two_orders;

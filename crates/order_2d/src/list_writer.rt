@@ -1,0 +1,31 @@
+//! Lists into which elements are inserted.
+
+ghost use Rattle.std.specs.Prelude.{◌≡◌, ◌<◌, ◌≤◌, ◌+◌, ◌++◌, ◌∷◌, [], length};
+ghost use Rattle.order_2d.specs.OrderPairs.{OrderedList};
+
+use om_list::om_list::OmList;
+
+/// A list for order maintenance. Contracts see the log of its insertions, its capacity, and which
+/// list it is, if it has an identity.
+pub trait ListWriter {
+    ghost use Rattle.order_2d.specs.OrderPairs.{OrderedList};
+
+    /// What contracts see.
+    ghost list: { Self → OrderedList };
+
+    /// Inserts a new element right after `x`, and returns its number, which is the number of
+    /// elements so far.
+    fn insert_after(&mut self, x: u32) -> u32
+        requires there { x ≤ length (list self.old).log }
+        requires room { length (list self.old).log + 1 < (list self.old).capacity }
+        ensures element { result ≡ 1 + length (list self.old).log }
+        ensures list { list self.new ≡ record (list self.old) { log = (list self.old).log ++ x ∷ [] } };
+}
+
+impl ListWriter for OmList {
+    ghost list = { λ l. record { log = l.log; capacity = l.capacity; identity = [] } };
+
+    fn insert_after(&mut self, x: u32) -> u32 {
+        OmList::insert_after(self, x)
+    }
+}

@@ -1,0 +1,79 @@
+//! The left parents of instances.
+
+ghost use Rattle.std.specs.Prelude.{◌≡◌, ◌<◌, ◌^◌, ℕ, List, IfOk, length, map};
+ghost use Rattle.order_2d.specs.LogStarts.{nodes_of_columns};
+ghost use Rattle.order_2d.specs.StartedNodes.{IsAbove, numbers_of, parent_by};
+ghost use Rattle.pipe_model.specs.Orders.LeftParent.{last_up_to, left_parent};
+ghost use Rattle.pipe_model.specs.Races.Columns.{IsNodeOf, IsRising, nodes_at};
+ghost use Rattle.pipe_model.specs.declared.node.Node.{Node as PlainNode};
+
+use crate::started::StartedNode;
+use left_parent::search::find;
+use pipe_model::column::Column;
+use pipe_model::list::{ListOf, Numbers};
+use pipe_model::memory::NoMemory;
+use pipe_model::node::{Kind, Node, NodeId};
+use std::alloc::Global;
+
+// The stage numbers of a column.
+fn stage_numbers(alloc: Global, nodes: &[Node]) -> Result<Numbers, NoMemory>
+    ensures { IfOk result (λ numbers. numbers ≡ map (λ (n : PlainNode). n.number) nodes.now) }
+{
+    let mut numbers = ListOf::with_capacity(alloc, nodes.len())?;
+    for node in nodes {
+        numbers.push(node.number)?;
+    }
+    Ok(numbers)
+}
+
+/// Returns the stage numbers of each column. Returns an error only if memory runs out.
+pub(crate) fn column_numbers(alloc: Global, columns: &[Column]) -> Result<ListOf<Numbers>, NoMemory>
+    ensures { IfOk result (λ rows. rows ≡ numbers_of (nodes_of_columns columns.now)) }
+{
+    let mut rows = ListOf::with_capacity(alloc, columns.len())?;
+    for column in columns {
+        rows.push(stage_numbers(alloc, column.nodes.as_slice())?)?;
+    }
+    Ok(rows)
+}
+
+// The left parent of an instance below a head, from the numbers of the left column and the joined
+// index of the instance above.
+fn parent_below(node: Node, numbers: &[i64], joined: u32) -> Option<u32>
+    requires rising { (nodes : List PlainNode) × (numbers.now ≡ map (λ n. n.number) nodes) × IsRising nodes }
+    requires few { length numbers.now < 2 ^ 32 }
+    ensures { (nodes : List PlainNode) → numbers.now ≡ map (λ n. n.number) nodes → result ≡ parent_by node.kind joined (last_up_to nodes node.number) }
+{
+    match node.kind {
+        Kind::Wait => find(numbers, node.number, joined),
+        Kind::Zero | Kind::Continue => None,
+    }
+}
+
+/// Returns the index in the left column of the left parent of `x`, if it has one; `above` is the
+/// instance above `x`, if there is one.
+pub(crate) fn left_index(
+    columns: &[Column],
+    numbers: &[Numbers],
+    x: NodeId,
+    above: Option<StartedNode>,
+) -> Option<u32>
+    requires node { IsNodeOf (nodes_of_columns columns.now) x }
+    requires numbers { numbers.now ≡ numbers_of (nodes_of_columns columns.now) }
+    requires rising { (i : ℕ) → IsRising (nodes_at (nodes_of_columns columns.now) i) }
+    requires few { (i : ℕ) → length (nodes_at (nodes_of_columns columns.now) i) < 2 ^ 32 }
+    requires above { IsAbove (nodes_of_columns columns.now) x.iteration x.index above }
+    ensures { result ≡ left_parent (nodes_of_columns columns.now) x.iteration x.index }
+{
+    if x.iteration == 0 {
+        return None;
+    }
+    match above {
+        None => Some(0),
+        Some(above) => {
+            let node = columns[x.iteration as usize].nodes.as_slice()[x.index as usize];
+            let left = numbers[x.iteration as usize - 1].as_slice();
+            parent_below(node, left, above.joined)
+        }
+    }
+}

@@ -1,0 +1,56 @@
+//! Questions about two lists that do not change meanwhile.
+
+ghost use Rattle.std.specs.Prelude.{◌≡◌};
+ghost use Rattle.pipe_model.specs.Orders.OrderList.{list_of_log};
+
+use crate::two_orders::TwoOrders;
+use om_list::om_list::OmList;
+use pipe_model::marks::Marks;
+use pipe_model::orders::Orders;
+use std::marker::Model;
+
+/// A view of the two lists, for questions. Contracts see their logs.
+#[derive(Drop)]
+pub struct PlainOrders<'a> {
+    down: &'a OmList,
+    right: &'a OmList,
+}
+
+impl<'a> Model for PlainOrders<'a> {
+    ghost use Rattle.pipe_model.specs.Orders.OrderList.{IsLog};
+    ghost use Rattle.order_2d.specs.OrderPairs.{OrderLogs};
+
+    ghost Value = { OrderLogs };
+
+    ghost view = { λ o. record { down = o.down.now.log; right = o.right.now.log } };
+
+    ghost invariant = { λ o. IsLog 1 o.down.now.log × IsLog 1 o.right.now.log };
+}
+
+impl TwoOrders<OmList> {
+    /// Returns a view of the two lists, for questions about their order.
+    pub fn view(&self) -> PlainOrders<'_>
+        ensures { result ≡ record { down = self.now.down.log; right = self.now.right.log } }
+    {
+        PlainOrders {
+            down: &self.down,
+            right: &self.right,
+        }
+    }
+}
+
+impl<'a> Orders for PlainOrders<'a> {
+    ghost down_first = { λ o. list_of_log o.down };
+
+    ghost right_first = { λ o. list_of_log o.right };
+
+    ghost identity = { λ o. 0 };
+
+    fn down_before(&mut self, a: &Marks, b: &Marks) -> bool {
+        self.down.before(a.down_first, b.down_first)
+    }
+
+    fn right_before(&mut self, a: &Marks, b: &Marks) -> bool {
+        self.right.before(a.right_first, b.right_first)
+    }
+}

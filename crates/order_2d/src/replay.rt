@@ -1,0 +1,162 @@
+//! The two orders of a run that has been logged.
+
+ghost use Rattle.std.specs.Prelude.{◌≡◌, ◌↔◌, ◌<◌, ◌≤◌, ◌+◌, ◌*◌, ◌++◌, ◌∷◌, [], IfOk, OnOk, length, slice_set};
+ghost use Rattle.order_2d.specs.LogStarts.{IsOwnLog, log_columns, log_starts, nodes_of_columns};
+ghost use Rattle.order_2d.specs.OrderPairs.{AreInserted, HasRoom, down_taken, marks_after, right_taken, with_start};
+ghost use Rattle.order_2d.specs.ReplayedOrders.{OrdersArePrecedes, marks_of_starts};
+ghost use Rattle.order_2d.specs.StartedNodes.{CanReplay, HasLists, HasStarted, no_rows, row_at, started_node};
+ghost use Rattle.pipe_model.specs.Orders.Starts.{IsStarted, start_at};
+ghost use Rattle.pipe_model.specs.Orders.TwoOrders.{down_first_log, right_first_log};
+ghost use Rattle.pipe_model.specs.Races.Columns.{IsNodeOf};
+ghost use Rattle.pipe_model.specs.declared.node.NodeId.{NodeId as PlainNodeId};
+
+use crate::parents::{column_numbers, left_index};
+use crate::started::{Row, StartedNode, above, joined_index, left_marks, marks_of};
+use crate::starts::{MOST_INSTANCES, starts_of_log};
+use crate::two_orders::TwoOrders;
+use om_list::om_list::OmList;
+use pipe_model::column::Column;
+use pipe_model::event::RunLog;
+use pipe_model::list::{ListOf, Numbers};
+use pipe_model::marks::Marks;
+use pipe_model::memory::NoMemory;
+use pipe_model::node::{NodeId, NodeIds};
+use std::alloc::Global;
+
+/// The two orders of a run.
+#[derive(Drop)]
+pub struct Replayed {
+    /// The two lists.
+    pub orders: TwoOrders<OmList>,
+    /// The instances, in the order in which they started.
+    pub nodes: NodeIds,
+    /// The marks of each instance, in the same order.
+    pub marks: Vec<Marks>,
+}
+
+// Starts an instance with these parents; with none it is the first.
+fn start_with(orders: &mut TwoOrders<OmList>, up: Option<Marks>, left: Option<Marks>) -> Marks
+    requires inserted { AreInserted (length orders.old.down.log) up left }
+    requires room { HasRoom orders.old }
+    ensures marks { result ≡ marks_after (length orders.old.down.log) (down_taken up left) (right_taken up left) }
+    ensures lists { orders.new ≡ with_start orders.old (down_taken up left) (right_taken up left) }
+{
+    match (up, left) {
+        (None, None) => orders.start_first(),
+        (up, left) => orders.start_node(up, left),
+    }
+}
+
+// Starts instance `m` of `starts`; the rows have those before it.
+fn start_next(
+    orders: &mut TwoOrders<OmList>,
+    columns: &[Column],
+    numbers: &[Numbers],
+    rows: &[Row],
+    starts: &[NodeId],
+    m: usize,
+) -> StartedNode
+    requires run { CanReplay (nodes_of_columns columns.now) starts.now numbers.now }
+    requires next { m < length starts.now }
+    requires rows { HasStarted (nodes_of_columns columns.now) starts.now m rows.now }
+    requires lists { HasLists (nodes_of_columns columns.now) starts.now m orders.old }
+    ensures node { result ≡ started_node (nodes_of_columns columns.now) starts.now (start_at starts.now m).iteration (start_at starts.now m).index }
+    ensures lists { HasLists (nodes_of_columns columns.now) starts.now (m + 1) orders.new }
+{
+    let x = starts[m];
+    let above = above(rows, x);
+    let left = left_index(columns, numbers, x, above);
+    let marks = start_with(orders, marks_of(above), left_marks(rows, x, left));
+    StartedNode {
+        marks,
+        joined: joined_index(left, above),
+    }
+}
+
+// Appends a started instance to the row of its column.
+fn push_started(rows: &mut Vec<Row>, iteration: u32, node: StartedNode) -> Result<(), NoMemory>
+    requires { iteration < length rows.old.items }
+    ensures { OnOk result (rows.new.items ≡ slice_set rows.old.items iteration (row_at rows.old.items iteration ++ node ∷ [])) }
+{
+    let row = &mut rows[iteration as usize];
+    row.push(node)?;
+    Ok(())
+}
+
+// An empty row for each column, with room for its instances.
+fn empty_rows(alloc: Global, columns: &[Column]) -> Result<Vec<Row>, NoMemory>
+    ensures { IfOk result (λ rows. rows.items ≡ no_rows columns.now) }
+{
+    let mut rows = Vec::with_capacity(alloc, columns.len())?;
+    for column in columns {
+        rows.push(ListOf::with_capacity(alloc, column.nodes.len())?)?;
+    }
+    Ok(rows)
+}
+
+// Starts all instances of `starts`, and returns the marks of each.
+fn start_all(
+    alloc: Global,
+    columns: &[Column],
+    numbers: &[Numbers],
+    starts: &[NodeId],
+    orders: &mut TwoOrders<OmList>,
+) -> Result<Vec<Marks>, NoMemory>
+    requires run { CanReplay (nodes_of_columns columns.now) starts.now numbers.now }
+    requires lists { HasLists (nodes_of_columns columns.now) starts.now 0 orders.old }
+    ensures lists { OnOk result (HasLists (nodes_of_columns columns.now) starts.now (length starts.now) orders.new) }
+    ensures marks { IfOk result (λ marks. marks.items ≡ marks_of_starts (nodes_of_columns columns.now) starts.now starts.now) }
+{
+    let mut rows = empty_rows(alloc, columns)?;
+    let mut marks = Vec::with_capacity(alloc, starts.len())?;
+    for m in 0..starts.len() {
+        let node = start_next(orders, columns, numbers, rows.as_slice(), starts, m);
+        push_started(&mut rows, starts[m].iteration, node)?;
+        marks.push(node.marks)?;
+    }
+    Ok(marks)
+}
+
+// Two orders with room for `count` instances.
+fn empty_orders(alloc: Global, count: usize) -> Result<TwoOrders<OmList>, NoMemory>
+    requires { count ≤ MOST_INSTANCES }
+    ensures down { IfOk result (λ o. (o.down.log ≡ []) × (2 * count < o.down.capacity)) }
+    ensures right { IfOk result (λ o. (o.right.log ≡ []) × (2 * count < o.right.capacity)) }
+{
+    let capacity = 2 * count as u32 + 1;
+    let down = OmList::new(alloc, capacity)?;
+    let right = OmList::new(alloc, capacity)?;
+    Ok(TwoOrders::new(down, right))
+}
+
+/// Returns the two orders of a run: those of its starts, in the order of its events. The events
+/// other than accesses must be a run of the control part, and the columns those that they make.
+/// Returns an error only if memory runs out.
+pub fn replay(alloc: Global, run_log: &RunLog) -> Result<Replayed, NoMemory>
+    requires own { IsOwnLog run_log.now }
+    requires few { length (log_starts run_log.now.events) ≤ MOST_INSTANCES }
+    ensures nodes { IfOk result (λ r. r.nodes ≡ log_starts run_log.now.events) }
+    ensures down { IfOk result (λ r. r.orders.down.log ≡ down_first_log (log_starts run_log.now.events)) }
+    ensures right { IfOk result (λ r. r.orders.right.log ≡ right_first_log (log_columns run_log.now.events) (log_starts run_log.now.events)) }
+    ensures marks { IfOk result (λ r. r.marks.items ≡ marks_of_starts (log_columns run_log.now.events) (log_starts run_log.now.events)
+        (log_starts run_log.now.events)) }
+    ensures instances { IfOk result (λ r. (x : PlainNodeId) → IsStarted r.nodes x ↔ IsNodeOf (log_columns run_log.now.events) x) }
+    ensures orders { IfOk result (λ r. OrdersArePrecedes (log_columns run_log.now.events) r.nodes r.marks.items r.orders) }
+{
+    let columns = run_log.columns.as_slice();
+    let starts = starts_of_log(alloc, run_log.events.as_slice())?;
+    let numbers = column_numbers(alloc, columns)?;
+    let mut orders = empty_orders(alloc, starts.len())?;
+    let marks = start_all(
+        alloc,
+        columns,
+        numbers.as_slice(),
+        starts.as_slice(),
+        &mut orders,
+    )?;
+    Ok(Replayed {
+        orders,
+        nodes: starts,
+        marks,
+    })
+}

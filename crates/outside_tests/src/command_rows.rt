@@ -1,0 +1,91 @@
+//! Command lines with the commands that they ask for.
+
+use cilkp_words::commands::Command;
+use cilkp_words::words::read_words;
+use pipe_model::memory::NoMemory;
+use std::alloc::Global;
+use std::test::Fail;
+
+// Lines of words that were drawn at random from a list, and their commands: the name, the files and
+// the numbers. A line that asks for no command has none.
+const LINES: [(&str, &str); 42] = [
+    ("run b -", "run b - 4 16"),
+    ("run a a", "run a a 4 16"),
+    ("run -- a.pipe -", "run a.pipe - 4 16"),
+    ("serial a b", "serial a b"),
+    ("run b b", "run b b 4 16"),
+    ("serial b a.pipe", "serial b a.pipe"),
+    ("bench --size=3", ""),
+    ("run a a.pipe", "run a a.pipe 4 16"),
+    ("bench --size 8", ""),
+    ("run a - --throttle=64", "run a - 4 64"),
+    ("serial b -", "serial b -"),
+    ("run b --throttle=3 b", "run b b 4 3"),
+    ("run --workers 1 - b", "run - b 1 4"),
+    ("run b --throttle 3 b", "run b b 4 3"),
+    ("run a --throttle=64 b", "run a b 4 64"),
+    ("serial a b --", "serial a b"),
+    ("bench --seed 0", ""),
+    ("bench --seed 40001", ""),
+    ("serial a.pipe -", "serial a.pipe -"),
+    ("run - b", "run - b 4 16"),
+    ("format  --size a.pipe", ""),
+    ("run --size=5 --throttle 65535 a a", ""),
+    ("run b --workers 40001 b", ""),
+    ("run b - --workers=08 --seed", ""),
+    ("run b 64 a.pipe", ""),
+    ("serial - a 64", ""),
+    ("run a - a.pipe --workers 08", ""),
+    ("run --throttle=64 - a.pipe -", ""),
+    ("run b --workers 64 -- a.pipe -5", ""),
+    ("bench --seed=1 -", ""),
+    ("run - --throttle=08 a", ""),
+    ("bench --size=65 ", ""),
+    ("run b 08 b --workers 64 --seed", ""),
+    ("run run b b --workers 65", ""),
+    ("format a 65", ""),
+    ("run - --size a --throttle=64", ""),
+    ("run serial a.pipe b --throttle 3 a.pipe", ""),
+    ("-x b", ""),
+    ("--seed=0 --workers 65 run b -", ""),
+    ("run b b a --throttle=65535", ""),
+    ("run - --throttle=65 65 --throttle a", ""),
+    ("bench  --seed=0 --seed=0", ""),
+];
+
+// The words of a line, with one space between them.
+fn words(alloc: Global, line: &str) -> Result<Vec<String>, NoMemory> {
+    let mut words = Vec::new(alloc);
+    for word in line.split(' ') {
+        words.push(String::from_str(alloc, word)?)?;
+    }
+    Ok(words)
+}
+
+// The command of a line; empty if it asks for none.
+fn asked(alloc: Global, line: &str) -> Result<String, NoMemory> {
+    let mut text = String::new(alloc);
+    let words = words(alloc, line)?;
+    match read_words(alloc, words.as_slice())? {
+        None => {}
+        Some(
+            Command::Run {
+                source,
+                input,
+                workers,
+                throttle,
+            },
+        ) => write!(text, "run {source} {input} {workers} {throttle}")?,
+        Some(Command::Serial { source, input }) => write!(text, "serial {source} {input}")?,
+        Some(Command::Format { source }) => write!(text, "format {source}")?,
+    }
+    Ok(text)
+}
+
+#[test]
+fn lines_have_their_commands(rt: HostRuntime) -> Result<(), Fail> {
+    for (line, expected) in LINES {
+        assert_eq!(rt; asked(rt.alloc(), line)?.as_str(), expected, "{line}");
+    }
+    Ok(())
+}
