@@ -1,5 +1,5 @@
 -- The result of a call that prints the canonical text of an accepted program.
-use Rattle.std.proofs.Common.{◌≡◌, ◌∙◌, ℕ, List, [], Option, Some, None, IfSome, length, ap, subst}
+use Rattle.std.proofs.Common.{◌≡◌, ◌∙◌, ℕ, List, [], Option, Some, None, IfSome, length, ap, refl, subst}
 use Rattle.pipe_model.specs.declared.event.RunLog.{RunLog}
 use Rattle.pipe_model.specs.declared.report.Report.{Report}
 use Rattle.pipe_model.specs.Language.CanonicalText.{program_text}
@@ -8,7 +8,8 @@ use Rattle.cilkp_program.specs.CallResults.{HasTaken, IsCallResult, OfRow, Sourc
 use Rattle.pipe_io.specs.Faults.{CountRose}
 use Rattle.cilkp_program.specs.Formatting.{ReturnsText, IsToFormat}
 use Rattle.pipe_io.specs.Reads.{Content}
-use Rattle.cilkp_program.specs.Rows.{FileContents, IsSourceOf, Row, Formats, ByFormat, format_words}
+use Rattle.cilkp_program.specs.Rows.{FileContents, IsSourceOf, Row, Formats}
+use Rattle.cilkp_words.specs.Commands.{Command, Format}
 use Rattle.cilkp_program.proofs.OneRow.{one_row}
 
 -- the result is that of the program's text
@@ -19,28 +20,28 @@ record IsTextOf (tree : SyntaxTree) (status : ℕ) (text : List ℕ) (log : Opti
   silent : reports ≡ []
 
 -- the row of such a call
-text_row : {words : List (List ℕ)} {held : FileContents} {status : ℕ} {text : List ℕ} {log : Option RunLog} {reports : List Report}
+text_row : {asked : Option Command} {held : FileContents} {status : ℕ} {text : List ℕ} {log : Option RunLog} {reports : List Report}
     (tree : SyntaxTree) (source : List ℕ)
-    → words ≡ format_words source → IsSourceOf held.source tree → Row words held status text log reports → IsTextOf tree status text log reports
+    → asked ≡ Some (Format source) → IsSourceOf held.source tree → Row asked held status text log reports → IsTextOf tree status text log reports
 text_row tree source w s row =
     let one = one_row row (Formats source tree w s) in record { done = one.0; text_is = one.1; not_run = one.2; silent = one.3 }
 
 -- the result of a call that prints an accepted program, if no read failed
-text_outcome : {words : List (List ℕ)} {content : Content} {before now status : ℕ} {text : List ℕ} {log : Option RunLog} {reports : List Report}
+text_outcome : {asked : Option Command} {content : Content} {before now status : ℕ} {text : List ℕ} {log : Option RunLog} {reports : List Report}
     (tree : SyntaxTree)
-    → ¬ (CountRose before now) → IsToFormat words content tree → IsCallResult words (Some content) before now status text log reports
+    → ¬ (CountRose before now) → IsToFormat asked content tree → IsCallResult asked (Some content) before now status text log reports
     → IsTextOf tree status text log reports
 text_outcome tree calm a (OfRow same row) =
-    text_row tree a.source a.command (rw (row.known.source a.source (ByFormat a.command)) at a.program) row.row
+    text_row tree a.source a.command (rw (row.known.source a.source (rw a.command refl)) at a.program) row.row
 text_outcome tree calm a (SourceFault s grew rose w) = absurd (calm rose)
-text_outcome tree calm a (InputFault s i file other grew rose w known of) = absurd (calm rose)
+text_outcome tree calm a (InputFault s i file other grew rose w v known of) = absurd (calm rose)
 
 -- a call whose text was written completely
-pub text_printed : (words : List (List ℕ)) (holds : Option Content) (before now status written : ℕ) (log : Option RunLog) (reports : List Report)
-    (taken_before taken_now : Option (List ℕ)) → ¬ (CountRose before now) → IsPrinted words holds before now status written log reports taken_before taken_now
-    → IfSome holds (λ content. (tree : SyntaxTree) → IsToFormat words content tree → ReturnsText tree status written log reports taken_before taken_now)
-text_printed words None before now status written log reports taken_before taken_now calm printed = tt
-text_printed words (Some content) before now status written log reports taken_before taken_now calm printed = λ tree a. (
+pub text_printed : (asked : Option Command) (holds : Option Content) (before now status written : ℕ) (log : Option RunLog) (reports : List Report)
+    (taken_before taken_now : Option (List ℕ)) → ¬ (CountRose before now) → IsPrinted asked holds before now status written log reports taken_before taken_now
+    → IfSome holds (λ content. (tree : SyntaxTree) → IsToFormat asked content tree → ReturnsText tree status written log reports taken_before taken_now)
+text_printed asked None before now status written log reports taken_before taken_now calm printed = tt
+text_printed asked (Some content) before now status written log reports taken_before taken_now calm printed = λ tree a. (
     let h = text_outcome tree calm a printed.outcome in
     record {
       done = h.done;

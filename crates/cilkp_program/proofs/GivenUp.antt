@@ -3,25 +3,26 @@ use Rattle.std.proofs.Common.{◌≡◌, ◌≢◌, ◌≤◌, ◌↔◌, ℕ, L
 use Rattle.pipe_model.specs.declared.event.RunLog.{RunLog}
 use Rattle.pipe_model.specs.declared.report.Report.{Report}
 use Rattle.cilkp_program.specs.CallResults.{IsCallResult, IsCutShort, IsGivenUp, IsPrinted, HasTaken}
+use Rattle.cilkp_words.specs.Commands.{Command}
 use Rattle.pipe_io.specs.Reads.{Content}
 use Rattle.pipe_io.specs.declared.whole.WriteEnd.{WriteEnd}
 use Rattle.pipe_io.specs.declared.whole.WriteEnd.TheVariants as ends
 
 -- a text that was written completely was printed
-pub text_whole : (words : List (List ℕ)) (holds : Option Content) (before now status written : ℕ) (text : List ℕ) (log : Option RunLog) (reports : List Report)
-    (taken_before taken_now : Option (List ℕ)) → IsCallResult words holds before now status text log reports → written ≡ length text
+pub text_whole : (asked : Option Command) (holds : Option Content) (before now status written : ℕ) (text : List ℕ) (log : Option RunLog) (reports : List Report)
+    (taken_before taken_now : Option (List ℕ)) → IsCallResult asked holds before now status text log reports → written ≡ length text
     → HasTaken written text taken_before taken_now
-    → IsPrinted words holds before now status written log reports taken_before taken_now
-text_whole words holds before now status written text log reports taken_before taken_now outcome whole taken =
+    → IsPrinted asked holds before now status written log reports taken_before taken_now
+text_whole asked holds before now status written text log reports taken_before taken_now outcome whole taken =
     record { text = text; outcome = outcome; whole = whole; taken = taken }
 
 -- a text that was not written completely was cut short
-pub text_cut_short : (words : List (List ℕ)) (holds : Option Content) (before now status written : ℕ) (text : List ℕ) (log : Option RunLog)
+pub text_cut_short : (asked : Option Command) (holds : Option Content) (before now status written : ℕ) (text : List ℕ) (log : Option RunLog)
     (reports : List Report)
-    (taken_before taken_now : Option (List ℕ)) (end : WriteEnd) → IsCallResult words holds before now status text log reports
+    (taken_before taken_now : Option (List ℕ)) (end : WriteEnd) → IsCallResult asked holds before now status text log reports
     → written ≤ length text → ((end ≡ ends.Whole) ↔ (written ≡ length text)) → end ≢ ends.Whole → HasTaken written text taken_before taken_now
-    → IsCutShort words holds before now written log reports taken_before taken_now
-text_cut_short words holds before now status written text log reports taken_before taken_now end outcome within whole cut taken = record {
+    → IsCutShort asked holds before now written log reports taken_before taken_now
+text_cut_short asked holds before now status written text log reports taken_before taken_now end outcome within whole cut taken = record {
   status = status;
   text = text;
   outcome = outcome;
@@ -30,7 +31,7 @@ text_cut_short words holds before now status written text log reports taken_befo
 }
 
 -- a call whose text is cut short by out of memory
-pub given_up_writing : (words : List (List ℕ)) (holds : Option Content) (before now written : ℕ) (log : Option RunLog) (reports : List Report)
-    (taken_before taken_now : Option (List ℕ)) → IsCutShort words holds before now written log reports taken_before taken_now
-    → IsGivenUp words holds before now taken_before taken_now
-given_up_writing words holds before now written log reports taken_before taken_now cut = inr (written, log, reports, cut)
+pub given_up_writing : (asked : Option Command) (holds : Option Content) (before now written : ℕ) (log : Option RunLog) (reports : List Report)
+    (taken_before taken_now : Option (List ℕ)) → IsCutShort asked holds before now written log reports taken_before taken_now
+    → IsGivenUp asked holds before now taken_before taken_now
+given_up_writing asked holds before now written log reports taken_before taken_now cut = inr (written, log, reports, cut)

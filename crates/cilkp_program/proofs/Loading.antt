@@ -1,18 +1,25 @@
 -- Loading a source and an input, from the result of reading a whole file.
 use Rattle.std.proofs.Common.{◌≡◌, ◌<◌, ℕ, List, [], length, Option, Some, None, Result, Ok, Err, IfOk, IfSome, refl, ap, sym, arith}
-use Rattle.std.proofs.lemmas.List.{nil_from_length, take_all}
+use Rattle.std.proofs.lemmas.List.{take_all}
 use Rattle.grammar_laws.proofs.SourceRefusals.{one_refusal}
 use Rattle.pipe_model.specs.declared.bounds.TheConstants.{LONGEST_SOURCE}
 use Rattle.pipe_model.specs.declared.memory.NoMemory.{NoMemory}
 use Rattle.pipe_model.specs.Language.SourceRefusals.{ForItsText, Lexical}
 use Rattle.pipe_model.specs.Language.Tokens.{IsTooLong, SourceTooLong}
 use Rattle.pipe_model.specs.Texts.{refused_missing}
-use Rattle.cilkp_program.specs.NotYetBuilt.{refused_input}
+use Rattle.pipe_io.specs.declared.bounds.TheConstants.{LONGEST_INPUT}
+use Rattle.pipe_io.specs.declared.input_fault.InputFault.{InputFault}
+use Rattle.pipe_io.specs.declared.input_fault.InputFault.TheVariants as inputs
+use Rattle.pipe_io.specs.InputFile as input
+use Rattle.pipe_io.specs.InputFile.{IsFaultOf}
+use Rattle.cilkp_program.specs.InputLines.{IsInputLine, input_line}
 use Rattle.pipe_io.specs.declared.whole.Whole.{Whole}
 use Rattle.pipe_io.specs.declared.whole.Whole.TheVariants as whole
 use Rattle.pipe_io.specs.Reads.{Content}
-use Rattle.cilkp_program.specs.Rows.{InputRefusal, InputMissing, InputNotEmpty, SourceRefusal, SourceMissing, NotAccepted}
-use Rattle.cilkp_program.specs.LoadedFiles.{IsLoadOf, IsSourceFrom, IsSourceResult}
+use Rattle.cilkp_program.specs.Rows.{InputRefusal, InputMissing, NoNumbers, SourceRefusal, SourceMissing, NotAccepted}
+use Rattle.cilkp_program.specs.LoadedFiles.{AreFaulty, IsInputFrom, IsInputResult, IsLoadOf, IsReadOf, IsSourceFrom, IsSourceResult}
+use Rattle.cilkp_program.specs.declared.load.Input.{Input}
+use Rattle.cilkp_program.specs.declared.load.Input.TheVariants as loaded
 use Rattle.cilkp_program.specs.declared.load.Source.{Source}
 use Rattle.cilkp_program.specs.declared.load.Source.TheVariants as sources
 use Rattle.pipe_io.specs.WholeFiles.{IsUpTo, IsWholeOf}
@@ -98,13 +105,31 @@ pub input_is_missing : (file : Option (List ℕ)) (name line : List ℕ) (limit 
     → IsWholeOf file limit whole.Missing → InputRefusal name file line
 input_is_missing file name line limit e h = rw e (InputMissing (missing_is_none file limit h))
 
--- an input that is not empty is refused
-pub input_is_not_empty : (file : Option (List ℕ)) (name line bytes : List ℕ) → line ≡ refused_input → IsWholeOf file 0 (whole.TooLong bytes)
-    → InputRefusal name file line
-input_is_not_empty file name line bytes e h =
-    let f = too_long_is_held file 0 bytes h in rw e (InputNotEmpty f.0 f.1 (λ none. omega (arith, f.2, ap length none)))
+-- an input that is too long is refused
+pub input_is_too_long : (file : Option (List ℕ)) (name line bytes : List ℕ) → line ≡ input_line inputs.TooLong
+    → IsWholeOf file LONGEST_INPUT (whole.TooLong bytes) → InputRefusal name file line
+input_is_too_long file name line bytes e h =
+    let f = too_long_is_held file LONGEST_INPUT bytes h in rw e (NoNumbers f.0 inputs.TooLong f.1 (input.IsTooLong f.2))
 
--- an input without bytes is empty
-pub input_is_empty : (file : Option (List ℕ)) (bytes : List ℕ) → IsWholeOf file 0 (whole.Bytes bytes) → file ≡ Some []
-input_is_empty None bytes h = absurd h
-input_is_empty (Some held) bytes h = ap Some (nil_from_length held (omega (arith, h.1)))
+-- the result of loading the bytes of a file is that of loading the file
+input_result : (file : Option (List ℕ)) (name bytes : List ℕ) (limit : ℕ) (input : Input) → IsWholeOf file limit (whole.Bytes bytes)
+    → IsReadOf bytes input → IsInputFrom name file input
+input_result file name bytes limit (loaded.Accepted numbers) h g = record { bytes = bytes; held = bytes_are_held file limit bytes h; read = g }
+input_result file name bytes limit (loaded.Refused line) h g =
+    rw g.line_is (NoNumbers bytes g.fault (bytes_are_held file limit bytes h) g.faulty)
+input_result file name bytes limit loaded.Failed h g = absurd g
+
+-- the result for the bytes of a file
+pub input_outcome : (holds : Option Content) (name : List ℕ) (limit : ℕ) (bytes : List ℕ) (r : Result Input NoMemory)
+    → IsOfFile holds name limit (whole.Bytes bytes)
+    → IfOk r (λ input. IsReadOf bytes input) → IfOk r (λ input. IsInputResult holds name input)
+input_outcome holds name limit bytes (Ok input) f g = record { file = f.file; known = f.known; result_is = input_result f.file name bytes limit input f.is g }
+input_outcome holds name limit bytes (Err m) f g = g
+
+-- a fault of an input
+pub input_faulty : (bytes : List ℕ) (fault : InputFault) (line : List ℕ) → IsFaultOf bytes fault → IsInputLine fault line → AreFaulty bytes line
+input_faulty bytes (inputs.BadByte place) line h e = record { fault = inputs.BadByte place; faulty = h; line_is = e }
+input_faulty bytes (inputs.TooWide place) line h e = record { fault = inputs.TooWide place; faulty = h; line_is = e }
+input_faulty bytes (inputs.TooMany place) line h e = record { fault = inputs.TooMany place; faulty = h; line_is = e }
+input_faulty bytes inputs.TooLong line h e = record { fault = inputs.TooLong; faulty = h; line_is = e }
+input_faulty bytes inputs.NoMemory line h e = absurd e

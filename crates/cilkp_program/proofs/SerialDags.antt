@@ -48,17 +48,17 @@ program_rules w limit events s (NoLoop trapped) = runs_keep_rules w.loop limit [
 program_rules w limit events s (OfLoop free r) = runs_keep_rules (loop_after_init w) limit events s r
 
 -- the log of the serial elision is that of a finished run, with the columns and accesses of the elision
-pub record IsSerialLog (tree : SyntaxTree) (limit : ℕ) : Type 0 where
-  pub run : IsFinishedProgramRun (whole_of tree []) limit (elision_log tree [])
-  pub columns : columns_after (elision_log tree []).events ≡ elision_columns tree []
-  pub accesses : accesses_after (elision_log tree []).events ≡ elision_accesses tree []
-  pub rules : KeepsRules limit (elision_log tree []).events (state_after (elision_log tree []).events)
+pub record IsSerialLog (tree : SyntaxTree) (input : List ℤ) (limit : ℕ) : Type 0 where
+  pub run : IsFinishedProgramRun (whole_of tree input) limit (elision_log tree input)
+  pub columns : columns_after (elision_log tree input).events ≡ elision_columns tree input
+  pub accesses : accesses_after (elision_log tree input).events ≡ elision_accesses tree input
+  pub rules : KeepsRules limit (elision_log tree input).events (state_after (elision_log tree input).events)
 
 -- this holds for every accepted program and every limit of at least 1
-pub serial_log : (source : List ℕ) (tree : SyntaxTree) (limit : ℕ) → IsAccepted source tree → 1 ≤ limit → IsSerialLog tree limit
-serial_log source tree limit form room =
-    let w : WholeProgram = whole_of tree [] in
-    let h : HasElisionLog w limit = program_elision_is_a_run w limit (accepted_is_well_formed source tree [] form) (omega (arith, room)) in
+pub serial_log : (source : List ℕ) (tree : SyntaxTree) (input : List ℤ) (limit : ℕ) → IsAccepted source tree → 1 ≤ limit → IsSerialLog tree input limit
+serial_log source tree input limit form room =
+    let w : WholeProgram = whole_of tree input in
+    let h : HasElisionLog w limit = program_elision_is_a_run w limit (accepted_is_well_formed source tree input form) (omega (arith, room)) in
     let end : State = state_after (program_log w).events in
     record {
       run = h.run;
@@ -70,15 +70,15 @@ serial_log source tree limit form room =
 -- ---- the dag that is built from the elision's columns and accesses
 
 -- the columns that the elision returns have the program's instances
-given_columns : (tree : SyntaxTree) (columns : List Column) → columns ≡ program_columns (whole_of tree []) → node_columns columns ≡ elision_columns tree []
-given_columns tree columns e = ap node_columns e ∙ ended_nodes (loop_traces (whole_of tree []))
+given_columns : (tree : SyntaxTree) (input : List ℤ) (columns : List Column) → columns ≡ program_columns (whole_of tree input) → node_columns columns ≡ elision_columns tree input
+given_columns tree input columns e = ap node_columns e ∙ ended_nodes (loop_traces (whole_of tree input))
 
 -- the dag that is built has rising columns
-pub given_columns_rise : (source : List ℕ) (tree : SyntaxTree) (columns : List Column) → IsAccepted source tree → columns ≡ program_columns (whole_of tree [])
+pub given_columns_rise : (source : List ℕ) (tree : SyntaxTree) (input : List ℤ) (columns : List Column) → IsAccepted source tree → columns ≡ program_columns (whole_of tree input)
     → AreRising (node_columns columns)
-given_columns_rise source tree columns form e =
-    let h = serial_log source tree 1 form (omega arith) in
-    subst AreRising (h.columns ∙ sym (given_columns tree columns e)) (record { each = h.rules.rising })
+given_columns_rise source tree input columns form e =
+    let h = serial_log source tree input 1 form (omega arith) in
+    subst AreRising (h.columns ∙ sym (given_columns tree input columns e)) (record { each = h.rules.rising })
 
 -- the number of a column with an instance is below the number of columns
 column_inside : (columns : List (List Node)) (i k : ℕ) → k < length (nodes_at columns i) → i < length columns
@@ -87,43 +87,43 @@ column_inside (c ∷ cs) zero k w = omega arith
 column_inside (c ∷ cs) (suc i) k w = let h = column_inside cs i k w in omega (arith, h)
 
 -- the accesses of the loop are made by instances of its columns
-accesses_inside : (source : List ℕ) (tree : SyntaxTree) → IsAccepted source tree → All (IsAccessOf (elision_columns tree [])) (elision_accesses tree [])
-accesses_inside source tree form =
-    let h = serial_log source tree 1 form (omega arith) in
-    subst (λ cs. All (IsAccessOf cs) (elision_accesses tree [])) h.columns (subst (All (IsAccessOf _)) h.accesses
+accesses_inside : (source : List ℕ) (tree : SyntaxTree) (input : List ℤ) → IsAccepted source tree → All (IsAccessOf (elision_columns tree input)) (elision_accesses tree input)
+accesses_inside source tree input form =
+    let h = serial_log source tree input 1 form (omega arith) in
+    subst (λ cs. All (IsAccessOf cs) (elision_accesses tree input)) h.columns (subst (All (IsAccessOf _)) h.accesses
     (λ k d w. let inside = h.rules.inside _ (among_at _ k d w) in (column_inside _ _ _ inside, inside)))
 
 -- the accesses that the elision returns are made by instances of the dag that is built
-pub given_accesses_inside : (source : List ℕ) (tree : SyntaxTree) (dag : List (List Node)) (columns : List Column) (accesses : List NodeAccess)
+pub given_accesses_inside : (source : List ℕ) (tree : SyntaxTree) (input : List ℤ) (dag : List (List Node)) (columns : List Column) (accesses : List NodeAccess)
     → IsAccepted source tree
-    → dag ≡ node_columns columns → columns ≡ program_columns (whole_of tree []) → accesses ≡ elision_accesses tree [] → All (IsAccessOf dag) accesses
-given_accesses_inside source tree dag columns accesses form d e a =
-    rw (a, d ∙ given_columns tree columns e) (accesses_inside source tree form)
+    → dag ≡ node_columns columns → columns ≡ program_columns (whole_of tree input) → accesses ≡ elision_accesses tree input → All (IsAccessOf dag) accesses
+given_accesses_inside source tree input dag columns accesses form d e a =
+    rw (a, d ∙ given_columns tree input columns e) (accesses_inside source tree input form)
 
 -- the races of the dag that is built are those of the program
-given_races : (tree : SyntaxTree) (dag : List (List Node)) (columns : List Column) (accesses : List NodeAccess) (reports : List Report)
+given_races : (tree : SyntaxTree) (input : List ℤ) (dag : List (List Node)) (columns : List Column) (accesses : List NodeAccess) (reports : List Report)
     → dag ≡ node_columns columns
-    → columns ≡ program_columns (whole_of tree []) → accesses ≡ elision_accesses tree [] → AreFirstRaces dag accesses reports
-    → AreFirstRaces (elision_columns tree []) (elision_accesses tree []) reports
-given_races tree dag columns accesses reports d e a r = rw (← a, ← (d ∙ given_columns tree columns e)) r
+    → columns ≡ program_columns (whole_of tree input) → accesses ≡ elision_accesses tree input → AreFirstRaces dag accesses reports
+    → AreFirstRaces (elision_columns tree input) (elision_accesses tree input) reports
+given_races tree input dag columns accesses reports d e a r = rw (← a, ← (d ∙ given_columns tree input columns e)) r
 
 -- what is printed for the elision's output, trap and races is the result of the program's run
-pub outcome_of_run : (tree : SyntaxTree) (dag : List (List Node)) (columns : List Column) (accesses : List NodeAccess) (output : List ℤ)
+pub outcome_of_run : (tree : SyntaxTree) (input : List ℤ) (dag : List (List Node)) (columns : List Column) (accesses : List NodeAccess) (output : List ℤ)
     (trap : Option TrapAt) (reports : List Report)
-    {status : ℕ} {text : List ℕ} → dag ≡ node_columns columns → columns ≡ program_columns (whole_of tree []) → accesses ≡ elision_accesses tree []
-    → output ≡ program_output (whole_of tree []) → trap ≡ elision_trap tree [] → AreFirstRaces dag accesses reports
-    → IsPrintedAs tree.cells output trap reports status text → RunResult tree [] status text reports
-outcome_of_run tree dag columns accesses output trap reports d e a o t r (WithRaces some) =
-    let first = given_races tree dag columns accesses reports d e a r in
+    {status : ℕ} {text : List ℕ} → dag ≡ node_columns columns → columns ≡ program_columns (whole_of tree input) → accesses ≡ elision_accesses tree input
+    → output ≡ program_output (whole_of tree input) → trap ≡ elision_trap tree input → AreFirstRaces dag accesses reports
+    → IsPrintedAs tree.cells output trap reports status text → RunResult tree input status text reports
+outcome_of_run tree input dag columns accesses output trap reports d e a o t r (WithRaces some) =
+    let first = given_races tree input dag columns accesses reports d e a r in
     Races reports (λ free. some ((no_report_is_race_free _ _ reports first).1 free)) first
-outcome_of_run tree dag columns accesses output trap reports d e a o t r (ToItsEnd none ends) =
-    let free = (no_report_is_race_free _ _ reports (given_races tree dag columns accesses reports d e a r)).0 none in
+outcome_of_run tree input dag columns accesses output trap reports d e a o t r (ToItsEnd none ends) =
+    let free = (no_report_is_race_free _ _ reports (given_races tree input dag columns accesses reports d e a r)).0 none in
     rw (none, o) (Finishes free (sym t ∙ ends))
-outcome_of_run tree dag columns accesses output trap reports d e a o t r (WithTrap at none ends) =
-    let free = (no_report_is_race_free _ _ reports (given_races tree dag columns accesses reports d e a r)).0 none in
+outcome_of_run tree input dag columns accesses output trap reports d e a o t r (WithTrap at none ends) =
+    let free = (no_report_is_race_free _ _ reports (given_races tree input dag columns accesses reports d e a r)).0 none in
     rw (none, o) (Traps at free (sym t ∙ ends))
 
 -- the elision's columns and events are the log of the program
-pub given_log : (tree : SyntaxTree) (columns : List Column) (events : List Event) → columns ≡ program_columns (whole_of tree [])
-    → events ≡ (program_log (whole_of tree [])).events → (let l : RunLog = record { columns = columns; events = events } in l) ≡ elision_log tree []
-given_log tree columns events e v = λ i. record { columns = e i; events = v i }
+pub given_log : (tree : SyntaxTree) (input : List ℤ) (columns : List Column) (events : List Event) → columns ≡ program_columns (whole_of tree input)
+    → events ≡ (program_log (whole_of tree input)).events → (let l : RunLog = record { columns = columns; events = events } in l) ≡ elision_log tree input
+given_log tree input columns events e v = λ i. record { columns = e i; events = v i }

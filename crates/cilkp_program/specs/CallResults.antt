@@ -7,49 +7,51 @@ use Rattle.pipe_model.specs.Language.SyntaxTree.{SyntaxTree}
 use Rattle.pipe_model.specs.Texts.{fault_read}
 use Rattle.pipe_io.specs.Faults.{CountRose}
 use Rattle.pipe_io.specs.Reads.{Content}
-use Rattle.cilkp_program.specs.Rows.{AreHeldBy, FileContents, IsSourceOf, NamesFiles, NamesSource, Row}
+use Rattle.cilkp_program.specs.CommandFiles.{NamesInput, NamesSource}
+use Rattle.cilkp_program.specs.Rows.{AreHeldBy, FileContents, IsSourceOf, Row}
+use Rattle.cilkp_words.specs.Commands.{Command}
 
--- the result of a call in which no read failed: the row of its words and of some content of its files; where the content is known, it is that one
-pub record IsRow (words : List (List ℕ)) (holds : Option Content) (status : ℕ) (text : List ℕ) (log : Option RunLog) (reports : List Report) : Type 0 where
+-- the result of a call in which no read failed: the row of its command and of some content of its files; where the content is known, it is that one
+pub record IsRow (asked : Option Command) (holds : Option Content) (status : ℕ) (text : List ℕ) (log : Option RunLog) (reports : List Report) : Type 0 where
   pub held : FileContents
-  pub known : IfSome holds (λ content. AreHeldBy content words held)
-  pub row : Row words held status text log reports
+  pub known : IfSome holds (λ content. AreHeldBy content asked held)
+  pub row : Row asked held status text log reports
 
 -- the status, the text, the run log and the reports of a call: those of its row if no read failed, and otherwise the line of the fault, which is the
 -- input's only if the source is an accepted program to run. `before` and `now` are the counts of faults before and after the call
-pub data IsCallResult (words : List (List ℕ)) (holds : Option Content) (before now : ℕ) : ℕ → List ℕ → Option RunLog → List Report → Type 0 where
-  OfRow : {status : ℕ} {text : List ℕ} {log : Option RunLog} {reports : List Report} → now ≡ before → IsRow words holds status text log reports
-      → IsCallResult words holds before now status text log reports
-  SourceFault : (source : List ℕ) → before ≤ now → CountRose before now → NamesSource words source
-      → IsCallResult words holds before now 4 (fault_read source) None []
-  InputFault : (source input : List ℕ) (file : Option (List ℕ)) (tree : SyntaxTree) → before ≤ now → CountRose before now → NamesFiles words source input
-      → IfSome holds (λ content. content source ≡ file) → IsSourceOf file tree → IsCallResult words holds before now 4 (fault_read input) None []
+pub data IsCallResult (asked : Option Command) (holds : Option Content) (before now : ℕ) : ℕ → List ℕ → Option RunLog → List Report → Type 0 where
+  OfRow : {status : ℕ} {text : List ℕ} {log : Option RunLog} {reports : List Report} → now ≡ before → IsRow asked holds status text log reports
+      → IsCallResult asked holds before now status text log reports
+  SourceFault : (source : List ℕ) → before ≤ now → CountRose before now → NamesSource asked source
+      → IsCallResult asked holds before now 4 (fault_read source) None []
+  InputFault : (source input : List ℕ) (file : Option (List ℕ)) (tree : SyntaxTree) → before ≤ now → CountRose before now → NamesSource asked source → NamesInput asked input
+      → IfSome holds (λ content. content source ≡ file) → IsSourceOf file tree → IsCallResult asked holds before now 4 (fault_read input) None []
 
 -- the sink took the first `count` bytes of the text; `before` and `now` are its content, if it is known
 abbrev pub HasTaken : ℕ → List ℕ → Option (List ℕ) → Option (List ℕ) → Type 0
 HasTaken count text before now = now ≡ option_map (λ taken. taken ++ take count text) before
 
 -- the call's text was written completely
-pub record IsPrinted (words : List (List ℕ)) (holds : Option Content) (faults_before faults_now status written : ℕ) (log : Option RunLog)
+pub record IsPrinted (asked : Option Command) (holds : Option Content) (faults_before faults_now status written : ℕ) (log : Option RunLog)
     (reports : List Report)
     (taken_before taken_now : Option (List ℕ)) : Type 0 where
   pub text : List ℕ
-  pub outcome : IsCallResult words holds faults_before faults_now status text log reports
+  pub outcome : IsCallResult asked holds faults_before faults_now status text log reports
   pub whole : written ≡ length text
   pub taken : HasTaken written text taken_before taken_now
 
 -- a prefix of the call's text was written, and not all of it; the run log and the reports are those of the complete result
-pub record IsCutShort (words : List (List ℕ)) (holds : Option Content) (faults_before faults_now written : ℕ) (log : Option RunLog) (reports : List Report)
+pub record IsCutShort (asked : Option Command) (holds : Option Content) (faults_before faults_now written : ℕ) (log : Option RunLog) (reports : List Report)
     (taken_before taken_now : Option (List ℕ)) : Type 0 where
   pub status : ℕ
   pub text : List ℕ
-  pub outcome : IsCallResult words holds faults_before faults_now status text log reports
+  pub outcome : IsCallResult asked holds faults_before faults_now status text log reports
   pub short : written < length text
   pub taken : HasTaken written text taken_before taken_now
 
 -- after out of memory, nothing was taken, or the call's text was cut short
-abbrev pub IsGivenUp : (words : List (List ℕ)) (holds : Option Content) (faults_before faults_now : ℕ) (taken_before taken_now : Option (List ℕ)) → Type 0
-IsGivenUp words holds faults_before faults_now taken_before taken_now =
+abbrev pub IsGivenUp : (asked : Option Command) (holds : Option Content) (faults_before faults_now : ℕ) (taken_before taken_now : Option (List ℕ)) → Type 0
+IsGivenUp asked holds faults_before faults_now taken_before taken_now =
     (taken_now ≡ taken_before)
     ⊎ ((written : ℕ) × (log : Option RunLog) × (reports : List Report)
-    × IsCutShort words holds faults_before faults_now written log reports taken_before taken_now)
+    × IsCutShort asked holds faults_before faults_now written log reports taken_before taken_now)

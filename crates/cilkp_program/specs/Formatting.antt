@@ -1,17 +1,18 @@
 -- What a call guarantees when it prints the canonical text of an accepted program.
-use Rattle.std.specs.Prelude.{◌≡◌, ℕ, List, [], length, Option, None}
+use Rattle.std.specs.Prelude.{◌≡◌, ℕ, List, [], length, Option, Some, None}
 use Rattle.pipe_model.specs.declared.event.RunLog.{RunLog}
 use Rattle.pipe_model.specs.declared.report.Report.{Report}
 use Rattle.pipe_model.specs.Language.CanonicalText.{program_text}
 use Rattle.pipe_model.specs.Language.SyntaxTree.{SyntaxTree}
 use Rattle.cilkp_program.specs.CallResults.{HasTaken}
 use Rattle.pipe_io.specs.Reads.{Content}
-use Rattle.cilkp_program.specs.Rows.{IsSourceOf, format_words}
+use Rattle.cilkp_program.specs.Rows.{IsSourceOf}
+use Rattle.cilkp_words.specs.Commands.{Command, Format}
 
--- the words are `format SOURCE`, and the source is accepted as the program
-pub record IsToFormat (words : List (List ℕ)) (content : Content) (tree : SyntaxTree) : Type 0 where
+-- the command is `format SOURCE`, and the source is accepted as the program
+pub record IsToFormat (asked : Option Command) (content : Content) (tree : SyntaxTree) : Type 0 where
   pub source : List ℕ
-  pub command : words ≡ format_words source
+  pub command : asked ≡ Some (Format source)
   pub program : IsSourceOf (content source) tree
 
 -- the canonical text of the program was written completely, with status 0, and nothing was run

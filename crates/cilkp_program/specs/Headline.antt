@@ -1,4 +1,4 @@
--- The headline: what a call guarantees for an accepted program with an empty input, for every throttling limit of at least 1.
+-- The headline: what a call guarantees for an accepted program and its input, for every throttling limit of at least 1.
 use Rattle.std.specs.Prelude.{◌≡◌, ◌≢◌, ◌≤◌, ◌⊎◌, ◌↔◌, ◌++◌, ℕ, ℤ, List, [], length, Option, Some, None}
 use Rattle.pipe_model.specs.declared.event.RunLog.{RunLog}
 use Rattle.pipe_model.specs.declared.report.Report.{Report}
@@ -12,15 +12,18 @@ use Rattle.pipe_model.specs.Runs.WholeProgramRuns.{IsFinishedProgramRun}
 use Rattle.cilkp_program.specs.CallResults.{HasTaken}
 use Rattle.cilkp_program.specs.CellNames.{race_lines}
 use Rattle.pipe_io.specs.Reads.{Content}
-use Rattle.cilkp_program.specs.Rows.{ElisionHasNoRace, IsSourceOf, elision_output_text, run_words, elision_trap}
+use Rattle.cilkp_program.specs.Rows.{ElisionHasNoRace, IsInputOf, IsSourceOf, elision_output_text, elision_trap}
+use Rattle.cilkp_words.specs.Commands.{Command, Run}
 
--- the words are `run SOURCE INPUT`, the source is accepted as the program, and the input is empty
-pub record IsToRun (words : List (List ℕ)) (content : Content) (tree : SyntaxTree) : Type 0 where
+-- the command is `run` with a source that is accepted as the program, and an input of these numbers
+pub record IsToRun (asked : Option Command) (content : Content) (tree : SyntaxTree) (numbers : List ℤ) : Type 0 where
   pub source : List ℕ
   pub input : List ℕ
-  pub command : words ≡ run_words source input
+  pub workers : ℕ
+  pub throttle : ℕ
+  pub command : asked ≡ Some (Run source input workers throttle)
   pub program : IsSourceOf (content source) tree
-  pub empty : content input ≡ Some []
+  pub read : IsInputOf (content input) numbers
 
 -- the reports, the status and the text of a call agree with the serial elision of the program on its input
 pub record AgreesWithElision (tree : SyntaxTree) (input : List ℤ) (reports : List Report) (status : ℕ) (text : List ℕ) : Type 0 where
@@ -50,8 +53,8 @@ abbrev pub IsRunStatus : ℕ → Type 0
 IsRunStatus status = (status ≡ 0) ⊎ ((status ≡ 2) ⊎ (status ≡ 3))
 
 -- the call returned the log of a run that meets the headline for every limit of at least 1, and its text was written completely.
--- An accepted program with an empty input has no other result
-pub record ReturnsRun (tree : SyntaxTree) (status written : ℕ) (run_log : Option RunLog) (reports : List Report)
+-- An accepted program has no other result on its input
+pub record ReturnsRun (tree : SyntaxTree) (numbers : List ℤ) (status written : ℕ) (run_log : Option RunLog) (reports : List Report)
     (taken_before taken_now : Option (List ℕ)) : Type 0 where
   pub log : RunLog
   pub logged : run_log ≡ Some log
@@ -59,4 +62,4 @@ pub record ReturnsRun (tree : SyntaxTree) (status written : ℕ) (run_log : Opti
   pub whole : written ≡ length text
   pub taken : HasTaken written text taken_before taken_now
   pub complete : IsRunStatus status
-  pub meets : (limit : ℕ) → 1 ≤ limit → MeetsHeadline tree [] limit log reports status text
+  pub meets : (limit : ℕ) → 1 ≤ limit → MeetsHeadline tree numbers limit log reports status text

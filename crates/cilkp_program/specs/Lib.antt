@@ -1,4 +1,5 @@
-pub mod NotYetBuilt
+pub mod CommandFiles
+pub mod InputLines
 pub mod Rows
 pub mod CellNames
 pub mod RowLaws

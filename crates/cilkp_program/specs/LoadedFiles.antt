@@ -1,5 +1,5 @@
 -- The results of loading a source and an input.
-use Rattle.std.specs.Prelude.{◌≡◌, ℕ, List, [], Option, Some, IfSome, Bool, true, false}
+use Rattle.std.specs.Prelude.{◌≡◌, ℕ, List, Option, IfSome, Bool, true, false}
 use Rattle.pipe_model.specs.Language.SourceRefusals.{IsAccepted, IsRefused, Refusal}
 use Rattle.pipe_model.specs.Language.SyntaxTree.{tree_of}
 use Rattle.pipe_model.specs.Texts.{refusal_line}
@@ -8,7 +8,10 @@ use Rattle.cilkp_program.specs.declared.load.Source.TheVariants as sources
 use Rattle.cilkp_program.specs.declared.load.Input.{Input}
 use Rattle.cilkp_program.specs.declared.load.Input.TheVariants as inputs
 use Rattle.pipe_io.specs.Reads.{Content}
-use Rattle.cilkp_program.specs.Rows.{InputRefusal, IsSourceOf, SourceRefusal}
+use Rattle.cilkp_program.specs.Rows.{InputRefusal, IsInputOf, IsSourceOf, SourceRefusal}
+use Rattle.cilkp_program.specs.InputLines.{input_line}
+use Rattle.pipe_io.specs.declared.input_fault.InputFault.{InputFault}
+use Rattle.pipe_io.specs.InputFile.{AreNumbersOf, HasFault}
 
 -- whether a read of the source failed
 abbrev pub is_source_fault : Source → Bool
@@ -42,13 +45,25 @@ pub record IsSourceResult (holds : Option Content) (name : List ℕ) (source : S
 
 -- whether a read of the input failed
 abbrev pub is_input_fault : Input → Bool
-is_input_fault inputs.Empty = false
+is_input_fault (inputs.Accepted numbers) = false
 is_input_fault (inputs.Refused line) = false
 is_input_fault inputs.Failed = true
 
--- the result of loading this file as an input: it is empty, or the line refuses it
+-- the bytes have a fault, with this line
+pub record AreFaulty (bytes line : List ℕ) : Type 0 where
+  pub fault : InputFault
+  pub faulty : HasFault bytes fault
+  pub line_is : line ≡ input_line fault
+
+-- the result of reading the numbers of these bytes
+abbrev pub IsReadOf : List ℕ → Input → Type 0
+IsReadOf bytes (inputs.Accepted numbers) = AreNumbersOf bytes numbers
+IsReadOf bytes (inputs.Refused line) = AreFaulty bytes line
+IsReadOf bytes inputs.Failed = ⊥
+
+-- the result of loading this file as an input: its numbers, or the line that refuses it
 abbrev pub IsInputFrom : List ℕ → Option (List ℕ) → Input → Type 0
-IsInputFrom name file inputs.Empty = file ≡ Some []
+IsInputFrom name file (inputs.Accepted numbers) = IsInputOf file numbers
 IsInputFrom name file (inputs.Refused line) = InputRefusal name file line
 IsInputFrom name file inputs.Failed = Unit {0}
 

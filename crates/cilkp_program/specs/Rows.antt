@@ -1,6 +1,5 @@
 -- The table of results: what a call prints, with its status, its run log and its reports of races, if no read or write fails.
-use Rattle.std.specs.Prelude.{◌≡◌, ◌≢◌, ℕ, ℤ, ◌++◌, List, [], ◌∷◌, map, Option, Some, None, codes, String, string_bytes}
-use Rattle.std.specs.declared.alloc.Global.{Global}
+use Rattle.std.specs.Prelude.{◌≡◌, ℕ, ℤ, ◌++◌, List, [], map, Option, Some, None}
 use Rattle.pipe_model.specs.declared.access.NodeAccess.{NodeAccess}
 use Rattle.pipe_model.specs.declared.event.RunLog.{RunLog}
 use Rattle.pipe_model.specs.declared.node.Node.{Node}
@@ -16,46 +15,12 @@ use Rattle.pipe_model.specs.Language.SourceRefusals.{IsAccepted, IsRefused, Refu
 use Rattle.pipe_model.specs.Language.SyntaxTree.{SyntaxTree}
 use Rattle.pipe_model.specs.Texts.{output_lines, trap_line, refusal_line, refused_usage, refused_missing}
 use Rattle.cilkp_program.specs.CellNames.{race_lines}
-use Rattle.cilkp_program.specs.NotYetBuilt.{refused_input}
+use Rattle.cilkp_program.specs.CommandFiles.{NamesInput, NamesSource}
+use Rattle.cilkp_program.specs.InputLines.{input_line}
+use Rattle.cilkp_words.specs.Commands.{Command, Run, Serial, Format}
+use Rattle.pipe_io.specs.declared.input_fault.InputFault.{InputFault}
+use Rattle.pipe_io.specs.InputFile.{AreNumbersOf, HasFault}
 use Rattle.pipe_io.specs.Reads.{Content}
-
--- the words of a call, as bytes
-abbrev pub words_of : List (String Global) → List (List ℕ)
-words_of words = map string_bytes words
-
--- the words of `run SOURCE INPUT`, which runs a source on an input
-abbrev pub run_words : (source input : List ℕ) → List (List ℕ)
-run_words source input = codes "run" ∷ source ∷ input ∷ []
-
--- the words of `serial SOURCE INPUT`, which runs the serial elision of a source on an input, and keeps no run log
-abbrev pub serial_words : (source input : List ℕ) → List (List ℕ)
-serial_words source input = codes "serial" ∷ source ∷ input ∷ []
-
--- the words of `format SOURCE`, which prints the canonical text of a source's program
-abbrev pub format_words : (source : List ℕ) → List (List ℕ)
-format_words source = codes "format" ∷ source ∷ []
-
--- the words are a `format` command
-abbrev pub IsFormat : List (List ℕ) → Type 0
-IsFormat words = (source : List ℕ) × (words ≡ format_words source)
-
--- the words are a `serial` command
-abbrev pub IsSerial : List (List ℕ) → Type 0
-IsSerial words = (source input : List ℕ) × (words ≡ serial_words source input)
-
--- the words are a `run` or a `serial` command with this source and this input
-pub data NamesFiles (words : List (List ℕ)) (source input : List ℕ) : Type 0 where
-  ByRun : words ≡ run_words source input → NamesFiles words source input
-  BySerial : words ≡ serial_words source input → NamesFiles words source input
-
--- the words are one of the three commands, with this source
-pub data NamesSource (words : List (List ℕ)) (source : List ℕ) : Type 0 where
-  WithInput : (input : List ℕ) → NamesFiles words source input → NamesSource words source
-  ByFormat : words ≡ format_words source → NamesSource words source
-
--- the words are a `run` or a `serial` command with this input
-abbrev pub NamesInput : (words : List (List ℕ)) (input : List ℕ) → Type 0
-NamesInput words input = (source : List ℕ) × NamesFiles words source input
 
 -- the content of a command's source and input; none for a file that does not exist
 pub record FileContents : Type 0 where
@@ -63,9 +28,9 @@ pub record FileContents : Type 0 where
   pub input : Option (List ℕ)
 
 -- `held` is the content of the command's source and input
-pub record AreHeldBy (content : Content) (words : List (List ℕ)) (held : FileContents) : Type 0 where
-  pub source : (name : List ℕ) → NamesSource words name → content name ≡ held.source
-  pub input : (name : List ℕ) → NamesInput words name → content name ≡ held.input
+pub record AreHeldBy (content : Content) (asked : Option Command) (held : FileContents) : Type 0 where
+  pub source : (name : List ℕ) → NamesSource asked name → content name ≡ held.source
+  pub input : (name : List ℕ) → NamesInput asked name → content name ≡ held.input
 
 -- the file holds a source that is accepted as the program
 pub record IsSourceOf (file : Option (List ℕ)) (tree : SyntaxTree) : Type 0 where
@@ -73,15 +38,26 @@ pub record IsSourceOf (file : Option (List ℕ)) (tree : SyntaxTree) : Type 0 wh
   pub held : file ≡ Some bytes
   pub accepted : IsAccepted bytes tree
 
+-- the file holds these numbers
+pub record IsInputOf (file : Option (List ℕ)) (numbers : List ℤ) : Type 0 where
+  pub bytes : List ℕ
+  pub held : file ≡ Some bytes
+  pub read : AreNumbersOf bytes numbers
+
+-- the files hold an accepted program and its input numbers
+pub record AreAccepted (held : FileContents) (tree : SyntaxTree) (numbers : List ℤ) : Type 0 where
+  pub program : IsSourceOf held.source tree
+  pub read : IsInputOf held.input numbers
+
 -- the line that refuses a source of this name: there is no such file, or it is not accepted
 pub data SourceRefusal (name : List ℕ) (file : Option (List ℕ)) : List ℕ → Type 0 where
   SourceMissing : file ≡ None → SourceRefusal name file (refused_missing name)
   NotAccepted : (bytes : List ℕ) (refusal : Refusal) → file ≡ Some bytes → IsRefused bytes refusal → SourceRefusal name file (refusal_line refusal)
 
--- the line that refuses an input of this name: there is no such file, or it is not empty
+-- the line that refuses an input of this name: there is no such file, or it is not a list of numbers within the bounds
 pub data InputRefusal (name : List ℕ) (file : Option (List ℕ)) : List ℕ → Type 0 where
   InputMissing : file ≡ None → InputRefusal name file (refused_missing name)
-  InputNotEmpty : (bytes : List ℕ) → file ≡ Some bytes → bytes ≢ [] → InputRefusal name file refused_input
+  NoNumbers : (bytes : List ℕ) (fault : InputFault) → file ≡ Some bytes → HasFault bytes fault → InputRefusal name file (input_line fault)
 
 -- ---- the serial elision of a program on an input
 
@@ -115,17 +91,19 @@ pub data RunResult (tree : SyntaxTree) (input : List ℤ) : ℕ → List ℕ →
   Traps : (t : TrapAt) → ElisionHasNoRace tree input → elision_trap tree input ≡ Some t
       → RunResult tree input 3 (elision_output_text tree input ++ trap_line t) []
 
--- the row of a call by its words and its files: its status, its text, its run log if it keeps one, and its reports.
+-- the row of a call by its command and its files: its status, its text, its run log if it keeps one, and its reports.
 -- The words are refused before the source, and the source before the input. A `serial` command has the status, the text and the reports of a `run`,
 -- and no run log
-pub data Row (words : List (List ℕ)) (held : FileContents) : ℕ → List ℕ → Option RunLog → List Report → Type 0 where
-  NoCommand : ((source : List ℕ) → NamesSource words source → ⊥) → Row words held 1 refused_usage None []
-  SourceRefused : (source : List ℕ) {text : List ℕ} → NamesSource words source → SourceRefusal source held.source text → Row words held 1 text None []
-  Formats : (source : List ℕ) (tree : SyntaxTree) → words ≡ format_words source → IsSourceOf held.source tree → Row words held 0 (program_text tree) None []
-  InputRefused : (source input : List ℕ) {text : List ℕ} (tree : SyntaxTree) → NamesFiles words source input → IsSourceOf held.source tree
-      → InputRefusal input held.input text → Row words held 1 text None []
-  Runs : (source input : List ℕ) {status : ℕ} {text : List ℕ} {reports : List Report} (tree : SyntaxTree) → words ≡ run_words source input
-      → IsSourceOf held.source tree → held.input ≡ Some [] → RunResult tree [] status text reports
-      → Row words held status text (Some (elision_log tree [])) reports
-  RunsSerially : (source input : List ℕ) {status : ℕ} {text : List ℕ} {reports : List Report} (tree : SyntaxTree) → words ≡ serial_words source input
-      → IsSourceOf held.source tree → held.input ≡ Some [] → RunResult tree [] status text reports → Row words held status text None reports
+pub data Row (asked : Option Command) (held : FileContents) : ℕ → List ℕ → Option RunLog → List Report → Type 0 where
+  NoCommand : asked ≡ None → Row asked held 1 refused_usage None []
+  SourceRefused : (source : List ℕ) {text : List ℕ} → NamesSource asked source → SourceRefusal source held.source text → Row asked held 1 text None []
+  Formats : (source : List ℕ) (tree : SyntaxTree) → asked ≡ Some (Format source) → IsSourceOf held.source tree
+      → Row asked held 0 (program_text tree) None []
+  InputRefused : (input : List ℕ) {text : List ℕ} (tree : SyntaxTree) → NamesInput asked input → IsSourceOf held.source tree
+      → InputRefusal input held.input text → Row asked held 1 text None []
+  Runs : (source input : List ℕ) (workers throttle : ℕ) {status : ℕ} {text : List ℕ} {reports : List Report} (tree : SyntaxTree) (numbers : List ℤ)
+      → asked ≡ Some (Run source input workers throttle) → AreAccepted held tree numbers → RunResult tree numbers status text reports
+      → Row asked held status text (Some (elision_log tree numbers)) reports
+  RunsSerially : (source input : List ℕ) {status : ℕ} {text : List ℕ} {reports : List Report} (tree : SyntaxTree) (numbers : List ℤ)
+      → asked ≡ Some (Serial source input) → AreAccepted held tree numbers → RunResult tree numbers status text reports
+      → Row asked held status text None reports

@@ -1,5 +1,5 @@
--- What a `serial` call guarantees for an accepted program with an empty input.
-use Rattle.std.specs.Prelude.{◌≡◌, ℕ, List, [], length, Option, Some, None}
+-- What a `serial` call guarantees for an accepted program and its input.
+use Rattle.std.specs.Prelude.{◌≡◌, ℕ, ℤ, List, length, Option, Some, None}
 use Rattle.pipe_model.specs.declared.event.RunLog.{RunLog}
 use Rattle.pipe_model.specs.declared.report.Report.{Report}
 use Rattle.pipe_model.specs.Races.Reports.{AreRight}
@@ -7,25 +7,26 @@ use Rattle.pipe_model.specs.Language.SyntaxTree.{SyntaxTree}
 use Rattle.cilkp_program.specs.CallResults.{HasTaken}
 use Rattle.cilkp_program.specs.Headline.{AgreesWithElision, IsRunStatus}
 use Rattle.pipe_io.specs.Reads.{Content}
-use Rattle.cilkp_program.specs.Rows.{IsSourceOf, elision_accesses, elision_columns, serial_words}
+use Rattle.cilkp_program.specs.Rows.{IsInputOf, IsSourceOf, elision_accesses, elision_columns}
+use Rattle.cilkp_words.specs.Commands.{Command, Serial}
 
--- the words are `serial SOURCE INPUT`, the source is accepted as the program, and the input is empty
-pub record IsToRunSerially (words : List (List ℕ)) (content : Content) (tree : SyntaxTree) : Type 0 where
+-- the command is `serial` with a source that is accepted as the program, and an input of these numbers
+pub record IsToRunSerially (asked : Option Command) (content : Content) (tree : SyntaxTree) (numbers : List ℤ) : Type 0 where
   pub source : List ℕ
   pub input : List ℕ
-  pub command : words ≡ serial_words source input
+  pub command : asked ≡ Some (Serial source input)
   pub program : IsSourceOf (content source) tree
-  pub empty : content input ≡ Some []
+  pub read : IsInputOf (content input) numbers
 
 -- the call has the status, the text and the reports of the program's serial elision, its text was written completely, and there is no run log
-pub record ReturnsElision (tree : SyntaxTree) (status written : ℕ) (run_log : Option RunLog) (reports : List Report)
+pub record ReturnsElision (tree : SyntaxTree) (numbers : List ℤ) (status written : ℕ) (run_log : Option RunLog) (reports : List Report)
     (taken_before taken_now : Option (List ℕ)) : Type 0 where
   pub text : List ℕ
   pub whole : written ≡ length text
   pub taken : HasTaken written text taken_before taken_now
   pub complete : IsRunStatus status
   -- a cell has a report exactly if two conflicting accesses to it are parallel in the elision's own dag; it has at most one, and the reports rise by cell
-  pub reported : AreRight (elision_columns tree []) (elision_accesses tree []) reports
+  pub reported : AreRight (elision_columns tree numbers) (elision_accesses tree numbers) reports
   -- whether races are reported, and what is printed, is as the serial elision says
-  pub agrees : AgreesWithElision tree [] reports status text
+  pub agrees : AgreesWithElision tree numbers reports status text
   pub unlogged : run_log ≡ None

@@ -1,6 +1,6 @@
 //! The top call: runs a program, runs its serial elision alone, or prints its canonical text.
 
-ghost use Rattle.std.specs.Prelude.{◌≡◌, ◌≢◌, ◌∷◌, ℕ, ◌≤◌, ◌⊎◌, ◌↔◌, List, [], IfOk, IfSome, IfNone, OnErr};
+ghost use Rattle.std.specs.Prelude.{◌≡◌, ◌≢◌, ℕ, ℤ, ◌≤◌, ◌⊎◌, ◌↔◌, List, [], IfOk, IfSome, OnErr, is_some, true};
 ghost use Rattle.pipe_model.specs.Language.CanonicalText.{program_text};
 ghost use Rattle.pipe_model.specs.Language.SourceRefusals.{IsAccepted};
 ghost use Rattle.pipe_model.specs.Language.SyntaxTree.{SyntaxTree, tree_of};
@@ -10,7 +10,10 @@ ghost use Rattle.pipe_io.specs.Faults.{CountGrew, CountRose};
 ghost use Rattle.cilkp_program.specs.Formatting.{ReturnsText, IsToFormat};
 ghost use Rattle.cilkp_program.specs.Headline.{ReturnsRun, IsToRun};
 ghost use Rattle.cilkp_program.specs.PreparedFiles.{IsPreparation};
-ghost use Rattle.cilkp_program.specs.Rows.{IsFormat, IsSerial, RunResult, elision_log, words_of, run_words, serial_words, format_words};
+ghost use Rattle.cilkp_program.specs.CommandFiles.{KeepsLog};
+ghost use Rattle.cilkp_program.specs.Rows.{RunResult, elision_log};
+ghost use Rattle.cilkp_words.specs.Commands.{Format, Run, Serial, command_data};
+ghost use Rattle.cilkp_words.specs.CommandWords.{command_of, words_of};
 ghost use Rattle.cilkp_program.specs.RunTexts.{IsPrintedAs};
 ghost use Rattle.cilkp_program.specs.SerialCalls.{ReturnsElision, IsToRunSerially};
 
@@ -18,6 +21,8 @@ use crate::gate::Gate;
 use crate::load::{Input, Source, load_input, load_source};
 use crate::race_text::race_text;
 use crate::text::{line, named_line, outcome_text};
+use cilkp_words::commands::Command;
+use cilkp_words::words::read_words;
 use dag_build::dag::Dag;
 use pipe_check::checked::Checked;
 use pipe_format::program::format;
@@ -74,44 +79,10 @@ struct CommandResult {
 // The files of a command before its program runs.
 #[derive(Drop)]
 enum Prepared {
-    // The source is accepted and the input is empty.
-    Ready(Checked),
+    // The program of the accepted source, and the numbers of the input.
+    Ready(Checked, Numbers),
     // The source or the input is refused or cannot be read.
     Decided(CommandResult),
-}
-
-// The names of the source and the input, if the words are `COMMAND SOURCE INPUT`.
-fn names_after<'a>(words: &'a [String], command: &str) -> Option<(&'a str, &'a str)>
-    ensures some { IfSome result (λ names. words_of words.now ≡ command.now ∷ names.0.now ∷ names.1.now ∷ []) }
-    ensures none { IfNone result ((source input : List ℕ) → words_of words.now ≢ command.now ∷ source ∷ input ∷ []) }
-{
-    match words {
-        [first, source, input] => {
-            if first.as_str() == command {
-                Some((source.as_str(), input.as_str()))
-            } else {
-                None
-            }
-        }
-        _ => None,
-    }
-}
-
-// The name of the source, if the words are `format SOURCE`.
-fn format_name(words: &[String]) -> Option<&str>
-    ensures some { IfSome result (λ name. words_of words.now ≡ format_words name.now) }
-    ensures none { IfNone result ((source : List ℕ) → words_of words.now ≢ format_words source) }
-{
-    match words {
-        [format, source] => {
-            if format.as_str() == "format" {
-                Some(source.as_str())
-            } else {
-                None
-            }
-        }
-        _ => None,
-    }
 }
 
 // The status and the text of a run: the lines of its races, or else its output and its trap.
@@ -134,11 +105,15 @@ fn printed_run(
     }
 }
 
-// Runs a program serially, one iteration after the other: status, text, log and reports.
-fn run_program(alloc: Global, checked: &Checked) -> Result<CommandResult, NoMemory>
+// Runs a program on an input serially, one iteration after the other: status, text, log and reports.
+fn run_program(
+    alloc: Global,
+    checked: &Checked,
+    input: &Numbers,
+) -> Result<CommandResult, NoMemory>
     requires { (source : List ℕ) × IsAccepted source (tree_of checked.now) }
-    ensures outcome { IfOk result (λ a. RunResult (tree_of checked.now) [] a.status a.text a.reports) }
-    ensures log { IfOk result (λ a. a.run_log ≡ Some (elision_log (tree_of checked.now) [])) }
+    ensures outcome { IfOk result (λ a. RunResult (tree_of checked.now) input.now a.status a.text a.reports) }
+    ensures log { IfOk result (λ a. a.run_log ≡ Some (elision_log (tree_of checked.now) input.now)) }
 {
     let code = lower(alloc, checked)?;
     let SerialRun {
@@ -147,7 +122,7 @@ fn run_program(alloc: Global, checked: &Checked) -> Result<CommandResult, NoMemo
         columns,
         accesses,
         events,
-    } = run_serial(alloc, checked, &code, &Numbers::new(alloc))?;
+    } = run_serial(alloc, checked, &code, input)?;
     let reports = Dag::of(alloc, &columns)?.races(alloc, &accesses)?;
     let cells = checked.program().cells.as_slice();
     let (status, text) = printed_run(alloc, cells, &output, trap, &reports)?;
@@ -211,13 +186,14 @@ fn prepare<F: Files>(
         Source::Failed => return Ok(Prepared::Decided(read_fault(alloc, source)?)),
     };
     match load_input(alloc, files, input)? {
-        Input::Empty => Ok(Prepared::Ready(program)),
+        Input::Accepted(numbers) => Ok(Prepared::Ready(program, numbers)),
         Input::Refused(text) => Ok(Prepared::Decided(refused(alloc, text))),
         Input::Failed => Ok(Prepared::Decided(read_fault(alloc, input)?)),
     }
 }
 
-// The result of `run SOURCE INPUT`.
+// The result of `run SOURCE INPUT`, which is the same for all numbers of workers and all throttling
+// limits, since the run is serial.
 fn execute_run<F: Files>(
     alloc: Global,
     files: &mut F,
@@ -226,11 +202,12 @@ fn execute_run<F: Files>(
 ) -> Result<CommandResult, NoMemory>
     ensures keeps { F.holds files.new ≡ F.holds files.old }
     ensures grows { OnErr result (F.faults files.old ≤ F.faults files.new) }
-    ensures outcome { IfOk result (λ a. IsCallResult (run_words source.now input.now) (F.holds files.old)
+    ensures outcome { IfOk result (λ a. (workers throttle : ℕ) →
+        IsCallResult (Some (Run source.now input.now workers throttle)) (F.holds files.old)
         (F.faults files.old) (F.faults files.new) a.status a.text a.run_log a.reports) }
 {
     match prepare(alloc, files, source, input)? {
-        Prepared::Ready(program) => run_program(alloc, &program),
+        Prepared::Ready(program, numbers) => run_program(alloc, &program, &numbers),
         Prepared::Decided(outcome) => Ok(outcome),
     }
 }
@@ -244,12 +221,12 @@ fn execute_serial<F: Files>(
 ) -> Result<CommandResult, NoMemory>
     ensures keeps { F.holds files.new ≡ F.holds files.old }
     ensures grows { OnErr result (F.faults files.old ≤ F.faults files.new) }
-    ensures outcome { IfOk result (λ a. IsCallResult (serial_words source.now input.now) (F.holds files.old)
+    ensures outcome { IfOk result (λ a. IsCallResult (Some (Serial source.now input.now)) (F.holds files.old)
         (F.faults files.old) (F.faults files.new) a.status a.text a.run_log a.reports) }
 {
     match prepare(alloc, files, source, input)? {
-        Prepared::Ready(program) => {
-            let outcome = run_program(alloc, &program)?;
+        Prepared::Ready(program, numbers) => {
+            let outcome = run_program(alloc, &program, &numbers)?;
             Ok(CommandResult {
                 run_log: None,
                 ..outcome
@@ -267,13 +244,30 @@ fn execute_format<F: Files>(
 ) -> Result<CommandResult, NoMemory>
     ensures keeps { F.holds files.new ≡ F.holds files.old }
     ensures grows { OnErr result (F.faults files.old ≤ F.faults files.new) }
-    ensures outcome { IfOk result (λ a. IsCallResult (format_words source.now) (F.holds files.old)
+    ensures outcome { IfOk result (λ a. IsCallResult (Some (Format source.now)) (F.holds files.old)
         (F.faults files.old) (F.faults files.new) a.status a.text a.run_log a.reports) }
 {
     match load_source(alloc, files, source)? {
         Source::Accepted(program) => text_of(alloc, program.program()),
         Source::Refused(text) => Ok(refused(alloc, text)),
         Source::Failed => read_fault(alloc, source),
+    }
+}
+
+fn execute_command<F: Files>(
+    alloc: Global,
+    command: Command<'_>,
+    files: &mut F,
+) -> Result<CommandResult, NoMemory>
+    ensures keeps { F.holds files.new ≡ F.holds files.old }
+    ensures grows { OnErr result (F.faults files.old ≤ F.faults files.new) }
+    ensures outcome { IfOk result (λ a. IsCallResult (Some (command_data command)) (F.holds files.old)
+        (F.faults files.old) (F.faults files.new) a.status a.text a.run_log a.reports) }
+{
+    match command {
+        Command::Run { source, input, .. } => execute_run(alloc, files, source, input),
+        Command::Serial { source, input } => execute_serial(alloc, files, source, input),
+        Command::Format { source } => execute_format(alloc, files, source),
     }
 }
 
@@ -284,26 +278,20 @@ fn execute<F: Files>(
 ) -> Result<CommandResult, NoMemory>
     ensures keeps { F.holds files.new ≡ F.holds files.old }
     ensures grows { OnErr result (F.faults files.old ≤ F.faults files.new) }
-    ensures outcome { IfOk result (λ a. IsCallResult (words_of words.now) (F.holds files.old)
+    ensures outcome { IfOk result (λ a. IsCallResult (command_of (words_of words.now)) (F.holds files.old)
         (F.faults files.old) (F.faults files.new) a.status a.text a.run_log a.reports) }
 {
-    if let Some((source, input)) = names_after(words, "run") {
-        return execute_run(alloc, files, source, input);
+    match read_words(alloc, words)? {
+        Some(command) => execute_command(alloc, command, files),
+        None => Ok(refused(alloc, line(alloc, "refused usage\n")?)),
     }
-    if let Some((source, input)) = names_after(words, "serial") {
-        return execute_serial(alloc, files, source, input);
-    }
-    if let Some(source) = format_name(words) {
-        return execute_format(alloc, files, source);
-    }
-    Ok(refused(alloc, line(alloc, "refused usage\n")?))
 }
 
-/// Executes the command `run SOURCE INPUT`, `serial SOURCE INPUT` or `format SOURCE`. Writes all
-/// text to `out`, and returns the status, the log of the run, the reports of races, and how many
-/// bytes `out` took. `run` runs the program of an accepted source on an input, which has to be
-/// empty. The run is serial today, which is a run for every throttling limit of at least 1.
-/// `serial` runs the serial elision alone: it has the status, the text and the reports of that, and
+/// Executes the command `run SOURCE INPUT [--workers P] [--throttle K]`, `serial SOURCE INPUT` or
+/// `format SOURCE`. Writes all text to `out`, and returns the status, the log of the run, the reports
+/// of races, and how many bytes `out` took. `run` runs the program of an accepted source on the
+/// numbers of an input. The run is serial today, which is a run for every number of workers and
+/// every throttling limit of at least 1. `serial` runs the serial elision alone: it has the status, the text and the reports of that, and
 /// no run log. `format` prints the canonical text of an accepted source's program. The runtime
 /// value and the gate are not used yet. Returns an error only if memory runs out.
 pub fn cilkp<R: Drop, F: Files, S: Sink, G: Gate + Sync>(
@@ -314,45 +302,46 @@ pub fn cilkp<R: Drop, F: Files, S: Sink, G: Gate + Sync>(
     out: &mut S,
     _gate: &G,
 ) -> Result<Ended, NoMemory>
-    // The headline: for every accepted program with an empty input, and every throttling limit of
-    // at least 1, if the files' content is known and neither count of faults
-    // rises, a call that returns `Ok` reports a cell exactly when the run's own dag has two
+    // The headline: for every accepted program and input, every number of workers and every throttling
+    // limit of at least 1, if the files' content is known and neither count of faults rises, a call that returns `Ok` reports a cell exactly when the run's own dag has two
     // parallel conflicting accesses to it, reports some cell exactly when the serial elision's dag
     // has such a pair, and otherwise prints exactly the serial elision's output and trap; at most
     // the throttling limit of iterations are alive at any event.
     ensures headline { IfOk result (λ e. ¬ (CountRose (F.faults files.old) (F.faults files.new)) → ¬ (CountRose (S.faults out.old) (S.faults out.new)) →
-        IfSome (F.holds files.old) (λ content. (tree : SyntaxTree) → IsToRun (words_of words.now) content tree →
-        ReturnsRun tree e.status e.written e.run_log e.reports (S.taken out.old) (S.taken out.new))) }
-    // For every accepted program with an empty input, if the files' content is known and neither
-    // count of faults rises, a `serial` call that returns `Ok` reports a cell exactly when the
+        IfSome (F.holds files.old) (λ content. (tree : SyntaxTree) (numbers : List ℤ) →
+        IsToRun (command_of (words_of words.now)) content tree numbers →
+        ReturnsRun tree numbers e.status e.written e.run_log e.reports (S.taken out.old) (S.taken out.new))) }
+    // For every accepted program and input, if the files' content is known and neither count of
+    // faults rises, a `serial` call that returns `Ok` reports a cell exactly when the
     // serial elision's dag has two parallel conflicting accesses to it, and otherwise prints exactly
     // the serial elision's output and trap; it returns no run log.
     ensures serial { IfOk result (λ e. ¬ (CountRose (F.faults files.old) (F.faults files.new)) → ¬ (CountRose (S.faults out.old) (S.faults out.new)) →
-        IfSome (F.holds files.old) (λ content. (tree : SyntaxTree) → IsToRunSerially (words_of words.now) content tree →
-        ReturnsElision tree e.status e.written e.run_log e.reports (S.taken out.old) (S.taken out.new))) }
+        IfSome (F.holds files.old) (λ content. (tree : SyntaxTree) (numbers : List ℤ) →
+        IsToRunSerially (command_of (words_of words.now)) content tree numbers →
+        ReturnsElision tree numbers e.status e.written e.run_log e.reports (S.taken out.old) (S.taken out.new))) }
     // For every accepted program, if the files' content is known and neither count of faults rises,
     // a `format` call that returns `Ok` has written the canonical text of the program completely.
     ensures formatted { IfOk result (λ e. ¬ (CountRose (F.faults files.old) (F.faults files.new)) → ¬ (CountRose (S.faults out.old) (S.faults out.new)) →
-        IfSome (F.holds files.old) (λ content. (tree : SyntaxTree) → IsToFormat (words_of words.now) content tree →
+        IfSome (F.holds files.old) (λ content. (tree : SyntaxTree) → IsToFormat (command_of (words_of words.now)) content tree →
         ReturnsText tree e.status e.written e.run_log e.reports (S.taken out.old) (S.taken out.new))) }
 
     // Unless the status is 5, the text of the call's row, or the line of a read that failed, was
     // written completely; the run log and the reports are those of the row.
     ensures printed { IfOk result (λ e. e.status ≢ 5 →
-        IsPrinted (words_of words.now) (F.holds files.old) (F.faults files.old) (F.faults files.new)
+        IsPrinted (command_of (words_of words.now)) (F.holds files.old) (F.faults files.old) (F.faults files.new)
         e.status e.written e.run_log e.reports (S.taken out.old) (S.taken out.new)) }
     // If the status is 5, a prefix of that text was written, and not all of it.
     ensures cut_short { IfOk result (λ e. e.status ≡ 5 →
-        IsCutShort (words_of words.now) (F.holds files.old) (F.faults files.old) (F.faults files.new)
+        IsCutShort (command_of (words_of words.now)) (F.holds files.old) (F.faults files.old) (F.faults files.new)
         e.written e.run_log e.reports (S.taken out.old) (S.taken out.new)) }
     // After out of memory, nothing was written or a prefix of that text.
     ensures given_up { OnErr result
-        (IsGivenUp (words_of words.now) (F.holds files.old) (F.faults files.old) (F.faults files.new)
+        (IsGivenUp (command_of (words_of words.now)) (F.holds files.old) (F.faults files.old) (F.faults files.new)
         (S.taken out.old) (S.taken out.new)) }
-    // Unless the status is 5, there is no run log exactly if the call was refused, a read failed,
-    // or the words are a `format` or a `serial` command.
-    ensures logged { IfOk result (λ e. e.status ≢ 5 → (e.run_log ≡ None)
-        ↔ ((e.status ≡ 1) ⊎ ((e.status ≡ 4) ⊎ (IsFormat (words_of words.now) ⊎ IsSerial (words_of words.now))))) }
+    // Unless the status is 5, there is a run log exactly if the words are a `run` command, the call
+    // was not refused, and no read failed.
+    ensures logged { IfOk result (λ e. e.status ≢ 5 → (is_some e.run_log ≡ true)
+        ↔ (KeepsLog (command_of (words_of words.now)) × (e.status ≢ 1) × (e.status ≢ 4))) }
 
     // If the status is that of a fault, its count rose in this call. If a count grew, the status is
     // that of a fault.

@@ -2,24 +2,25 @@
 
 ghost use Rattle.std.specs.Prelude.{◌≡◌, IfOk, OnErr};
 ghost use Rattle.pipe_io.specs.Faults.{CountsFault};
-ghost use Rattle.cilkp_program.specs.LoadedFiles.{is_source_fault, IsLoadOf, IsSourceResult, is_input_fault, IsInputResult};
+ghost use Rattle.cilkp_program.specs.LoadedFiles.{is_source_fault, IsLoadOf, IsSourceResult, is_input_fault, IsReadOf, IsInputResult};
 
-use crate::refusal::{check_line, lexical_line, syntax_line};
-use crate::text::{line, named_line};
+use crate::refusal::{check_line, input_line, lexical_line, syntax_line};
+use crate::text::named_line;
 use pipe_check::checked::Checked;
 use pipe_check::program::check;
+use pipe_io::bounds::LONGEST_INPUT;
 use pipe_io::files::Files;
+use pipe_io::input_fault::InputFault;
+use pipe_io::numbers::numbers;
 use pipe_io::whole::{Whole, read_whole};
 use pipe_lexer::scan::tokens;
 use pipe_model::bounds::LONGEST_SOURCE;
-use pipe_model::list::Bytes;
+use pipe_model::list::{Bytes, Numbers};
 use pipe_model::memory::NoMemory;
 use pipe_parser::parse::{Parsed, parse};
 use std::alloc::Global;
 
 const MISSING: &str = "refused missing ";
-
-const INPUT_NOT_BUILT: &str = "refused input NotYetBuilt\n";
 
 /// The result of loading a source.
 #[derive(Drop)]
@@ -71,27 +72,36 @@ fn source_of(alloc: Global, source: &[u8]) -> Result<Source, NoMemory>
 /// The result of loading an input.
 #[derive(Drop)]
 pub enum Input {
-    /// The input is empty.
-    Empty,
+    /// The numbers of the input.
+    Accepted(Numbers),
     /// The line that refuses the input.
     Refused(Bytes),
     /// A read failed.
     Failed,
 }
 
-/// Loads an input, which must be empty: at most its first byte is read. Returns an error only if
-/// memory runs out.
+/// Loads the numbers of an input. Returns an error only if memory runs out; a file that is missing,
+/// is refused or cannot be read is an `Ok` result.
 pub fn load_input<F: Files>(alloc: Global, files: &mut F, name: &str) -> Result<Input, NoMemory>
     ensures keeps { F.holds files.new ≡ F.holds files.old }
     ensures cause { IfOk result (λ input. CountsFault (is_input_fault input) (F.faults files.old) (F.faults files.new)) }
     ensures memory { OnErr result (F.faults files.new ≡ F.faults files.old) }
     ensures outcome { IfOk result (λ input. IsInputResult (F.holds files.old) name.now input) }
 {
-    match read_whole(alloc, files, name, 0)? {
-        Whole::Missing => return Ok(Input::Refused(named_line(alloc, MISSING, name)?)),
-        Whole::Failed => return Ok(Input::Failed),
-        Whole::TooLong(_) => return Ok(Input::Refused(line(alloc, INPUT_NOT_BUILT)?)),
-        Whole::Bytes(_) => {}
+    match read_whole(alloc, files, name, LONGEST_INPUT)? {
+        Whole::Missing => Ok(Input::Refused(named_line(alloc, MISSING, name)?)),
+        Whole::Failed => Ok(Input::Failed),
+        Whole::TooLong(_) => Ok(Input::Refused(input_line(alloc, InputFault::TooLong)?)),
+        Whole::Bytes(bytes) => input_of(alloc, bytes.as_slice()),
     }
-    Ok(Input::Empty)
+}
+
+// The numbers of these bytes, or the line that refuses them.
+fn input_of(alloc: Global, bytes: &[u8]) -> Result<Input, NoMemory>
+    ensures { IfOk result (λ outcome. IsReadOf bytes.now outcome) }
+{
+    match numbers(alloc, bytes) {
+        Ok(numbers) => Ok(Input::Accepted(numbers)),
+        Err(fault) => Ok(Input::Refused(input_line(alloc, fault)?)),
+    }
 }

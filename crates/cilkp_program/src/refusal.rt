@@ -1,11 +1,13 @@
-//! The lines that refuse a source.
+//! The lines that refuse a source or an input.
 
 ghost use Rattle.std.specs.Prelude.{◌≡◌, ℕ, pos, slice_get, Some, IfOk};
 ghost use Rattle.pipe_model.specs.Texts.{numbered_line};
+ghost use Rattle.cilkp_program.specs.InputLines.{IsInputLine};
 ghost use Rattle.cilkp_program.specs.RefusalLines.{IsCheckLine, IsLexicalLine, IsSyntaxLine, HasPlace, HasPlaceAt};
 
 use crate::text::line;
 use pipe_check::fault::CheckFault;
+use pipe_io::input_fault::InputFault;
 use pipe_lexer::fault::LexFault;
 use pipe_model::list::Bytes;
 use pipe_model::memory::NoMemory;
@@ -95,5 +97,19 @@ pub fn check_line(alloc: Global, fault: CheckFault, places: &[i64]) -> Result<By
             mark,
         ),
         CheckFault::NoMemory => Err(NoMemory),
+    }
+}
+
+/// Builds the line of a fault of an input. Returns an error only if memory runs out or the fault is
+/// `NoMemory`.
+pub fn input_line(alloc: Global, fault: InputFault) -> Result<Bytes, NoMemory>
+    ensures { IfOk result (λ bytes. IsInputLine fault bytes) }
+{
+    match fault {
+        InputFault::BadByte(place) => numbered_line(alloc, "refused input BadByte at ", place),
+        InputFault::TooWide(place) => numbered_line(alloc, "refused input TooWide at ", place),
+        InputFault::TooMany(place) => numbered_line(alloc, "refused input TooMany at ", place),
+        InputFault::TooLong => line(alloc, "refused input TooLong\n"),
+        InputFault::NoMemory => Err(NoMemory),
     }
 }

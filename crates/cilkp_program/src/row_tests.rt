@@ -26,6 +26,14 @@ const PREFIX_SUMS: &str =
 const RACING_SUMS: &str =
     "cell n = 0; cell s = 0; pipe_while (n < 3) { n = n + 1; let t = n; pipe_continue(1); s = s + t; emit s; }";
 
+const TAKE_TWO: &str = "cell n = 0; pipe_while (n < 2) { n = n + 1; emit take(); }";
+
+const TAKE_ALL: &str =
+    "cell s = 0; pipe_while (more()) { let x = take(); pipe_wait(1); s = s + x; emit s; }";
+
+const RACING_TAKES: &str =
+    "cell n = 0; pipe_while (n < 2) { n = n + 1; pipe_continue(1); let x = take(); }";
+
 const RACING_LINES: &str = "race output write 0/1 read 1/1\nrace s write 0/1 read 1/1\n";
 
 // The limits and the rest of a source, and the status and text of its call.
@@ -321,15 +329,27 @@ fn formats(alloc: Global) -> Result<(), Fail> {
     Ok(())
 }
 
-// Wrong words, missing files, and an input that is not empty, in the order of the refusals.
+// Wrong words, missing files, and inputs with a fault, in the order of the refusals.
 fn calls_refused(alloc: Global) -> Result<(), Fail> {
     let good = Case::of(COUNT_TO_TWO.as_bytes());
-    let rows: [(&[&str], &str); 20] = [
+    let rows: [(&[&str], &str); 23] = [
         (&[], "refused usage\n"),
         (&["run"], "refused usage\n"),
         (&["run", "a.pipe"], "refused usage\n"),
         (&["run", "a.pipe", "a.in", "4"], "refused usage\n"),
         (&["runs", "a.pipe", "a.in"], "refused usage\n"),
+        (
+            &["run", "a.pipe", "a.in", "--workers", "65"],
+            "refused usage\n",
+        ),
+        (
+            &["run", "a.pipe", "a.in", "--workers=0"],
+            "refused usage\n",
+        ),
+        (
+            &["run", "a.pipe", "a.in", "--throttle=08"],
+            "refused usage\n",
+        ),
         (&["format", "a.pipe", "a.in"], "refused usage\n"),
         (&["format"], "refused usage\n"),
         (&["formats", "a.pipe"], "refused usage\n"),
@@ -338,7 +358,7 @@ fn calls_refused(alloc: Global) -> Result<(), Fail> {
         (&["run", "b.pipe", "b.in"], "refused missing b.pipe\n"),
         (&["run", "a.pipe", "b.in"], "refused missing b.in\n"),
         (&["run", "a.in", "b.in"], "refused source Unexpected at 0\n"),
-        (&["run", "a.pipe", "a.pipe"], "refused input NotYetBuilt\n"),
+        (&["run", "a.pipe", "a.pipe"], "refused input BadByte at 0\n"),
         (&["serial", "a.pipe"], "refused usage\n"),
         (&["serials", "a.pipe", "a.in"], "refused usage\n"),
         (&["serial", "b.pipe", "b.in"], "refused missing b.pipe\n"),
@@ -349,17 +369,83 @@ fn calls_refused(alloc: Global) -> Result<(), Fail> {
         ),
         (
             &["serial", "a.pipe", "a.pipe"],
-            "refused input NotYetBuilt\n",
+            "refused input BadByte at 0\n",
         ),
     ];
     for (words, text) in rows {
         Case { words, ..good }.check(alloc, text, 1, text)?;
     }
-    Case {
-        input: b" ",
-        ..good
+    Ok(())
+}
+
+// Inputs with a fault, for `run` and for `serial`.
+fn inputs_refused(alloc: Global) -> Result<(), Fail> {
+    let rows: [(&[u8], &str); 4] = [
+        (b"1 2 x", "refused input BadByte at 4\n"),
+        (b"-", "refused input BadByte at 1\n"),
+        (
+            b"5 9223372036854775808x",
+            "refused input TooWide at 2\n",
+        ),
+        (b"7-", "refused input BadByte at 1\n"),
+    ];
+    for (input, text) in rows {
+        for case in [
+            Case::of(COUNT_TO_TWO.as_bytes()),
+            Case::serial(COUNT_TO_TWO.as_bytes()),
+        ] {
+            Case { input, ..case }.check(alloc, text, 1, text)?;
+        }
     }
-    .check(alloc, "a blank", 1, "refused input NotYetBuilt\n")?;
+    Ok(())
+}
+
+// Programs that read their input, for `run` and for `serial`.
+fn inputs_read(alloc: Global) -> Result<(), Fail> {
+    let two = source(alloc, [4, 1, 50, 4], TAKE_TWO)?;
+    let all = source(alloc, [9, 2, 50, 9], TAKE_ALL)?;
+    let racing = source(alloc, [9, 2, 50, 9], RACING_TAKES)?;
+    let rows: [(&str, &[u8], u8, &str); 5] = [
+        (two.as_str(), b"5", 3, "5\ntrap InputEnd at 1/0\n"),
+        (two.as_str(), b" \t\r\n", 3, "trap InputEnd at 0/0\n"),
+        (two.as_str(), b"007 -8\n9", 0, "7\n-8\n"),
+        (all.as_str(), b"3 4 5\n", 0, "3\n7\n12\n"),
+        (
+            racing.as_str(),
+            b"3 4",
+            2,
+            "race input write 0/1 read 1/1\n",
+        ),
+    ];
+    for (source, input, status, text) in rows {
+        for case in [
+            Case::of(source.as_bytes()),
+            Case::serial(source.as_bytes()),
+        ] {
+            Case { input, ..case }.check(alloc, text, status, text)?;
+        }
+    }
+    Ok(())
+}
+
+// The options of `run`, which do not change the result.
+fn options(alloc: Global) -> Result<(), Fail> {
+    let words: [&[&str]; 3] = [
+        &["run", "a.pipe", "a.in", "--workers", "64"],
+        &["run", "--throttle=1", "a.pipe", "a.in"],
+        &[
+            "run",
+            "a.pipe",
+            "--workers=1",
+            "a.in",
+            "--throttle",
+            "1024",
+        ],
+    ];
+    for words in words {
+        let case = Case::of(COUNT_TO_TWO.as_bytes());
+        Case { words, ..case }.check(alloc, "options", 0, "1\n2\n")?;
+    }
     Ok(())
 }
 
@@ -546,6 +632,9 @@ fn rows_of_the_call(rt: HostRuntime) -> Result<(), Fail> {
     forms(rt.alloc())?;
     formats(rt.alloc())?;
     calls_refused(rt.alloc())?;
+    inputs_refused(rt.alloc())?;
+    inputs_read(rt.alloc())?;
+    options(rt.alloc())?;
     faults(rt.alloc())?;
     more_faults(rt.alloc())
 }

@@ -19,9 +19,4 @@ pub enum Command<'a> {
     Format {
         source: &'a str,
     },
-    /// Runs a generated workload.
-    Bench {
-        seed: u32,
-        size: u32,
-    },
 }

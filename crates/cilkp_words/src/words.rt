@@ -5,18 +5,14 @@ ghost use Rattle.clap.specs.Matches.{found_of};
 ghost use Rattle.clap.specs.Simple.{subcommand_rows_of};
 ghost use Rattle.clap.specs.Walk.{first_of, rows_of};
 ghost use Rattle.cilkp_words.specs.Commands.{command_data};
-ghost use Rattle.cilkp_words.specs.CommandWords.{bench_of, command_named, command_of, format_of, run_of, serial_of, words_of};
+ghost use Rattle.cilkp_words.specs.CommandWords.{command_named, command_of, format_of, run_of, serial_of, words_of};
 
 use crate::commands::Command;
 use crate::line::command_line;
 use crate::option_numbers::number_or;
-use crate::ranges::{
-    DEFAULT_SEED, DEFAULT_SIZE, DEFAULT_WORKERS, MOST_THROTTLE, MOST_WORKERS, THROTTLE_PER_WORKER,
-};
+use crate::ranges::{DEFAULT_WORKERS, MOST_THROTTLE, MOST_WORKERS, THROTTLE_PER_WORKER};
 use clap::ArgMatches;
 use clap::error::ErrorKind;
-use pipe_gen::choices::MOST_SEED;
-use pipe_gen::workload::MOST_SIZE;
 use pipe_model::memory::NoMemory;
 use std::alloc::Global;
 
@@ -58,14 +54,6 @@ fn format<'a>(matches: &ArgMatches<'a>) -> Option<Command<'a>>
     Some(Command::Format { source })
 }
 
-fn bench<'a>(matches: &ArgMatches<'a>) -> Option<Command<'a>>
-    ensures { option_map command_data result ≡ bench_of (rows_of (found_of matches.now)) }
-{
-    let seed = number_or(DEFAULT_SEED, 0, MOST_SEED, word(matches, "seed"))?;
-    let size = number_or(DEFAULT_SIZE, 1, MOST_SIZE, word(matches, "size"))?;
-    Some(Command::Bench { seed, size })
-}
-
 // The command of the subcommand with this name.
 fn command_named<'a>(name: &str, matches: &ArgMatches<'a>) -> Option<Command<'a>>
     ensures { option_map command_data result ≡ command_named name.now (rows_of (found_of matches.now)) }
@@ -74,7 +62,6 @@ fn command_named<'a>(name: &str, matches: &ArgMatches<'a>) -> Option<Command<'a>
         "run" => run(matches),
         "serial" => serial(matches),
         "format" => format(matches),
-        "bench" => bench(matches),
         _ => None,
     }
 }

@@ -1,6 +1,5 @@
 use Rattle.std.proofs.Common.{refl}
-use Rattle.cilkp_program.specs.Rows.{ByFormat}
-use Rattle.cilkp_program.proofs.RowOfCall.{result_given, format_refused, program_printed, source_failed}
+use Rattle.cilkp_program.proofs.RowOfCall.{result_given, source_refused, program_printed, source_failed}
 use Rattle.cilkp_program.proofs.call.execute_format.Goals as goal
 
 pub returns-in-Accepted-clause-outcome : goal.returns-in-Accepted-clause-outcome
@@ -11,9 +10,9 @@ returns-in-Accepted-clause-outcome g c =
 
 pub returns-in-Refused-clause-outcome : goal.returns-in-Refused-clause-outcome
 returns-in-Refused-clause-outcome g c =
-    rw c.refused.ensures (format_refused _ _ _ _ _ (rw c.in-Refused.is at c.in_ok-program.ensures.cause)
-    (rw c.in-Refused.is at c.in_ok-program.ensures.outcome))
+    rw c.refused.ensures (source_refused _ _ _ _ _ (rw c.in-Refused.is at c.in_ok-program.ensures.cause)
+    (rw c.in-Refused.is at c.in_ok-program.ensures.outcome) _ refl)
 
 pub returns-in-Failed-clause-outcome : goal.returns-in-Failed-clause-outcome
 returns-in-Failed-clause-outcome g c =
-    result_given _ _ _ _ _ _ c.read_fault.ensures (source_failed _ _ _ _ _ (ByFormat refl) (rw c.in-Failed.is at c.in_ok-program.ensures.cause))
+    result_given _ _ _ _ _ _ c.read_fault.ensures (source_failed _ _ _ _ _ refl (rw c.in-Failed.is at c.in_ok-program.ensures.cause))

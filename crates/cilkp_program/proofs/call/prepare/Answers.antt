@@ -1,21 +1,20 @@
 use Rattle.cilkp_program.proofs.RowOfCall.{files_ready, input_failed, input_refused, source_failed, source_refused}
-use Rattle.cilkp_program.specs.Rows.{WithInput}
 use Rattle.cilkp_program.proofs.call.prepare.Goals as goal
 
 pub returns-in-Refused-clause-prepared : goal.returns-in-Refused-clause-prepared
 returns-in-Refused-clause-prepared g c =
-    rw c.refused.ensures (source_refused _ _ _ _ _ _ (rw c.in-Refused.is at c.in_ok-program.ensures.cause)
-    (rw c.in-Refused.is at c.in_ok-program.ensures.outcome))
+    rw c.refused.ensures (λ asked n m. source_refused _ _ _ _ _ (rw c.in-Refused.is at c.in_ok-program.ensures.cause)
+    (rw c.in-Refused.is at c.in_ok-program.ensures.outcome) asked n)
 
 pub returns-in-Failed-clause-prepared : goal.returns-in-Failed-clause-prepared
 returns-in-Failed-clause-prepared g c =
-    rw c.in_ok-read_fault-in-Failed.ensures (λ words n. source_failed words _ _ _ _ (WithInput _ n) (rw c.in-Failed.is at c.in_ok-program.ensures.cause))
+    rw c.in_ok-read_fault-in-Failed.ensures (λ asked n m. source_failed asked _ _ _ _ n (rw c.in-Failed.is at c.in_ok-program.ensures.cause))
 
-pub returns-in-Empty-clause-prepared : goal.returns-in-Empty-clause-prepared
-returns-in-Empty-clause-prepared g c =
-    files_ready _ _ _ _ _ _ _ _ c.in_ok-program.ensures.keeps (rw c.in-Accepted.is at c.in_ok-program.ensures.cause)
-    (rw c.in-Empty.is at c.in_ok-load_input.ensures.cause)
-    (rw c.in-Accepted.is at c.in_ok-program.ensures.outcome) (rw c.in-Empty.is at c.in_ok-load_input.ensures.outcome)
+pub returns-in-Accepted-2-clause-prepared : goal.returns-in-Accepted-2-clause-prepared
+returns-in-Accepted-2-clause-prepared g c =
+    files_ready _ _ _ _ _ _ _ _ _ c.in_ok-program.ensures.keeps (rw c.in-Accepted.is at c.in_ok-program.ensures.cause)
+    (rw c.in-Accepted-2.is at c.in_ok-load_input.ensures.cause)
+    (rw c.in-Accepted.is at c.in_ok-program.ensures.outcome) (rw c.in-Accepted-2.is at c.in_ok-load_input.ensures.outcome)
 
 pub returns-in-Refused-2-clause-prepared : goal.returns-in-Refused-2-clause-prepared
 returns-in-Refused-2-clause-prepared g c =

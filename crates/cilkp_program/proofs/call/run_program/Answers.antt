@@ -7,20 +7,20 @@ pub run_serial-requires : goal.run_serial-requires
 run_serial-requires c = record { code = record { accepted = c.requires.1.obeys; limits = c.in_ok-code.ensures.limits; runs = c.in_ok-code.ensures.runs } }
 
 pub of-requires : goal.of-requires
-of-requires c = given_columns_rise _ _ _ c.requires.1 (rw c.new.ensures at c.in_ok-output.ensures.columns)
+of-requires c = given_columns_rise _ _ _ _ c.requires.1 c.in_ok-output.ensures.columns
 
 pub races-requires : goal.races-requires
 races-requires c =
-    given_accesses_inside _ _ _ _ _ c.requires.1 c.in_ok-of.ensures (rw c.new.ensures at c.in_ok-output.ensures.columns)
-    (rw c.new.ensures at c.in_ok-output.ensures.accesses)
+    given_accesses_inside _ _ _ _ _ _ c.requires.1 c.in_ok-of.ensures c.in_ok-output.ensures.columns
+    c.in_ok-output.ensures.accesses
 
 pub returns-clause-outcome : goal.returns-clause-outcome
 returns-clause-outcome c =
-    outcome_of_run _ _ _ _ _ _ _ c.in_ok-of.ensures (rw c.new.ensures at c.in_ok-output.ensures.columns) (rw c.new.ensures at c.in_ok-output.ensures.accesses)
-    (rw c.new.ensures at c.in_ok-output.ensures.output) (rw c.new.ensures at c.in_ok-output.ensures.trap) c.in_ok-reports.ensures
+    outcome_of_run _ _ _ _ _ _ _ _ c.in_ok-of.ensures c.in_ok-output.ensures.columns c.in_ok-output.ensures.accesses
+    c.in_ok-output.ensures.output c.in_ok-output.ensures.trap c.in_ok-reports.ensures
     (rw (c.as_slice-cells.ensures, c.program.ensures.program) at c.in_ok-status.ensures)
 
 pub returns-clause-log : goal.returns-clause-log
 returns-clause-log c =
-    ap Some (given_log (tree_of c.args.checked.now) _ _ (rw c.new.ensures at c.in_ok-output.ensures.columns)
-    (rw c.new.ensures at c.in_ok-output.ensures.events))
+    ap Some (given_log (tree_of c.args.checked.now) _ _ _ c.in_ok-output.ensures.columns
+    c.in_ok-output.ensures.events)
