@@ -106,11 +106,7 @@ fn printed_run(
 }
 
 // Runs a program on an input serially, one iteration after the other: status, text, log and reports.
-fn run_program(
-    alloc: Global,
-    checked: &Checked,
-    input: &Numbers,
-) -> Result<CommandResult, NoMemory>
+fn run_program(alloc: Global, checked: &Checked, input: &Numbers) -> Result<CommandResult, NoMemory>
     requires { (source : List ℕ) × IsAccepted source (tree_of checked.now) }
     ensures outcome { IfOk result (λ a. RunResult (tree_of checked.now) input.now a.status a.text a.reports) }
     ensures log { IfOk result (λ a. a.run_log ≡ Some (elision_log (tree_of checked.now) input.now)) }
