@@ -70,11 +70,13 @@ serial_log source tree input limit form room =
 -- ---- the dag that is built from the elision's columns and accesses
 
 -- the columns that the elision returns have the program's instances
-given_columns : (tree : SyntaxTree) (input : List ℤ) (columns : List Column) → columns ≡ program_columns (whole_of tree input) → node_columns columns ≡ elision_columns tree input
+given_columns : (tree : SyntaxTree) (input : List ℤ) (columns : List Column) → columns ≡ program_columns (whole_of tree input)
+    → node_columns columns ≡ elision_columns tree input
 given_columns tree input columns e = ap node_columns e ∙ ended_nodes (loop_traces (whole_of tree input))
 
 -- the dag that is built has rising columns
-pub given_columns_rise : (source : List ℕ) (tree : SyntaxTree) (input : List ℤ) (columns : List Column) → IsAccepted source tree → columns ≡ program_columns (whole_of tree input)
+pub given_columns_rise : (source : List ℕ) (tree : SyntaxTree) (input : List ℤ) (columns : List Column) → IsAccepted source tree
+    → columns ≡ program_columns (whole_of tree input)
     → AreRising (node_columns columns)
 given_columns_rise source tree input columns form e =
     let h = serial_log source tree input 1 form (omega arith) in
@@ -87,7 +89,8 @@ column_inside (c ∷ cs) zero k w = omega arith
 column_inside (c ∷ cs) (suc i) k w = let h = column_inside cs i k w in omega (arith, h)
 
 -- the accesses of the loop are made by instances of its columns
-accesses_inside : (source : List ℕ) (tree : SyntaxTree) (input : List ℤ) → IsAccepted source tree → All (IsAccessOf (elision_columns tree input)) (elision_accesses tree input)
+accesses_inside : (source : List ℕ) (tree : SyntaxTree) (input : List ℤ) → IsAccepted source tree
+    → All (IsAccessOf (elision_columns tree input)) (elision_accesses tree input)
 accesses_inside source tree input form =
     let h = serial_log source tree input 1 form (omega arith) in
     subst (λ cs. All (IsAccessOf cs) (elision_accesses tree input)) h.columns (subst (All (IsAccessOf _)) h.accesses
@@ -96,7 +99,8 @@ accesses_inside source tree input form =
 -- the accesses that the elision returns are made by instances of the dag that is built
 pub given_accesses_inside : (source : List ℕ) (tree : SyntaxTree) (input : List ℤ) (dag : List (List Node)) (columns : List Column) (accesses : List NodeAccess)
     → IsAccepted source tree
-    → dag ≡ node_columns columns → columns ≡ program_columns (whole_of tree input) → accesses ≡ elision_accesses tree input → All (IsAccessOf dag) accesses
+    → dag ≡ node_columns columns → columns ≡ program_columns (whole_of tree input) → accesses ≡ elision_accesses tree input
+    → All (IsAccessOf dag) accesses
 given_accesses_inside source tree input dag columns accesses form d e a =
     rw (a, d ∙ given_columns tree input columns e) (accesses_inside source tree input form)
 

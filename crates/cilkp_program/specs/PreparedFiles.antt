@@ -22,4 +22,5 @@ pub record AreReady (holds : Option Content) (before now : ℕ) (source input : 
 abbrev pub IsPreparation : Option Content → ℕ → ℕ → List ℕ → List ℕ → Prepared → Type 0
 IsPreparation holds before now source input (prepared.Ready checked numbers) = AreReady holds before now source input (tree_of checked) numbers
 IsPreparation holds before now source input (prepared.Decided outcome) =
-    (asked : Option Command) → NamesSource asked source → NamesInput asked input → IsCallResult asked holds before now outcome.status outcome.text outcome.run_log outcome.reports
+    (asked : Option Command) → NamesSource asked source → NamesInput asked input
+    → IsCallResult asked holds before now outcome.status outcome.text outcome.run_log outcome.reports

@@ -342,10 +342,7 @@ fn calls_refused(alloc: Global) -> Result<(), Fail> {
             &["run", "a.pipe", "a.in", "--workers", "65"],
             "refused usage\n",
         ),
-        (
-            &["run", "a.pipe", "a.in", "--workers=0"],
-            "refused usage\n",
-        ),
+        (&["run", "a.pipe", "a.in", "--workers=0"], "refused usage\n"),
         (
             &["run", "a.pipe", "a.in", "--throttle=08"],
             "refused usage\n",
@@ -383,10 +380,7 @@ fn inputs_refused(alloc: Global) -> Result<(), Fail> {
     let rows: [(&[u8], &str); 4] = [
         (b"1 2 x", "refused input BadByte at 4\n"),
         (b"-", "refused input BadByte at 1\n"),
-        (
-            b"5 9223372036854775808x",
-            "refused input TooWide at 2\n",
-        ),
+        (b"5 9223372036854775808x", "refused input TooWide at 2\n"),
         (b"7-", "refused input BadByte at 1\n"),
     ];
     for (input, text) in rows {
@@ -418,10 +412,7 @@ fn inputs_read(alloc: Global) -> Result<(), Fail> {
         ),
     ];
     for (source, input, status, text) in rows {
-        for case in [
-            Case::of(source.as_bytes()),
-            Case::serial(source.as_bytes()),
-        ] {
+        for case in [Case::of(source.as_bytes()), Case::serial(source.as_bytes())] {
             Case { input, ..case }.check(alloc, text, status, text)?;
         }
     }
@@ -433,14 +424,7 @@ fn options(alloc: Global) -> Result<(), Fail> {
     let words: [&[&str]; 3] = [
         &["run", "a.pipe", "a.in", "--workers", "64"],
         &["run", "--throttle=1", "a.pipe", "a.in"],
-        &[
-            "run",
-            "a.pipe",
-            "--workers=1",
-            "a.in",
-            "--throttle",
-            "1024",
-        ],
+        &["run", "a.pipe", "--workers=1", "a.in", "--throttle", "1024"],
     ];
     for words in words {
         let case = Case::of(COUNT_TO_TWO.as_bytes());
