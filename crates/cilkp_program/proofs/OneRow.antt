@@ -114,7 +114,8 @@ run_is_not_format {asked} {source} {input} {other} {workers} {throttle} w v =
     let e : Run source input workers throttle ≡ Format other = one_command w v in cc (e)
 
 -- a `serial` command is not a `format` command
-pub serial_is_not_format : {asked : Option Command} {source input other : List ℕ} → asked ≡ Some (Serial source input) → asked ≡ Some (Format other) → ⊥
+pub serial_is_not_format : {asked : Option Command} {source input other : List ℕ} → asked ≡ Some (Serial source input)
+    → asked ≡ Some (Format other) → ⊥
 serial_is_not_format {asked} {source} {input} {other} w v = let e : Serial source input ≡ Format other = one_command w v in cc (e)
 
 -- words that are no command have no source

@@ -138,6 +138,14 @@ result_of_run holds before now source input tree numbers (Ok a) ready outcome lo
 }))
 result_of_run holds before now source input tree numbers (Err m) ready outcome log = outcome
 
+-- for each number of workers and each throttling limit
+pub result_with_options : (holds : Option Content) (before now : ℕ) (source input : List ℕ) (r : Result CommandResult NoMemory) (workers throttle : ℕ)
+    → IfOk r (λ a. (workers throttle : ℕ)
+    → IsCallResult (Some (Run source input workers throttle)) holds before now a.status a.text a.run_log a.reports)
+    → IfOk r (λ a. IsCallResult (Some (Run source input workers throttle)) holds before now a.status a.text a.run_log a.reports)
+result_with_options holds before now source input (Ok a) workers throttle h = h workers throttle
+result_with_options holds before now source input (Err m) workers throttle h = h
+
 -- by `serial`, without it
 pub result_of_serial : (holds : Option Content) (before now : ℕ) (source input : List ℕ) (tree : SyntaxTree) (numbers : List ℤ) {status : ℕ}
     {text : List ℕ} {reports : List Report}

@@ -99,7 +99,8 @@ accesses_inside source tree input form =
 -- the accesses that the elision returns are made by instances of the dag that is built
 pub given_accesses_inside : (source : List ℕ) (tree : SyntaxTree) (input : List ℤ) (dag : List (List Node)) (columns : List Column) (accesses : List NodeAccess)
     → IsAccepted source tree
-    → dag ≡ node_columns columns → columns ≡ program_columns (whole_of tree input) → accesses ≡ elision_accesses tree input → All (IsAccessOf dag) accesses
+    → dag ≡ node_columns columns → columns ≡ program_columns (whole_of tree input) → accesses ≡ elision_accesses tree input
+    → All (IsAccessOf dag) accesses
 given_accesses_inside source tree input dag columns accesses form d e a =
     rw (a, d ∙ given_columns tree input columns e) (accesses_inside source tree input form)
 

@@ -24,8 +24,8 @@ pub data IsCallResult (asked : Option Command) (holds : Option Content) (before 
       → IsCallResult asked holds before now status text log reports
   SourceFault : (source : List ℕ) → before ≤ now → CountRose before now → NamesSource asked source
       → IsCallResult asked holds before now 4 (fault_read source) None []
-  InputFault : (source input : List ℕ) (file : Option (List ℕ)) (tree : SyntaxTree) → before ≤ now → CountRose before now
-      → NamesSource asked source → NamesInput asked input
+  InputFault : (source input : List ℕ) (file : Option (List ℕ)) (tree : SyntaxTree) → before ≤ now → CountRose before now → NamesSource asked source
+      → NamesInput asked input
       → IfSome holds (λ content. content source ≡ file) → IsSourceOf file tree → IsCallResult asked holds before now 4 (fault_read input) None []
 
 -- the sink took the first `count` bytes of the text; `before` and `now` are its content, if it is known

@@ -287,9 +287,10 @@ fn execute<F: Files>(
 /// `format SOURCE`. Writes all text to `out`, and returns the status, the log of the run, the reports
 /// of races, and how many bytes `out` took. `run` runs the program of an accepted source on the
 /// numbers of an input. The run is serial today, which is a run for every number of workers and
-/// every throttling limit of at least 1. `serial` runs the serial elision alone: it has the status, the text and the reports of that, and
-/// no run log. `format` prints the canonical text of an accepted source's program. The runtime
-/// value and the gate are not used yet. Returns an error only if memory runs out.
+/// every throttling limit of at least 1. `serial` runs the serial elision alone: it has the status,
+/// the text and the reports of that, and no run log. `format` prints the canonical text of an
+/// accepted source's program. The runtime value and the gate are not used yet. Returns an error only
+/// if memory runs out.
 pub fn cilkp<R: Drop, F: Files, S: Sink, G: Gate + Sync>(
     _rt: R,
     alloc: Global,
@@ -299,18 +300,19 @@ pub fn cilkp<R: Drop, F: Files, S: Sink, G: Gate + Sync>(
     _gate: &G,
 ) -> Result<Ended, NoMemory>
     // The headline: for every accepted program and input, every number of workers and every throttling
-    // limit of at least 1, if the files' content is known and neither count of faults rises, a call that returns `Ok` reports a cell exactly when the run's own dag has two
-    // parallel conflicting accesses to it, reports some cell exactly when the serial elision's dag
-    // has such a pair, and otherwise prints exactly the serial elision's output and trap; at most
-    // the throttling limit of iterations are alive at any event.
+    // limit of at least 1, if the files' content is known and neither count of faults rises, a call
+    // that returns `Ok` reports a cell exactly when the run's own dag has two parallel conflicting
+    // accesses to it, reports some cell exactly when the serial elision's dag has such a pair, and
+    // otherwise prints exactly the serial elision's output and trap; at most the throttling limit of
+    // iterations are alive at any event.
     ensures headline { IfOk result (λ e. ¬ (CountRose (F.faults files.old) (F.faults files.new)) → ¬ (CountRose (S.faults out.old) (S.faults out.new)) →
         IfSome (F.holds files.old) (λ content. (tree : SyntaxTree) (numbers : List ℤ) →
         IsToRun (command_of (words_of words.now)) content tree numbers →
         ReturnsRun tree numbers e.status e.written e.run_log e.reports (S.taken out.old) (S.taken out.new))) }
     // For every accepted program and input, if the files' content is known and neither count of
-    // faults rises, a `serial` call that returns `Ok` reports a cell exactly when the
-    // serial elision's dag has two parallel conflicting accesses to it, and otherwise prints exactly
-    // the serial elision's output and trap; it returns no run log.
+    // faults rises, a `serial` call that returns `Ok` reports a cell exactly when the serial
+    // elision's dag has two parallel conflicting accesses to it, and otherwise prints exactly the
+    // serial elision's output and trap; it returns no run log.
     ensures serial { IfOk result (λ e. ¬ (CountRose (F.faults files.old) (F.faults files.new)) → ¬ (CountRose (S.faults out.old) (S.faults out.new)) →
         IfSome (F.holds files.old) (λ content. (tree : SyntaxTree) (numbers : List ℤ) →
         IsToRunSerially (command_of (words_of words.now)) content tree numbers →
