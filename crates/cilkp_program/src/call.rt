@@ -257,7 +257,7 @@ fn execute_command<F: Files>(
 ) -> Result<CommandResult, NoMemory>
     ensures keeps { F.holds files.new ≡ F.holds files.old }
     ensures grows { OnErr result (F.faults files.old ≤ F.faults files.new) }
-    ensures outcome { IfOk result (λ a. IsCallResult (Some (command_data command)) (F.holds files.old)
+    ensures outcome { IfOk result (λ a. IsCallResult (Some (command_data command.entry)) (F.holds files.old)
         (F.faults files.old) (F.faults files.new) a.status a.text a.run_log a.reports) }
 {
     match command {

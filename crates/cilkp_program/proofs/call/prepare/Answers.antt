@@ -13,17 +13,17 @@ returns-in-Failed-clause-prepared g c =
 pub returns-in-Accepted-2-clause-prepared : goal.returns-in-Accepted-2-clause-prepared
 returns-in-Accepted-2-clause-prepared g c =
     files_ready _ _ _ _ _ _ _ _ _ c.in_ok-program.ensures.keeps (rw c.in-Accepted.is at c.in_ok-program.ensures.cause)
-    (rw c.in-Accepted-2.is at c.in_ok-load_input.ensures.cause)
-    (rw c.in-Accepted.is at c.in_ok-program.ensures.outcome) (rw c.in-Accepted-2.is at c.in_ok-load_input.ensures.outcome)
+    (rw c.in-Accepted-2.is at c.in_ok-numbers.ensures.cause)
+    (rw c.in-Accepted.is at c.in_ok-program.ensures.outcome) (rw c.in-Accepted-2.is at c.in_ok-numbers.ensures.outcome)
 
 pub returns-in-Refused-2-clause-prepared : goal.returns-in-Refused-2-clause-prepared
 returns-in-Refused-2-clause-prepared g c =
     rw c.refused-in-Refused-2.ensures (input_refused _ _ _ _ _ _ _ _ _ c.in_ok-program.ensures.keeps (rw c.in-Accepted.is at c.in_ok-program.ensures.cause)
-    (rw c.in-Refused-2.is at c.in_ok-load_input.ensures.cause) (rw c.in-Accepted.is at c.in_ok-program.ensures.outcome)
-    (rw c.in-Refused-2.is at c.in_ok-load_input.ensures.outcome))
+    (rw c.in-Refused-2.is at c.in_ok-numbers.ensures.cause) (rw c.in-Accepted.is at c.in_ok-program.ensures.outcome)
+    (rw c.in-Refused-2.is at c.in_ok-numbers.ensures.outcome))
 
 pub returns-in_ok-read_fault-in-Failed-2-clause-prepared :
     goal.returns-in_ok-read_fault-in-Failed-2-clause-prepared
 returns-in_ok-read_fault-in-Failed-2-clause-prepared g c =
     rw c.in_ok-read_fault-in-Failed-2.ensures (input_failed _ _ _ _ _ _ _ (rw c.in-Accepted.is at c.in_ok-program.ensures.cause)
-    (rw c.in-Failed-2.is at c.in_ok-load_input.ensures.cause) (rw c.in-Accepted.is at c.in_ok-program.ensures.outcome))
+    (rw c.in-Failed-2.is at c.in_ok-numbers.ensures.cause) (rw c.in-Accepted.is at c.in_ok-program.ensures.outcome))
