@@ -1,12 +1,12 @@
 -- A row that runs a program meets the headline.
-use Rattle.std.proofs.Common.{◌≡◌, ◌≤◌, ℕ, ℤ, List, Option, Some, None, IfSome, refl, sym}
+use Rattle.std.proofs.Common.{◌≡◌, ◌≤◌, ℕ, ℤ, List, Option, Some, None, IfSome, refl}
 use Rattle.pipe_model.specs.declared.event.RunLog.{RunLog}
 use Rattle.pipe_model.specs.declared.report.Report.{Report}
 use Rattle.pipe_model.specs.Language.SourceRefusals.{IsAccepted}
 use Rattle.pipe_model.specs.Language.SyntaxTree.{SyntaxTree}
 use Rattle.pipe_io.specs.Faults.{CountRose}
 use Rattle.pipe_io.specs.Reads.{Content}
-use Rattle.cilkp_words.specs.Commands.{Command, Run}
+use Rattle.cilkp_words.specs.Commands.{Command}
 use Rattle.cilkp_program.proofs.ElisionOutcomes.{outcome_agrees, outcome_is_right, outcome_status}
 use Rattle.cilkp_program.proofs.OneRow.{no_command, one_input, one_source, refused_no_input, refused_not_accepted_file, run_is_not_format, run_is_not_serial}
 use Rattle.cilkp_program.proofs.SerialDags.{serial_log}

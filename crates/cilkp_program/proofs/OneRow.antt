@@ -8,10 +8,9 @@ use Rattle.pipe_model.specs.Texts.{refusal_line, trap_line}
 use Rattle.grammar_laws.proofs.SourceRefusals.{one_accepted, one_refusal, refused_not_accepted}
 use Rattle.cilkp_program.proofs.OneReports.{one_first_races}
 use Rattle.cilkp_program.specs.CellNames.{race_lines}
-use Rattle.cilkp_program.specs.CommandFiles.{NamesInput, NamesSource, input_in, source_in}
+use Rattle.cilkp_program.specs.CommandFiles.{NamesInput, NamesSource}
 use Rattle.cilkp_program.specs.InputLines.{input_line}
 use Rattle.cilkp_words.specs.Commands.{Command, Run, Serial, Format}
-use Rattle.pipe_io.specs.declared.input_fault.InputFault.{InputFault}
 use Rattle.pipe_io.proofs.OneFault.{numbers_have_no_fault, one_fault}
 use Rattle.pipe_io.proofs.OneReading.{one_reading}
 use Rattle.cilkp_program.specs.Rows.{FileContents, AreAccepted, IsInputOf, IsSourceOf, SourceRefusal, SourceMissing, NotAccepted, InputRefusal, InputMissing, NoNumbers, RunResult, Races, Finishes, Traps, elision_columns, elision_accesses, elision_log, elision_output_text, Row, NoCommand, SourceRefused, Formats, InputRefused, Runs, RunsSerially}

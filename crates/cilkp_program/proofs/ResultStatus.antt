@@ -1,9 +1,9 @@
 -- What follows from the status of a result: its cause, and whether there is a run log.
-use Rattle.std.proofs.Common.{◌≡◌, ◌≢◌, ◌≤◌, ◌⊎◌, ◌↔◌, ℕ, List, Option, Some, None, true, false, refl, inl, inr, arith, []}
+use Rattle.std.proofs.Common.{◌≡◌, ◌≢◌, ◌≤◌, ◌⊎◌, ◌↔◌, ℕ, Bool, List, Option, Some, None, true, false, refl, inl, inr, arith, []}
 use Rattle.std.specs.Prelude.{is_some}
 use Rattle.pipe_model.specs.declared.event.RunLog.{RunLog}
 use Rattle.pipe_model.specs.declared.report.Report.{Report}
-use Rattle.pipe_io.specs.Faults.{CountRose}
+use Rattle.pipe_io.specs.Faults.{CountGrew, CountRose, CountsFault}
 use Rattle.pipe_io.specs.Reads.{Content}
 use Rattle.cilkp_words.specs.Commands.{Command}
 use Rattle.cilkp_program.specs.CallResults.{IsCallResult, OfRow, SourceFault, InputFault}
@@ -101,3 +101,23 @@ result_has_cause outcome four = let t = tells_status outcome in t.fault four
 pub result_is_logged : {asked : Option Command} {holds : Option Content} {before now status : ℕ} {text : List ℕ} {log : Option RunLog} {reports : List Report}
     → IsCallResult asked holds before now status text log reports → (is_some log ≡ true) ↔ (KeepsLog asked × (status ≢ 1) × (status ≢ 4))
 result_is_logged outcome = let t = tells_status outcome in t.logged
+
+-- no count of faults falls
+pub counts_do_not_fall : (fault : Bool) {before now : ℕ} → CountsFault fault before now → before ≤ now
+counts_do_not_fall true h = h.0
+counts_do_not_fall false h = omega (arith, h)
+
+-- the count of failed reads does not fall
+pub result_keeps_count : {asked : Option Command} {holds : Option Content} {before now status : ℕ} {text : List ℕ} {log : Option RunLog} {reports : List Report}
+    → IsCallResult asked holds before now status text log reports → before ≤ now
+result_keeps_count (OfRow same row) = omega (arith, same)
+result_keeps_count (SourceFault s grew rose w) = grew
+result_keeps_count (InputFault s i file tree grew rose w v known of) = grew
+
+-- if the count of failed reads grew, the status is that of a read that failed
+pub grown_count_has_status : {asked : Option Command} {holds : Option Content} {before now status : ℕ} {text : List ℕ} {log : Option RunLog}
+    {reports : List Report}
+    → IsCallResult asked holds before now status text log reports → CountGrew before now → status ≡ 4
+grown_count_has_status (OfRow same row) g = absurd (omega (arith, same, g))
+grown_count_has_status (SourceFault s grew rose w) g = refl
+grown_count_has_status (InputFault s i file tree grew rose w v known of) g = refl

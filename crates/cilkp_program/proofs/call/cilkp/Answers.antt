@@ -1,5 +1,5 @@
-use Rattle.std.proofs.Common.{◌∙◌, sym, arith}
-use Rattle.cilkp_program.proofs.ResultStatus.{result_has_cause, result_is_logged, result_is_small, no_write_fault}
+use Rattle.std.proofs.Common.{◌∙◌, sym, arith, inl, inr}
+use Rattle.cilkp_program.proofs.ResultStatus.{counts_do_not_fall, grown_count_has_status, result_has_cause, result_keeps_count, result_is_logged, result_is_small, no_write_fault}
 use Rattle.cilkp_program.proofs.GivenUp.{text_cut_short, text_whole, given_up_writing}
 use Rattle.cilkp_program.proofs.FormatLaws.{text_printed}
 use Rattle.cilkp_program.proofs.HeadlineLaws.{printed_meets}
@@ -77,4 +77,18 @@ returns-clause-statuses g c =
     elim c.match-written.branch [
       | in-Whole b ↦ (let same = b.status-is in let small = result_is_small c.in_ok-outcome.ensures.outcome in omega (arith, same, small))
       | in-Failed b ↦ (let five = b.status-is in omega (arith, five))
+    ]
+
+pub returns-in-NoMemory-clause-counts : goal.returns-in-NoMemory-clause-counts
+returns-in-NoMemory-clause-counts g c =
+    (result_keeps_count c.in_ok-outcome.ensures.outcome, counts_do_not_fall _ c.write_text-written.ensures.cause)
+
+pub returns-clause-counts : goal.returns-clause-counts
+returns-clause-counts g c = (result_keeps_count c.in_ok-outcome.ensures.outcome, counts_do_not_fall _ c.write_text-written.ensures.cause)
+
+pub returns-clause-files_grew : goal.returns-clause-files_grew
+returns-clause-files_grew g c = λ grew.
+    elim c.match-written.branch [
+      | in-Whole b ↦ inl (b.status-is ∙ grown_count_has_status c.in_ok-outcome.ensures.outcome grew)
+      | in-Failed b ↦ inr b.status-is
     ]
