@@ -1,4 +1,4 @@
--- The command line: three subcommands with their files and options, without help and version.
+-- The command line: four subcommands with their files and options, without help and version.
 use Rattle.std.specs.Prelude.{true, false, List, [], ◌∷◌, codes, Some}
 use Rattle.clap.specs.Simple.{App, Shape, new_rule, new_shape}
 use Rattle.clap.specs.Walk.{Rule, Text}
@@ -28,6 +28,10 @@ serial_shape = subcommand_shape (codes "serial") (file_rule (codes "source") ∷
 abbrev pub format_shape : Shape
 format_shape = subcommand_shape (codes "format") (file_rule (codes "source") ∷ [])
 
+-- bench [--seed n] [--size m]
+abbrev pub bench_shape : Shape
+bench_shape = subcommand_shape (codes "bench") (option_rule (codes "seed") ∷ option_rule (codes "size") ∷ [])
+
 -- the command line without its subcommands; the name of the program is not among the words
 abbrev pub bare_line : App
 bare_line = record {
@@ -39,5 +43,5 @@ bare_line = record {
 abbrev pub command_line : App
 command_line = record {
   top = record bare_line.top { is_leaf = false };
-  subs = run_shape ∷ serial_shape ∷ format_shape ∷ [];
+  subs = run_shape ∷ serial_shape ∷ format_shape ∷ bench_shape ∷ [];
 }

@@ -1,14 +1,16 @@
 -- Which command the words of a call ask for: `clap` states which lines it accepts, and which word each argument has.
-use Rattle.std.specs.Prelude.{◌*◌, ◌==◌, List, [], length, map, codes, String, string_bytes, Option, Some, None, if◌then◌else◌, option_and_then}
+use Rattle.std.specs.Prelude.{◌*◌, ◌==◌, List, length, map, codes, String, string_bytes, Option, Some, None, if◌then◌else◌, option_and_then}
 use Rattle.std.specs.Str.{bytes_eq}
 use Rattle.std.specs.declared.alloc.Global.{Global}
 use Rattle.clap.specs.Faults.{fault_of}
 use Rattle.clap.specs.Simple.{subcommand_of}
 use Rattle.clap.specs.Walk.{Row, Text, first_of}
+use Rattle.pipe_gen.specs.declared.choices.TheConstants.{MOST_SEED}
+use Rattle.pipe_gen.specs.declared.workload.TheConstants.{MOST_SIZE}
 use Rattle.cilkp_words.specs.CommandLine.{command_line}
-use Rattle.cilkp_words.specs.Commands.{Command, Run, Serial, Format}
+use Rattle.cilkp_words.specs.Commands.{Command, Run, Serial, Format, Bench}
 use Rattle.cilkp_words.specs.OptionNumbers.{number_or}
-use Rattle.cilkp_words.specs.declared.ranges.TheConstants.{DEFAULT_WORKERS, MOST_THROTTLE, MOST_WORKERS, THROTTLE_PER_WORKER}
+use Rattle.cilkp_words.specs.declared.ranges.TheConstants.{DEFAULT_SEED, DEFAULT_SIZE, DEFAULT_WORKERS, MOST_THROTTLE, MOST_WORKERS, THROTTLE_PER_WORKER}
 
 -- the words of a call, as bytes
 abbrev pub words_of : List (String Global) → List Text
@@ -30,6 +32,11 @@ serial_of rows = option_and_then (λ source. option_and_then (λ input. Some (Se
 abbrev pub format_of : List Row → Option Command
 format_of rows = option_and_then (λ source. Some (Format source)) (first_of (codes "source") rows)
 
+abbrev pub bench_of : List Row → Option Command
+bench_of rows = option_and_then (λ seed. option_and_then (λ size. Some (Bench seed size))
+    (number_or DEFAULT_SIZE 1 MOST_SIZE (first_of (codes "size") rows)))
+    (number_or DEFAULT_SEED 0 MOST_SEED (first_of (codes "seed") rows))
+
 -- ---- the command of a whole line
 
 -- the command of the subcommand with this name
@@ -37,7 +44,8 @@ abbrev pub command_named : Text → List Row → Option Command
 command_named name rows =
     if bytes_eq name (codes "run") then run_of rows
     else (if bytes_eq name (codes "serial") then serial_of rows
-    else (if bytes_eq name (codes "format") then format_of rows else None))
+    else (if bytes_eq name (codes "format") then format_of rows
+    else (if bytes_eq name (codes "bench") then bench_of rows else None)))
 
 -- the command that the words ask for, if they are one: the command line accepts them, and their subcommand has a command
 abbrev pub command_of : List Text → Option Command

@@ -8,9 +8,11 @@ pub data Command : Type 0 where
   Run : (source input : Text) (workers throttle : ℕ) → Command
   Serial : (source input : Text) → Command
   Format : (source : Text) → Command
+  Bench : (seed size : ℕ) → Command
 
 -- the plain data of a command
 abbrev pub command_data : RustCommand → Command
 command_data (commands.Run source input workers throttle) = Run source.now input.now workers throttle
 command_data (commands.Serial source input) = Serial source.now input.now
 command_data (commands.Format source) = Format source.now
+command_data (commands.Bench seed size) = Bench seed size

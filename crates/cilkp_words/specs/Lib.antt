@@ -1,5 +1,6 @@
 pub mod Commands
 pub mod CommandLine
 pub mod OptionNumbers
+pub mod CommandRanges
 pub mod CommandWords
 pub mod WordExamples

@@ -1,7 +1,7 @@
 -- Worked command lines.
 use Rattle.std.specs.Prelude.{◌≡◌, ℕ, ◌==◌, List, [], ◌∷◌, codes, Some, None, if◌then◌else◌}
 use Rattle.clap.specs.Walk.{Text}
-use Rattle.cilkp_words.specs.Commands.{Command, Run, Serial, Format}
+use Rattle.cilkp_words.specs.Commands.{Command, Run, Serial, Format, Bench}
 use Rattle.cilkp_words.specs.CommandWords.{command_of}
 
 -- ---- the words of a line
@@ -109,7 +109,7 @@ CallsForHelp =
     × IsRefused (codes "run a b -h")
     × IsRefused (codes "help run")
 
--- the commands `serial` and `format`
+-- the commands `serial`, `format` and `bench`
 abbrev pub OtherCommands : Type 0
 OtherCommands =
     Asks (codes "serial a b") (Serial (codes "a") (codes "b"))
@@ -117,12 +117,18 @@ OtherCommands =
     × Asks (codes "format a") (Format (codes "a"))
     × IsRefused (codes "format")
     × IsRefused (codes "format a b")
+    × Asks (codes "bench") (Bench 1 1000)
+    × Asks (codes "bench --seed 0 --size 1") (Bench 0 1)
+    × Asks (codes "bench --size=40000 --seed=65535") (Bench 65535 40000)
+    × IsRefused (codes "bench --seed 65536")
+    × IsRefused (codes "bench --size 0")
+    × IsRefused (codes "bench --size 40001")
+    × IsRefused (codes "bench a")
 
--- the commands `play` and `bench` and the flag `--record` do not exist yet
+-- the command `play` and the flag `--record` do not exist yet
 abbrev pub LaterForms : Type 0
 LaterForms =
     IsRefused (codes "play a b")
-    × IsRefused (codes "bench")
     × IsRefused (codes "run a b --record")
     × IsRefused (codes "run a b --record --record")
     × IsRefused (codes "run a b --record=true")

@@ -19,4 +19,9 @@ pub enum Command<'a> {
     Format {
         source: &'a str,
     },
+    /// Runs a generated workload.
+    Bench {
+        seed: u32,
+        size: u32,
+    },
 }

@@ -29,12 +29,12 @@ pub fn calls_for_help()
     ensures { CallsForHelp }
 {}
 
-/// The commands `serial` and `format`.
+/// The commands `serial`, `format` and `bench`.
 pub fn other_commands()
     ensures { OtherCommands }
 {}
 
-/// The commands `play` and `bench` and the flag `--record` do not exist yet.
+/// The command `play` and the flag `--record` do not exist yet.
 pub fn later_forms()
     ensures { LaterForms }
 {}

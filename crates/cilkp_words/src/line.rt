@@ -4,7 +4,7 @@ ghost use Rattle.std.specs.Prelude.{◌≡◌, ◌∷◌, [], IfOk, codes, false
 ghost use Rattle.clap.specs.Simple.{app_of, shape_of};
 ghost use Rattle.clap.specs.Walk.{rule_of};
 ghost use Rattle.clap.specs.declared.builder.command.Command.TheViews.{out-Command as fields_of};
-ghost use Rattle.cilkp_words.specs.CommandLine.{bare_line, command_line, file_rule, format_shape, option_rule, run_shape, serial_shape};
+ghost use Rattle.cilkp_words.specs.CommandLine.{bare_line, bench_shape, command_line, file_rule, format_shape, option_rule, run_shape, serial_shape};
 
 use clap::{Arg, Command};
 use std::alloc::{AllocError, Global};
@@ -55,6 +55,16 @@ fn format<'a>(alloc: Global) -> Result<Command<'a>, AllocError>
     Ok(command)
 }
 
+fn bench<'a>(alloc: Global) -> Result<Command<'a>, AllocError>
+    ensures shape { IfOk result (λ c. shape_of c ≡ bench_shape) }
+    ensures local { IfOk result (λ c. (fields_of c).has_globals ≡ false) }
+{
+    let command = Command::new(alloc, "bench")
+        .arg(option(alloc, "seed"))?
+        .arg(option(alloc, "size"))?;
+    Ok(command)
+}
+
 // The command line without its subcommands.
 fn bare_line<'a>(alloc: Global) -> Command<'a>
     ensures { app_of result ≡ bare_line }
@@ -72,6 +82,7 @@ pub fn command_line<'a>(alloc: Global) -> Result<Command<'a>, AllocError>
     let line = bare_line(alloc)
         .subcommand(run(alloc)?)?
         .subcommand(serial(alloc)?)?
-        .subcommand(format(alloc)?)?;
+        .subcommand(format(alloc)?)?
+        .subcommand(bench(alloc)?)?;
     Ok(line)
 }

@@ -1,18 +1,23 @@
 //! Which command the words of a call ask for.
 
-ghost use Rattle.std.specs.Prelude.{◌≡◌, IfOk, option_and_then, option_map};
+ghost use Rattle.std.specs.Prelude.{◌≡◌, IfOk, IfSome, option_and_then, option_map};
 ghost use Rattle.clap.specs.Matches.{found_of};
 ghost use Rattle.clap.specs.Simple.{subcommand_rows_of};
 ghost use Rattle.clap.specs.Walk.{first_of, rows_of};
+ghost use Rattle.cilkp_words.specs.CommandRanges.{IsInRange};
 ghost use Rattle.cilkp_words.specs.Commands.{command_data};
-ghost use Rattle.cilkp_words.specs.CommandWords.{command_named, command_of, format_of, run_of, serial_of, words_of};
+ghost use Rattle.cilkp_words.specs.CommandWords.{bench_of, command_named, command_of, format_of, run_of, serial_of, words_of};
 
 use crate::commands::Command;
 use crate::line::command_line;
 use crate::option_numbers::number_or;
-use crate::ranges::{DEFAULT_WORKERS, MOST_THROTTLE, MOST_WORKERS, THROTTLE_PER_WORKER};
+use crate::ranges::{
+    DEFAULT_SEED, DEFAULT_SIZE, DEFAULT_WORKERS, MOST_THROTTLE, MOST_WORKERS, THROTTLE_PER_WORKER,
+};
 use clap::ArgMatches;
 use clap::error::ErrorKind;
+use pipe_gen::choices::MOST_SEED;
+use pipe_gen::workload::MOST_SIZE;
 use pipe_model::memory::NoMemory;
 use std::alloc::Global;
 
@@ -54,6 +59,14 @@ fn format<'a>(matches: &ArgMatches<'a>) -> Option<Command<'a>>
     Some(Command::Format { source })
 }
 
+fn bench<'a>(matches: &ArgMatches<'a>) -> Option<Command<'a>>
+    ensures { option_map command_data result ≡ bench_of (rows_of (found_of matches.now)) }
+{
+    let seed = number_or(DEFAULT_SEED, 0, MOST_SEED, word(matches, "seed"))?;
+    let size = number_or(DEFAULT_SIZE, 1, MOST_SIZE, word(matches, "size"))?;
+    Some(Command::Bench { seed, size })
+}
+
 // The command of the subcommand with this name.
 fn command_named<'a>(name: &str, matches: &ArgMatches<'a>) -> Option<Command<'a>>
     ensures { option_map command_data result ≡ command_named name.now (rows_of (found_of matches.now)) }
@@ -62,6 +75,7 @@ fn command_named<'a>(name: &str, matches: &ArgMatches<'a>) -> Option<Command<'a>
         "run" => run(matches),
         "serial" => serial(matches),
         "format" => format(matches),
+        "bench" => bench(matches),
         _ => None,
     }
 }
@@ -78,6 +92,7 @@ fn command_in<'a>(matches: &ArgMatches<'a>) -> Option<Command<'a>>
 /// version are none. Returns an error only if memory runs out.
 pub fn read_words<'a>(alloc: Global, words: &'a [String]) -> Result<Option<Command<'a>>, NoMemory>
     ensures command { IfOk result (λ found. option_map command_data found ≡ command_of (words_of words.now)) }
+    ensures ranges { IfOk result (λ found. IfSome (option_map command_data found) IsInRange) }
 {
     match command_line(alloc)?.try_get_matches_from(words) {
         Ok(matches) => Ok(command_in(&matches)),

@@ -15,9 +15,9 @@ const LINES: [(&str, &str); 42] = [
     ("serial a b", "serial a b"),
     ("run b b", "run b b 4 16"),
     ("serial b a.pipe", "serial b a.pipe"),
-    ("bench --size=3", ""),
+    ("bench --size=3", "bench 1 3"),
     ("run a a.pipe", "run a a.pipe 4 16"),
-    ("bench --size 8", ""),
+    ("bench --size 8", "bench 1 8"),
     ("run a - --throttle=64", "run a - 4 64"),
     ("serial b -", "serial b -"),
     ("run b --throttle=3 b", "run b b 4 3"),
@@ -25,8 +25,8 @@ const LINES: [(&str, &str); 42] = [
     ("run b --throttle 3 b", "run b b 4 3"),
     ("run a --throttle=64 b", "run a b 4 64"),
     ("serial a b --", "serial a b"),
-    ("bench --seed 0", ""),
-    ("bench --seed 40001", ""),
+    ("bench --seed 0", "bench 0 1000"),
+    ("bench --seed 40001", "bench 40001 1000"),
     ("serial a.pipe -", "serial a.pipe -"),
     ("run - b", "run - b 4 16"),
     ("format  --size a.pipe", ""),
@@ -78,6 +78,7 @@ fn asked(alloc: Global, line: &str) -> Result<String, NoMemory> {
         ) => write!(text, "run {source} {input} {workers} {throttle}")?,
         Some(Command::Serial { source, input }) => write!(text, "serial {source} {input}")?,
         Some(Command::Format { source }) => write!(text, "format {source}")?,
+        Some(Command::Bench { seed, size }) => write!(text, "bench {seed} {size}")?,
     }
     Ok(text)
 }

@@ -1,0 +1,76 @@
+-- The numbers of every command that words ask for are within their ranges.
+use Rattle.std.proofs.Common.{◌≡◌, ◌≤◌, ◌*◌, refl, ℕ, Bool, true, false, List, Option, Some, IfSome, arith, codes, option_and_then, None, if◌then◌else◌}
+use Rattle.std.proofs.lemmas.Bool.Decides.{nat_tests}
+use Rattle.std.proofs.lemmas.Option.{same_Some}
+use Rattle.std.specs.Str.{bytes_eq}
+use Rattle.clap.specs.Walk.{Row, Text, first_of}
+use Rattle.cilkp_words.specs.CommandRanges.{IsInRange}
+use Rattle.cilkp_words.specs.Commands.{Command}
+use Rattle.cilkp_words.specs.CommandWords.{bench_of, command_named, format_of, run_of, serial_of}
+use Rattle.cilkp_words.specs.OptionNumbers.{number_in, number_or}
+use Rattle.cilkp_words.specs.declared.ranges.TheConstants.{DEFAULT_SEED, DEFAULT_SIZE, DEFAULT_WORKERS, MOST_THROTTLE, MOST_WORKERS, THROTTLE_PER_WORKER}
+use Rattle.pipe_gen.specs.declared.choices.TheConstants.{MOST_SEED}
+use Rattle.pipe_gen.specs.declared.workload.TheConstants.{MOST_SIZE}
+
+-- what follows a value has a property if it has it for each value
+after : {A B : Type 0} (found : Option A) (f : A → Option B) (P : B → Type 0) → ((a : A) → found ≡ Some a → IfSome (f a) P) → IfSome (option_and_then f found) P
+after None f P each = tt
+after (Some a) f P each = each a refl
+
+-- both branches have a property
+branches : {B : Type 0} (b : Bool) (x y : Option B) (P : B → Type 0) → IfSome x P → IfSome y P → IfSome (if b then x else y) P
+branches true x y P p q = p
+branches false x y P p q = q
+
+-- the number of a word
+number_between : (least most : ℕ) (word : Text) (n : ℕ) → number_in least most word ≡ Some n → (least ≤ n) × (n ≤ most)
+number_between least most word n found = grind (arith, nat_tests)
+
+-- the number of an option
+option_between : (default least most : ℕ) (word : Option Text) (n : ℕ) → least ≤ default → default ≤ most → number_or default least most word ≡ Some n
+    → (least ≤ n) × (n ≤ most)
+option_between default least most None n low high found = let between : (least ≤ default) × (default ≤ most) = (low, high) in rw (same_Some default n found) at between
+option_between default least most (Some word) n low high found = number_between least most word n found
+
+-- `bench`
+bench_between : (rows : List Row) → IfSome (bench_of rows) IsInRange
+bench_between rows =
+    after (number_or DEFAULT_SEED 0 MOST_SEED (first_of (codes "seed") rows)) _ IsInRange (λ seed is.
+    after (number_or DEFAULT_SIZE 1 MOST_SIZE (first_of (codes "size") rows)) _ IsInRange (λ size also. (
+      (option_between DEFAULT_SEED 0 MOST_SEED (first_of (codes "seed") rows) seed (omega arith) (omega arith) is).1,
+      option_between DEFAULT_SIZE 1 MOST_SIZE (first_of (codes "size") rows) size (omega arith) (omega arith) also,
+    )))
+
+-- `run`
+run_between : (rows : List Row) → IfSome (run_of rows) IsInRange
+run_between rows =
+    after (first_of (codes "source") rows) _ IsInRange (λ source d.
+    after (first_of (codes "input") rows) _ IsInRange (λ input e.
+    after (number_or DEFAULT_WORKERS 1 MOST_WORKERS (first_of (codes "workers") rows)) _ IsInRange (λ workers is.
+    let w = option_between DEFAULT_WORKERS 1 MOST_WORKERS (first_of (codes "workers") rows) workers (omega arith) (omega arith) is in
+    after (number_or (THROTTLE_PER_WORKER * workers) 1 MOST_THROTTLE (first_of (codes "throttle") rows)) _ IsInRange (λ throttle also. (
+      w,
+      option_between (THROTTLE_PER_WORKER * workers) 1 MOST_THROTTLE (first_of (codes "throttle") rows) throttle
+          (let some = w.0 in omega (arith, some)) (let few = w.1 in omega (arith, few)) also,
+    )))))
+
+-- `serial` and `format` have no numbers
+serial_between : (rows : List Row) → IfSome (serial_of rows) IsInRange
+serial_between rows =
+    after (first_of (codes "source") rows) _ IsInRange (λ source d. after (first_of (codes "input") rows) _ IsInRange (λ input e. tt))
+
+format_between : (rows : List Row) → IfSome (format_of rows) IsInRange
+format_between rows = after (first_of (codes "source") rows) _ IsInRange (λ source d. tt)
+
+-- the command of a subcommand
+named_between : (name : Text) (rows : List Row) → IfSome (command_named name rows) IsInRange
+named_between name rows =
+    branches (bytes_eq name (codes "run")) _ _ IsInRange (run_between rows)
+    (branches (bytes_eq name (codes "serial")) _ _ IsInRange (serial_between rows)
+    (branches (bytes_eq name (codes "format")) _ _ IsInRange (format_between rows)
+    (branches (bytes_eq name (codes "bench")) _ _ IsInRange (bench_between rows) tt)))
+
+-- the command of the subcommand that was given, if one was
+pub command_between : (found : Option Command) (given : Option (Text × List Row)) → found ≡ option_and_then (λ p. command_named p.0 p.1) given
+    → IfSome found IsInRange
+command_between found given is = rw is (after given _ IsInRange (λ p d. named_between p.0 p.1))
