@@ -4,12 +4,15 @@ use Rattle.pipe_model.specs.declared.event.RunLog.{RunLog}
 use Rattle.pipe_model.specs.declared.report.Report.{Report}
 use Rattle.pipe_model.specs.Language.CanonicalText.{program_text}
 use Rattle.pipe_model.specs.Language.SyntaxTree.{SyntaxTree}
-use Rattle.cilkp_program.specs.CallResults.{HasTaken, IsCallResult, OfRow, SourceFault, InputFault, IsPrinted}
+use Rattle.cilkp_program.specs.TakenText.{HasTaken}
+use Rattle.cilkp_program.specs.CallResults.{IsCallResult, OfRow, SourceFault, InputFault, IsPrinted}
 use Rattle.pipe_io.specs.Faults.{CountRose}
 use Rattle.cilkp_program.specs.Formatting.{ReturnsText, IsToFormat}
 use Rattle.pipe_io.specs.Reads.{Content}
-use Rattle.cilkp_program.specs.Rows.{FileContents, IsSourceOf, Row, Formats}
+use Rattle.cilkp_program.specs.ProgramFiles.{FileContents, IsSourceOf}
+use Rattle.cilkp_program.specs.Rows.{Row, Formats}
 use Rattle.cilkp_words.specs.Commands.{Command, Format}
+use Rattle.cilkp_program.proofs.OneCommand.{format_keeps_no_log}
 use Rattle.cilkp_program.proofs.OneRow.{one_row}
 
 -- the result is that of the program's text
@@ -24,7 +27,7 @@ text_row : {asked : Option Command} {held : FileContents} {status : ℕ} {text :
     (tree : SyntaxTree) (source : List ℕ)
     → asked ≡ Some (Format source) → IsSourceOf held.source tree → Row asked held status text log reports → IsTextOf tree status text log reports
 text_row tree source w s row =
-    let one = one_row row (Formats source tree w s) in record { done = one.0; text_is = one.1; not_run = one.2; silent = one.3 }
+    let one = one_row (format_keeps_no_log w) row (Formats source tree w s) in record { done = one.0; text_is = one.1; not_run = one.2; silent = one.3 }
 
 -- the result of a call that prints an accepted program, if no read failed
 text_outcome : {asked : Option Command} {content : Content} {before now status : ℕ} {text : List ℕ} {log : Option RunLog} {reports : List Report}

@@ -1,12 +1,17 @@
 pub mod Loading
 pub mod RowOfCall
 pub mod GivenUp
+pub mod Agreements
+pub mod OneCommand
+pub mod OneContent
 pub mod OneRow
 pub mod SerialDags
 pub mod RaceText
 pub mod RunTexts
 pub mod OneReports
 pub mod HeadlineLaws
+pub mod BenchLaws
+pub mod InstanceCounts
 pub mod ResultStatus
 pub mod FormatLaws
 pub mod SourceFaults

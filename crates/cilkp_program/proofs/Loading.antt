@@ -16,7 +16,7 @@ use Rattle.cilkp_program.specs.InputLines.{IsInputLine, input_line}
 use Rattle.pipe_io.specs.declared.whole.Whole.{Whole}
 use Rattle.pipe_io.specs.declared.whole.Whole.TheVariants as whole
 use Rattle.pipe_io.specs.Reads.{Content}
-use Rattle.cilkp_program.specs.Rows.{InputRefusal, InputMissing, NoNumbers, SourceRefusal, SourceMissing, NotAccepted}
+use Rattle.cilkp_program.specs.ProgramFiles.{InputRefusal, InputMissing, NoNumbers, SourceRefusal, SourceMissing, NotAccepted}
 use Rattle.cilkp_program.specs.LoadedFiles.{AreFaulty, IsInputFrom, IsInputResult, IsLoadOf, IsReadOf, IsSourceFrom, IsSourceResult}
 use Rattle.cilkp_program.specs.declared.load.Input.{Input}
 use Rattle.cilkp_program.specs.declared.load.Input.TheVariants as loaded

@@ -8,7 +8,10 @@ use Rattle.pipe_io.specs.Reads.{Content}
 use Rattle.cilkp_words.specs.Commands.{Command}
 use Rattle.cilkp_program.specs.CallResults.{IsCallResult, OfRow, SourceFault, InputFault}
 use Rattle.cilkp_program.specs.CommandFiles.{KeepsLog}
-use Rattle.cilkp_program.specs.Rows.{FileContents, Row, NoCommand, SourceRefused, Formats, InputRefused, Runs, RunsSerially, elision_log}
+use Rattle.cilkp_program.specs.ProgramFiles.{FileContents}
+use Rattle.cilkp_program.specs.Rows.{Row, NoCommand, SourceRefused, Formats, Benches, InputRefused, Runs, RunsSerially}
+use Rattle.cilkp_program.proofs.Agreements.{agreed_status}
+use Rattle.cilkp_program.proofs.OneCommand.{bench_keeps_no_log, format_keeps_no_log}
 use Rattle.cilkp_program.specs.Headline.{IsRunStatus}
 use Rattle.cilkp_program.proofs.ElisionOutcomes.{outcome_status}
 
@@ -70,9 +73,10 @@ row_status : {before now : ℕ} {asked : Option Command} {held : FileContents} {
     → Row asked held status text log reports → TellsStatus asked before now status log
 row_status (NoCommand n) = refusal
 row_status (SourceRefused s w r) = refusal
-row_status (Formats s tree w o) = without_log (λ keeps. let d : false ≡ true = rw w at keeps in cc (d)) (inl refl)
+row_status (Formats s tree w o) = without_log (format_keeps_no_log w) (inl refl)
+row_status (Benches seed size tree numbers w g) = without_log (bench_keeps_no_log w) (inl refl)
 row_status (InputRefused i tree w o r) = refusal
-row_status (Runs s i p k tree numbers w a r) = with_run (elision_log tree numbers) (rw w refl) (outcome_status r)
+row_status (Runs s i p k log tree numbers w a m) = with_run log (rw w refl) (agreed_status m.agrees)
 row_status (RunsSerially s i tree numbers w a r) = without_log (λ keeps. let d : false ≡ true = rw w at keeps in cc (d)) (outcome_status r)
 
 -- the status of a result

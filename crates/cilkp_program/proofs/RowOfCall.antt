@@ -1,5 +1,5 @@
 -- Which row a call has.
-use Rattle.std.proofs.Common.{◌≡◌, ◌∙◌, ℕ, ℤ, true, false, List, [], Option, Some, None, Result, Ok, Err, IfOk, IfSome, refl, ap}
+use Rattle.std.proofs.Common.{◌≡◌, ◌∙◌, ◌≤◌, ℕ, ℤ, true, false, List, [], Option, Some, None, Result, Ok, Err, IfOk, IfSome, refl, ap}
 use Rattle.std.specs.Prelude.{option_and_then}
 use Rattle.pipe_model.specs.declared.report.Report.{Report}
 use Rattle.pipe_model.specs.declared.memory.NoMemory.{NoMemory}
@@ -9,16 +9,26 @@ use Rattle.pipe_model.specs.declared.tree.Program.{Program}
 use Rattle.pipe_model.specs.Texts.{fault_read, refused_usage}
 use Rattle.pipe_io.specs.Faults.{CountsFault}
 use Rattle.pipe_io.specs.Reads.{Content}
-use Rattle.cilkp_words.specs.Commands.{Command, Run, Serial, Format}
+use Rattle.workload_laws.proofs.AcceptedSources.{accepted}
+use Rattle.workload_laws.proofs.ReadInputs.{inputs_are_read}
+use Rattle.workload_laws.specs.GeneratedNumbers.{items_from}
+use Rattle.workload_laws.specs.GeneratedPrograms.{generated_tree}
+use Rattle.cilkp_words.specs.CommandRanges.{IsInRange}
+use Rattle.cilkp_words.specs.Commands.{Command, Run, Serial, Format, Bench}
 use Rattle.cilkp_program.specs.declared.call.CommandResult.{CommandResult}
 use Rattle.cilkp_program.specs.declared.load.Source.TheVariants as sources
 use Rattle.cilkp_program.specs.declared.load.Input.TheVariants as inputs
 use Rattle.cilkp_program.specs.CallResults.{IsCallResult, OfRow, SourceFault, InputFault}
 use Rattle.cilkp_program.specs.CommandFiles.{NamesInput, NamesSource, input_in, source_in}
 use Rattle.cilkp_program.specs.LoadedFiles.{IsInputResult, IsSourceResult}
-use Rattle.cilkp_program.specs.Rows.{AreHeldBy, FileContents, NoCommand, SourceRefused, Formats, InputRefused, Runs, RunsSerially, RunResult, elision_log}
+use Rattle.cilkp_program.specs.ProgramFiles.{AreHeldBy, FileContents}
+use Rattle.cilkp_program.specs.SerialResults.{ElisionResult, elision_log}
+use Rattle.cilkp_program.specs.Benchmarks.{IsGenerated, elision_summary}
+use Rattle.cilkp_program.specs.Rows.{NoCommand, SourceRefused, Formats, Benches, InputRefused, Runs, RunsSerially}
 use Rattle.cilkp_program.specs.PreparedFiles.{AreReady}
-use Rattle.cilkp_program.proofs.OneRow.{no_input, no_source, one_held}
+use Rattle.cilkp_program.proofs.HeadlineLaws.{elision_meets}
+use Rattle.cilkp_program.proofs.OneCommand.{bench_has_no_input, bench_has_no_source, no_input, no_source}
+use Rattle.cilkp_program.proofs.OneContent.{one_held}
 
 -- ---- the content of the files, which does not change during the call
 
@@ -128,34 +138,63 @@ files_ready holds later before mid now source input checked numbers keeps same s
 pub result_of_run : (holds : Option Content) (before now : ℕ) (source input : List ℕ) (tree : SyntaxTree) (numbers : List ℤ)
     (r : Result CommandResult NoMemory)
     → AreReady holds before now source input tree numbers
-    → IfOk r (λ a. RunResult tree numbers a.status a.text a.reports) → IfOk r (λ a. a.run_log ≡ Some (elision_log tree numbers))
-    → IfOk r (λ a. (workers throttle : ℕ)
+    → IfOk r (λ a. ElisionResult tree numbers a.status a.text a.reports) → IfOk r (λ a. a.run_log ≡ Some (elision_log tree numbers))
+    → IfOk r (λ a. (workers throttle : ℕ) → 1 ≤ throttle
     → IsCallResult (Some (Run source input workers throttle)) holds before now a.status a.text a.run_log a.reports)
-result_of_run holds before now source input tree numbers (Ok a) ready outcome log = λ workers throttle. rw log (OfRow ready.calm (record {
+result_of_run holds before now source input tree numbers (Ok a) ready outcome log = λ workers throttle room. rw log (OfRow ready.calm (record {
   held = ready.held;
   known = files_known _ holds source input _ refl refl ready.source_known ready.input_known;
-  row = Runs source input workers throttle tree numbers refl ready.accepted outcome;
+  row = Runs source input workers throttle (elision_log tree numbers) tree numbers refl ready.accepted
+      (elision_meets _ tree numbers throttle ready.accepted.program.accepted room outcome);
 }))
 result_of_run holds before now source input tree numbers (Err m) ready outcome log = outcome
 
 -- for each number of workers and each throttling limit
 pub result_with_options : (holds : Option Content) (before now : ℕ) (source input : List ℕ) (r : Result CommandResult NoMemory) (workers throttle : ℕ)
-    → IfOk r (λ a. (workers throttle : ℕ)
+    → 1 ≤ throttle → IfOk r (λ a. (workers throttle : ℕ) → 1 ≤ throttle
     → IsCallResult (Some (Run source input workers throttle)) holds before now a.status a.text a.run_log a.reports)
     → IfOk r (λ a. IsCallResult (Some (Run source input workers throttle)) holds before now a.status a.text a.run_log a.reports)
-result_with_options holds before now source input (Ok a) workers throttle h = h workers throttle
-result_with_options holds before now source input (Err m) workers throttle h = h
+result_with_options holds before now source input (Ok a) workers throttle room h = h workers throttle room
+result_with_options holds before now source input (Err m) workers throttle room h = h
 
 -- by `serial`, without it
 pub result_of_serial : (holds : Option Content) (before now : ℕ) (source input : List ℕ) (tree : SyntaxTree) (numbers : List ℤ) {status : ℕ}
     {text : List ℕ} {reports : List Report}
-    → AreReady holds before now source input tree numbers → RunResult tree numbers status text reports
+    → AreReady holds before now source input tree numbers → ElisionResult tree numbers status text reports
     → IsCallResult (Some (Serial source input)) holds before now status text None reports
 result_of_serial holds before now source input tree numbers ready outcome = OfRow ready.calm (record {
   held = ready.held;
   known = files_known _ holds source input _ refl refl ready.source_known ready.input_known;
   row = RunsSerially source input tree numbers refl ready.accepted outcome;
 })
+
+-- ---- `bench`
+
+-- it has no files
+no_files : (asked : Option Command) (seed size : ℕ) (holds : Option Content) → asked ≡ Some (Bench seed size)
+    → IfSome holds (λ content. AreHeldBy content asked (record { source = None; input = None }))
+no_files asked seed size None w = tt
+no_files asked seed size (Some content) w =
+    record { source = λ name named. absurd (bench_has_no_source w named); input = λ name named. absurd (bench_has_no_input w named) }
+
+-- a workload and its summary, whatever the files hold
+pub result_of_bench : (seed size : ℕ) (tree : SyntaxTree) (numbers : List ℤ) (text : List ℕ) → IsGenerated seed size tree numbers
+    → text ≡ elision_summary tree numbers
+    → (holds : Option Content) (faults : ℕ) → IsCallResult (Some (Bench seed size)) holds faults faults 0 text None []
+result_of_bench seed size tree numbers text generated t holds faults = rw t (OfRow refl (record {
+  held = record { source = None; input = None };
+  known = no_files (Some (Bench seed size)) seed size holds refl;
+  row = Benches seed size tree numbers refl generated;
+}))
+
+-- a summary that is right for each generated workload of the seed and the size
+pub bench_returned : (seed size : ℕ) (text : List ℕ) → IsInRange (Bench seed size)
+    → ((tree : SyntaxTree) (numbers : List ℤ) → IsGenerated seed size tree numbers → text ≡ elision_summary tree numbers)
+    → (holds : Option Content) (faults : ℕ) → IsCallResult (Some (Bench seed size)) holds faults faults 0 text None []
+bench_returned seed size text range is =
+    let generated : IsGenerated seed size (generated_tree size) (items_from seed 1 size) =
+    record { program = accepted size range.1.0 range.1.1; read = inputs_are_read seed size range.1.1 } in
+    result_of_bench seed size (generated_tree size) (items_from seed 1 size) text generated (is (generated_tree size) (items_from seed 1 size) generated)
 
 -- a call that returns this
 pub result_given : (asked : Option Command) (holds : Option Content) (before now : ℕ) (r : Result CommandResult NoMemory) (a : CommandResult)

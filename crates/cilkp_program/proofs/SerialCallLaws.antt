@@ -7,15 +7,18 @@ use Rattle.pipe_io.specs.Faults.{CountRose}
 use Rattle.pipe_io.specs.Reads.{Content}
 use Rattle.cilkp_words.specs.Commands.{Command}
 use Rattle.cilkp_program.proofs.ElisionOutcomes.{outcome_agrees, outcome_is_right, outcome_status}
-use Rattle.cilkp_program.proofs.OneRow.{no_command, one_input, one_source, refused_no_input, refused_not_accepted_file, run_is_not_serial, serial_is_not_format}
+use Rattle.cilkp_program.proofs.OneCommand.{no_command, run_is_not_serial, serial_is_not_bench, serial_is_not_format}
+use Rattle.cilkp_program.proofs.OneContent.{one_input, one_source, refused_no_input, refused_not_accepted_file}
 use Rattle.cilkp_program.specs.CallResults.{IsCallResult, OfRow, SourceFault, InputFault, IsPrinted}
-use Rattle.cilkp_program.specs.Rows.{FileContents, RunResult, Row, NoCommand, SourceRefused, Formats, InputRefused, Runs, RunsSerially}
+use Rattle.cilkp_program.specs.ProgramFiles.{FileContents}
+use Rattle.cilkp_program.specs.SerialResults.{ElisionResult}
+use Rattle.cilkp_program.specs.Rows.{Row, NoCommand, SourceRefused, Formats, Benches, InputRefused, Runs, RunsSerially}
 use Rattle.cilkp_program.specs.SerialCalls.{ReturnsElision, IsToRunSerially}
 
 -- the result is that of the program's elision, without a log
 record IsElisionOf (tree : SyntaxTree) (numbers : List ℤ) (status : ℕ) (text : List ℕ) (log : Option RunLog) (reports : List Report) : Type 0 where
   unlogged : log ≡ None
-  outcome : RunResult tree numbers status text reports
+  outcome : ElisionResult tree numbers status text reports
 
 elided_row : {asked : Option Command} {content : Content} {held : FileContents} {status : ℕ} {text : List ℕ} {log : Option RunLog}
     {reports : List Report} (tree : SyntaxTree) (numbers : List ℤ)
@@ -24,8 +27,9 @@ elided_row : {asked : Option Command} {content : Content} {held : FileContents} 
 elided_row tree numbers a s i (NoCommand none) = absurd (no_command none a.command)
 elided_row tree numbers a s i (SourceRefused source w r) = absurd (refused_not_accepted_file tree r (rw (← s) a.program))
 elided_row tree numbers a s i (Formats source other w o) = absurd (serial_is_not_format a.command w)
+elided_row tree numbers a s i (Benches seed size other others w g) = absurd (serial_is_not_bench a.command w)
 elided_row tree numbers a s i (InputRefused input other w o r) = absurd (refused_no_input numbers r (rw (← i) a.read))
-elided_row tree numbers a s i (Runs source input workers throttle other others w o r) = absurd (run_is_not_serial w a.command)
+elided_row tree numbers a s i (Runs source input workers throttle log other others w o m) = absurd (run_is_not_serial w a.command)
 elided_row tree numbers a s i (RunsSerially source input other others w o r) =
     let same : other ≡ tree = one_source other tree o.program (rw (← s) a.program) in
     let also : others ≡ numbers = one_input others numbers o.read (rw (← i) a.read) in

@@ -12,7 +12,7 @@ use Rattle.pipe_model.specs.Language.SourceRefusals.{IsAccepted}
 use Rattle.pipe_model.specs.Language.SyntaxTree.{SyntaxTree}
 use Rattle.pipe_model.specs.Pipelines.Behaviour.{Action, column_of}
 use Rattle.pipe_model.specs.Pipelines.ElisionResults.{ended_column}
-use Rattle.pipe_model.specs.Pipelines.WholePrograms.{WholeProgram, loop_after_init, loop_traces, program_columns, program_log, program_output}
+use Rattle.pipe_model.specs.Pipelines.WholePrograms.{WholeProgram, loop_after_init, loop_traces, program_columns, program_log}
 use Rattle.pipe_model.specs.Races.Columns.{nodes_at}
 use Rattle.pipe_model.specs.Races.FirstRaces.{AreFirstRaces}
 use Rattle.pipe_model.specs.Runs.Run.{EmptyRun}
@@ -27,13 +27,13 @@ use Rattle.run_laws.proofs.RunStates.IterationCounts.{runs_keep_rules}
 use Rattle.run_laws.specs.RunLaws.{KeepsRules}
 use Rattle.program_laws.proofs.ProgramElisions.{program_elision_is_a_run}
 use Rattle.program_laws.specs.ProgramRunLaws.{HasElisionLog}
-use Rattle.cilkp_program.specs.Rows.{RunResult, Races, Finishes, Traps, elision_accesses, elision_columns, elision_log, elision_trap}
+use Rattle.cilkp_program.specs.SerialResults.{ElisionResult, Races, Finishes, Traps, elision_accesses, elision_columns, elision_log, elision_output, elision_trap}
 use Rattle.cilkp_program.specs.RunTexts.{IsPrintedAs, WithRaces, ToItsEnd, WithTrap}
 
 -- ---- the elision as a run
 
 -- the instances of ended columns
-ended_nodes : (traces : List (List Action)) → node_columns (map ended_column traces) ≡ map column_of traces
+pub ended_nodes : (traces : List (List Action)) → node_columns (map ended_column traces) ≡ map column_of traces
 ended_nodes [] = refl
 ended_nodes (t ∷ traces) = ap (λ cs. column_of t ∷ cs) (ended_nodes traces)
 
@@ -105,27 +105,23 @@ given_accesses_inside source tree input dag columns accesses form d e a =
     rw (a, d ∙ given_columns tree input columns e) (accesses_inside source tree input form)
 
 -- the races of the dag that is built are those of the program
-given_races : (tree : SyntaxTree) (input : List ℤ) (dag : List (List Node)) (columns : List Column) (accesses : List NodeAccess) (reports : List Report)
+pub given_races : (tree : SyntaxTree) (input : List ℤ) (dag : List (List Node)) (columns : List Column) (accesses : List NodeAccess) (reports : List Report)
     → dag ≡ node_columns columns
     → columns ≡ program_columns (whole_of tree input) → accesses ≡ elision_accesses tree input → AreFirstRaces dag accesses reports
     → AreFirstRaces (elision_columns tree input) (elision_accesses tree input) reports
 given_races tree input dag columns accesses reports d e a r = rw (← a, ← (d ∙ given_columns tree input columns e)) r
 
--- what is printed for the elision's output, trap and races is the result of the program's run
-pub outcome_of_run : (tree : SyntaxTree) (input : List ℤ) (dag : List (List Node)) (columns : List Column) (accesses : List NodeAccess) (output : List ℤ)
-    (trap : Option TrapAt) (reports : List Report)
-    {status : ℕ} {text : List ℕ} → dag ≡ node_columns columns → columns ≡ program_columns (whole_of tree input) → accesses ≡ elision_accesses tree input
-    → output ≡ program_output (whole_of tree input) → trap ≡ elision_trap tree input → AreFirstRaces dag accesses reports
-    → IsPrintedAs tree.cells output trap reports status text → RunResult tree input status text reports
-outcome_of_run tree input dag columns accesses output trap reports d e a o t r (WithRaces some) =
-    let first = given_races tree input dag columns accesses reports d e a r in
+-- what is printed for the elision's output, trap and races is the elision's result
+pub printed_result : (tree : SyntaxTree) (input : List ℤ) (output : List ℤ) (trap : Option TrapAt) (reports : List Report) {status : ℕ} {text : List ℕ}
+    → output ≡ elision_output tree input → trap ≡ elision_trap tree input
+    → AreFirstRaces (elision_columns tree input) (elision_accesses tree input) reports
+    → IsPrintedAs tree.cells output trap reports status text → ElisionResult tree input status text reports
+printed_result tree input output trap reports o t first (WithRaces some) =
     Races reports (λ free. some ((no_report_is_race_free _ _ reports first).1 free)) first
-outcome_of_run tree input dag columns accesses output trap reports d e a o t r (ToItsEnd none ends) =
-    let free = (no_report_is_race_free _ _ reports (given_races tree input dag columns accesses reports d e a r)).0 none in
-    rw (none, o) (Finishes free (sym t ∙ ends))
-outcome_of_run tree input dag columns accesses output trap reports d e a o t r (WithTrap at none ends) =
-    let free = (no_report_is_race_free _ _ reports (given_races tree input dag columns accesses reports d e a r)).0 none in
-    rw (none, o) (Traps at free (sym t ∙ ends))
+printed_result tree input output trap reports o t first (ToItsEnd none ends) =
+    let free = (no_report_is_race_free _ _ reports first).0 none in rw (none, o) (Finishes free (sym t ∙ ends))
+printed_result tree input output trap reports o t first (WithTrap at none ends) =
+    let free = (no_report_is_race_free _ _ reports first).0 none in rw (none, o) (Traps at free (sym t ∙ ends))
 
 -- the elision's columns and events are the log of the program
 pub given_log : (tree : SyntaxTree) (input : List ℤ) (columns : List Column) (events : List Event) → columns ≡ program_columns (whole_of tree input)

@@ -1,6 +1,5 @@
 -- The result of a call, with the faults in it.
-use Rattle.std.specs.Prelude.{◌≡◌, ◌≤◌, ◌<◌, ℕ, ◌++◌, List, [], length, take, Option, None, IfSome, ◌⊎◌}
-use Rattle.std.specs.Option.{option_map}
+use Rattle.std.specs.Prelude.{◌≡◌, ◌≤◌, ◌<◌, ℕ, List, [], length, Option, None, IfSome, ◌⊎◌}
 use Rattle.pipe_model.specs.declared.event.RunLog.{RunLog}
 use Rattle.pipe_model.specs.declared.report.Report.{Report}
 use Rattle.pipe_model.specs.Language.SyntaxTree.{SyntaxTree}
@@ -8,7 +7,9 @@ use Rattle.pipe_model.specs.Texts.{fault_read}
 use Rattle.pipe_io.specs.Faults.{CountRose}
 use Rattle.pipe_io.specs.Reads.{Content}
 use Rattle.cilkp_program.specs.CommandFiles.{NamesInput, NamesSource}
-use Rattle.cilkp_program.specs.Rows.{AreHeldBy, FileContents, IsSourceOf, Row}
+use Rattle.cilkp_program.specs.ProgramFiles.{AreHeldBy, FileContents, IsSourceOf}
+use Rattle.cilkp_program.specs.Rows.{Row}
+use Rattle.cilkp_program.specs.TakenText.{HasTaken}
 use Rattle.cilkp_words.specs.Commands.{Command}
 
 -- the result of a call in which no read failed: the row of its command and of some content of its files; where the content is known, it is that one
@@ -27,10 +28,6 @@ pub data IsCallResult (asked : Option Command) (holds : Option Content) (before 
   InputFault : (source input : List ℕ) (file : Option (List ℕ)) (tree : SyntaxTree) → before ≤ now → CountRose before now → NamesSource asked source
       → NamesInput asked input
       → IfSome holds (λ content. content source ≡ file) → IsSourceOf file tree → IsCallResult asked holds before now 4 (fault_read input) None []
-
--- the sink took the first `count` bytes of the text; `before` and `now` are its content, if it is known
-abbrev pub HasTaken : ℕ → List ℕ → Option (List ℕ) → Option (List ℕ) → Type 0
-HasTaken count text before now = now ≡ option_map (λ taken. taken ++ take count text) before
 
 -- the call's text was written completely
 pub record IsPrinted (asked : Option Command) (holds : Option Content) (faults_before faults_now status written : ℕ) (log : Option RunLog)

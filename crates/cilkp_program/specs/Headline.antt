@@ -1,5 +1,5 @@
--- The headline: what a call guarantees for an accepted program and its input, for every throttling limit of at least 1.
-use Rattle.std.specs.Prelude.{◌≡◌, ◌≢◌, ◌≤◌, ◌⊎◌, ◌↔◌, ◌++◌, ℕ, ℤ, List, [], length, Option, Some, None}
+-- The headline: what a call guarantees for an accepted program, its input and its throttling limit.
+use Rattle.std.specs.Prelude.{◌≡◌, ◌≢◌, ◌⊎◌, ◌↔◌, ◌++◌, ℕ, ℤ, List, [], length, Option, Some, None}
 use Rattle.pipe_model.specs.declared.event.RunLog.{RunLog}
 use Rattle.pipe_model.specs.declared.report.Report.{Report}
 use Rattle.pipe_model.specs.Language.ProgramsOfTrees.{whole_of}
@@ -9,19 +9,19 @@ use Rattle.pipe_model.specs.Language.SyntaxTree.{SyntaxTree}
 use Rattle.pipe_model.specs.Texts.{trap_lines}
 use Rattle.pipe_model.specs.Runs.Throttling.{IsThrottled}
 use Rattle.pipe_model.specs.Runs.WholeProgramRuns.{IsFinishedProgramRun}
-use Rattle.cilkp_program.specs.CallResults.{HasTaken}
+use Rattle.cilkp_program.specs.TakenText.{HasTaken}
 use Rattle.cilkp_program.specs.CellNames.{race_lines}
 use Rattle.pipe_io.specs.Reads.{Content}
-use Rattle.cilkp_program.specs.Rows.{ElisionHasNoRace, IsInputOf, IsSourceOf, elision_output_text, elision_trap}
+use Rattle.cilkp_program.specs.ProgramFiles.{IsInputOf, IsSourceOf}
+use Rattle.cilkp_program.specs.SerialResults.{ElisionHasNoRace, elision_output_text, elision_trap}
 use Rattle.cilkp_words.specs.Commands.{Command, Run}
 
--- the command is `run` with a source that is accepted as the program, and an input of these numbers
-pub record IsToRun (asked : Option Command) (content : Content) (tree : SyntaxTree) (numbers : List ℤ) : Type 0 where
+-- the command is `run` with a source that is accepted as the program, an input of these numbers, any number of workers, and this throttling limit
+pub record IsToRun (asked : Option Command) (content : Content) (tree : SyntaxTree) (numbers : List ℤ) (limit : ℕ) : Type 0 where
   pub source : List ℕ
   pub input : List ℕ
   pub workers : ℕ
-  pub throttle : ℕ
-  pub command : asked ≡ Some (Run source input workers throttle)
+  pub command : asked ≡ Some (Run source input workers limit)
   pub program : IsSourceOf (content source) tree
   pub read : IsInputOf (content input) numbers
 
@@ -52,9 +52,9 @@ pub record MeetsHeadline (tree : SyntaxTree) (input : List ℤ) (limit : ℕ) (l
 abbrev pub IsRunStatus : ℕ → Type 0
 IsRunStatus status = (status ≡ 0) ⊎ ((status ≡ 2) ⊎ (status ≡ 3))
 
--- the call returned the log of a run that meets the headline for every limit of at least 1, and its text was written completely.
+-- the call returned the log of a run that meets the headline under the throttling limit, and its text was written completely.
 -- An accepted program has no other result on its input
-pub record ReturnsRun (tree : SyntaxTree) (numbers : List ℤ) (status written : ℕ) (run_log : Option RunLog) (reports : List Report)
+pub record ReturnsRun (tree : SyntaxTree) (numbers : List ℤ) (limit status written : ℕ) (run_log : Option RunLog) (reports : List Report)
     (taken_before taken_now : Option (List ℕ)) : Type 0 where
   pub log : RunLog
   pub logged : run_log ≡ Some log
@@ -62,4 +62,4 @@ pub record ReturnsRun (tree : SyntaxTree) (numbers : List ℤ) (status written :
   pub whole : written ≡ length text
   pub taken : HasTaken written text taken_before taken_now
   pub complete : IsRunStatus status
-  pub meets : (limit : ℕ) → 1 ≤ limit → MeetsHeadline tree numbers limit log reports status text
+  pub meets : MeetsHeadline tree numbers limit log reports status text

@@ -8,7 +8,7 @@ use Rattle.cilkp_program.specs.declared.load.Source.TheVariants as sources
 use Rattle.cilkp_program.specs.declared.load.Input.{Input}
 use Rattle.cilkp_program.specs.declared.load.Input.TheVariants as inputs
 use Rattle.pipe_io.specs.Reads.{Content}
-use Rattle.cilkp_program.specs.Rows.{InputRefusal, IsInputOf, IsSourceOf, SourceRefusal}
+use Rattle.cilkp_program.specs.ProgramFiles.{InputRefusal, IsInputOf, IsSourceOf, SourceRefusal}
 use Rattle.cilkp_program.specs.InputLines.{input_line}
 use Rattle.pipe_io.specs.declared.input_fault.InputFault.{InputFault}
 use Rattle.pipe_io.specs.InputFile.{AreNumbersOf, HasFault}

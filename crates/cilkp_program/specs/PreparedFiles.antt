@@ -5,7 +5,7 @@ use Rattle.cilkp_program.specs.declared.call.Prepared.{Prepared}
 use Rattle.cilkp_program.specs.declared.call.Prepared.TheVariants as prepared
 use Rattle.cilkp_program.specs.CallResults.{IsCallResult}
 use Rattle.pipe_io.specs.Reads.{Content}
-use Rattle.cilkp_program.specs.Rows.{AreAccepted, FileContents}
+use Rattle.cilkp_program.specs.ProgramFiles.{AreAccepted, FileContents}
 use Rattle.cilkp_program.specs.CommandFiles.{NamesInput, NamesSource}
 use Rattle.cilkp_words.specs.Commands.{Command}
 

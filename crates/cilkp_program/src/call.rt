@@ -1,6 +1,7 @@
-//! The top call: runs a program, runs its serial elision alone, or prints its canonical text.
+//! The top call: runs a program, runs its serial elision alone, prints its canonical text, or runs a
+//! generated program and prints a summary.
 
-ghost use Rattle.std.specs.Prelude.{◌≡◌, ◌≢◌, ℕ, ℤ, ◌≤◌, ◌⊎◌, ◌↔◌, List, [], IfOk, IfSome, OnErr, is_some, true};
+ghost use Rattle.std.specs.Prelude.{◌≡◌, ◌≢◌, ℕ, ℤ, ◌≤◌, ◌⊎◌, ◌↔◌, List, [], Option, IfOk, IfSome, OnErr, is_some, true};
 ghost use Rattle.pipe_model.specs.Language.CanonicalText.{program_text};
 ghost use Rattle.pipe_model.specs.Language.SourceRefusals.{IsAccepted};
 ghost use Rattle.pipe_model.specs.Language.SyntaxTree.{SyntaxTree, tree_of};
@@ -11,19 +12,21 @@ ghost use Rattle.cilkp_program.specs.Formatting.{ReturnsText, IsToFormat};
 ghost use Rattle.cilkp_program.specs.Headline.{ReturnsRun, IsToRun};
 ghost use Rattle.cilkp_program.specs.PreparedFiles.{IsPreparation};
 ghost use Rattle.cilkp_program.specs.CommandFiles.{KeepsLog};
-ghost use Rattle.cilkp_program.specs.Rows.{RunResult, elision_log};
-ghost use Rattle.cilkp_words.specs.Commands.{Format, Run, Serial, command_data};
+ghost use Rattle.cilkp_program.specs.BenchCalls.{IsToBench, ReturnsSummary};
+ghost use Rattle.cilkp_program.specs.SerialResults.{ElisionResult, elision_log};
+ghost use Rattle.cilkp_words.specs.CommandRanges.{IsInRange};
+ghost use Rattle.cilkp_words.specs.Commands.{Bench, Format, Run, Serial, command_data};
+ghost use Rattle.pipe_io.specs.Reads.{Content};
 ghost use Rattle.cilkp_words.specs.CommandWords.{command_of, words_of};
-ghost use Rattle.cilkp_program.specs.RunTexts.{IsPrintedAs};
 ghost use Rattle.cilkp_program.specs.SerialCalls.{ReturnsElision, IsToRunSerially};
 
+use crate::bench::bench;
 use crate::gate::Gate;
 use crate::load::{Input, Source, load_input, load_source};
-use crate::race_text::race_text;
-use crate::text::{line, named_line, outcome_text};
+use crate::program_run::{printed_run, run_program};
+use crate::text::{line, named_line};
 use cilkp_words::commands::Command;
 use cilkp_words::words::read_words;
-use dag_build::dag::Dag;
 use pipe_check::checked::Checked;
 use pipe_format::program::format;
 use pipe_io::files::Files;
@@ -33,19 +36,12 @@ use pipe_model::event::RunLog;
 use pipe_model::list::{Bytes, Numbers};
 use pipe_model::memory::NoMemory;
 use pipe_model::report::Reports;
-use pipe_model::trap::TrapAt;
-use pipe_model::tree::{Declaration, Program};
-use serial_elision::elision::{SerialRun, run_serial};
-use stage_code::lower::lower;
+use pipe_model::tree::Program;
 use std::alloc::Global;
 
 const FINISHED: u8 = 0;
 
 const REFUSED: u8 = 1;
-
-const RACES: u8 = 2;
-
-const TRAPPED: u8 = 3;
 
 const READ_FAULT: u8 = 4;
 
@@ -54,9 +50,9 @@ const WRITE_FAULT: u8 = 5;
 /// How a call ended.
 #[derive(Drop)]
 pub struct Ended {
-    /// 0: the run finished without a trap, or the canonical text of the program was printed. 1: the
-    /// words, the source or the input were refused. 2: the program has a race. 3: the run trapped.
-    /// 4: a read failed. 5: a write failed.
+    /// 0: the run finished without a trap, or the canonical text of the program or the summary of a
+    /// generated one was printed. 1: the words, the source or the input were refused. 2: the program
+    /// has a race. 3: the run trapped. 4: a read failed. 5: a write failed.
     pub status: u8,
     /// The events of the run and its columns; `None` if no program was run, or only its serial
     /// elision.
@@ -85,48 +81,19 @@ enum Prepared {
     Decided(CommandResult),
 }
 
-// The status and the text of a run: the lines of its races, or else its output and its trap.
-fn printed_run(
-    alloc: Global,
-    cells: &[Declaration],
-    output: &Numbers,
-    trap: Option<TrapAt>,
-    reports: &Reports,
-) -> Result<(u8, Bytes), NoMemory>
-    ensures { IfOk result (λ r. IsPrintedAs cells.now output.now trap reports.now r.0 r.1) }
-{
-    if !reports.is_empty() {
-        return Ok((RACES, race_text(alloc, cells, reports)?));
-    }
-    let text = outcome_text(alloc, output, trap)?;
-    match trap {
-        None => Ok((FINISHED, text)),
-        Some(_) => Ok((TRAPPED, text)),
-    }
-}
-
-// Runs a program on an input serially, one iteration after the other: status, text, log and reports.
-fn run_program(alloc: Global, checked: &Checked, input: &Numbers) -> Result<CommandResult, NoMemory>
+// The status, text, log and reports of the program's run.
+fn run_result(alloc: Global, checked: &Checked, input: &Numbers) -> Result<CommandResult, NoMemory>
     requires { (source : List ℕ) × IsAccepted source (tree_of checked.now) }
-    ensures outcome { IfOk result (λ a. RunResult (tree_of checked.now) input.now a.status a.text a.reports) }
+    ensures outcome { IfOk result (λ a. ElisionResult (tree_of checked.now) input.now a.status a.text a.reports) }
     ensures log { IfOk result (λ a. a.run_log ≡ Some (elision_log (tree_of checked.now) input.now)) }
 {
-    let code = lower(alloc, checked)?;
-    let SerialRun {
-        output,
-        trap,
-        columns,
-        accesses,
-        events,
-    } = run_serial(alloc, checked, &code, input)?;
-    let reports = Dag::of(alloc, &columns)?.races(alloc, &accesses)?;
-    let cells = checked.program().cells.as_slice();
-    let (status, text) = printed_run(alloc, cells, &output, trap, &reports)?;
+    let run = run_program(alloc, checked, input)?;
+    let (status, text) = printed_run(alloc, checked.program().cells.as_slice(), &run)?;
     Ok(CommandResult {
         status,
         text,
-        run_log: Some(RunLog { columns, events }),
-        reports,
+        run_log: Some(run.run_log),
+        reports: run.reports,
     })
 }
 
@@ -198,12 +165,12 @@ fn execute_run<F: Files>(
 ) -> Result<CommandResult, NoMemory>
     ensures keeps { F.holds files.new ≡ F.holds files.old }
     ensures grows { OnErr result (F.faults files.old ≤ F.faults files.new) }
-    ensures outcome { IfOk result (λ a. (workers throttle : ℕ) →
+    ensures outcome { IfOk result (λ a. (workers throttle : ℕ) → 1 ≤ throttle →
         IsCallResult (Some (Run source.now input.now workers throttle)) (F.holds files.old)
         (F.faults files.old) (F.faults files.new) a.status a.text a.run_log a.reports) }
 {
     match prepare(alloc, files, source, input)? {
-        Prepared::Ready(program, numbers) => run_program(alloc, &program, &numbers),
+        Prepared::Ready(program, numbers) => run_result(alloc, &program, &numbers),
         Prepared::Decided(outcome) => Ok(outcome),
     }
 }
@@ -222,7 +189,7 @@ fn execute_serial<F: Files>(
 {
     match prepare(alloc, files, source, input)? {
         Prepared::Ready(program, numbers) => {
-            let outcome = run_program(alloc, &program, &numbers)?;
+            let outcome = run_result(alloc, &program, &numbers)?;
             Ok(CommandResult {
                 run_log: None,
                 ..outcome
@@ -250,11 +217,26 @@ fn execute_format<F: Files>(
     }
 }
 
+// The result of `bench`, which keeps no run log.
+fn execute_bench(alloc: Global, seed: u32, size: u32) -> Result<CommandResult, NoMemory>
+    requires { IsInRange (Bench seed size) }
+    ensures { IfOk result (λ a. (holds : Option Content) (faults : ℕ) →
+        IsCallResult (Some (Bench seed size)) holds faults faults a.status a.text a.run_log a.reports) }
+{
+    Ok(CommandResult {
+        status: FINISHED,
+        text: bench(alloc, seed, size)?,
+        run_log: None,
+        reports: Reports::new(alloc),
+    })
+}
+
 fn execute_command<F: Files>(
     alloc: Global,
     command: Command<'_>,
     files: &mut F,
 ) -> Result<CommandResult, NoMemory>
+    requires { IsInRange (command_data command) }
     ensures keeps { F.holds files.new ≡ F.holds files.old }
     ensures grows { OnErr result (F.faults files.old ≤ F.faults files.new) }
     ensures outcome { IfOk result (λ a. IsCallResult (Some (command_data command.entry)) (F.holds files.old)
@@ -264,6 +246,7 @@ fn execute_command<F: Files>(
         Command::Run { source, input, .. } => execute_run(alloc, files, source, input),
         Command::Serial { source, input } => execute_serial(alloc, files, source, input),
         Command::Format { source } => execute_format(alloc, files, source),
+        Command::Bench { seed, size } => execute_bench(alloc, seed, size),
     }
 }
 
@@ -283,14 +266,15 @@ fn execute<F: Files>(
     }
 }
 
-/// Executes the command `run SOURCE INPUT [--workers P] [--throttle K]`, `serial SOURCE INPUT` or
-/// `format SOURCE`. Writes all text to `out`, and returns the status, the log of the run, the reports
-/// of races, and how many bytes `out` took. `run` runs the program of an accepted source on the
-/// numbers of an input. The run is serial today, which is a run for every number of workers and
-/// every throttling limit of at least 1. `serial` runs the serial elision alone: it has the status,
-/// the text and the reports of that, and no run log. `format` prints the canonical text of an
-/// accepted source's program. The runtime value and the gate are not used yet. Returns an error only
-/// if memory runs out.
+/// Executes the command `run SOURCE INPUT [--workers P] [--throttle K]`, `serial SOURCE INPUT`,
+/// `format SOURCE` or `bench [--seed N] [--size M]`. Writes all text to `out`, and returns the
+/// status, the log of the run, the reports of races, and how many bytes `out` took. `run` runs the
+/// program of an accepted source on the numbers of an input. The run is serial today, which is a run
+/// for every number of workers and every throttling limit. `serial` runs the serial elision alone: it
+/// has the status, the text and the reports of that, and no run log. `format` prints the canonical
+/// text of an accepted source's program. `bench` runs a generated program on a generated input twice,
+/// as with 1 and with 8 workers, and prints a summary. The runtime value and the gate are not used
+/// yet. Returns an error only if memory runs out.
 pub fn cilkp<R: Drop, F: Files, S: Sink, G: Gate + Sync>(
     _rt: R,
     alloc: Global,
@@ -299,16 +283,16 @@ pub fn cilkp<R: Drop, F: Files, S: Sink, G: Gate + Sync>(
     out: &mut S,
     _gate: &G,
 ) -> Result<Ended, NoMemory>
-    // The headline: for every accepted program and input, every number of workers and every throttling
-    // limit of at least 1, if the files' content is known and neither count of faults rises, a call
-    // that returns `Ok` reports a cell exactly when the run's own dag has two parallel conflicting
-    // accesses to it, reports some cell exactly when the serial elision's dag has such a pair, and
-    // otherwise prints exactly the serial elision's output and trap; at most the throttling limit of
-    // iterations are alive at any event.
+    // The headline: for every accepted program, input, number of workers and throttling limit, if the
+    // files' content is known and neither count of faults rises, a call that returns `Ok` reports a
+    // cell exactly when the run's own dag has two parallel conflicting accesses to it, reports some
+    // cell exactly when the serial elision's dag has such a pair, and otherwise prints exactly the
+    // serial elision's output and trap; at most the throttling limit of iterations are alive at any
+    // event.
     ensures headline { IfOk result (λ e. ¬ (CountRose (F.faults files.old) (F.faults files.new)) → ¬ (CountRose (S.faults out.old) (S.faults out.new)) →
-        IfSome (F.holds files.old) (λ content. (tree : SyntaxTree) (numbers : List ℤ) →
-        IsToRun (command_of (words_of words.now)) content tree numbers →
-        ReturnsRun tree numbers e.status e.written e.run_log e.reports (S.taken out.old) (S.taken out.new))) }
+        IfSome (F.holds files.old) (λ content. (tree : SyntaxTree) (numbers : List ℤ) (limit : ℕ) →
+        IsToRun (command_of (words_of words.now)) content tree numbers limit →
+        ReturnsRun tree numbers limit e.status e.written e.run_log e.reports (S.taken out.old) (S.taken out.new))) }
     // For every accepted program and input, if the files' content is known and neither count of
     // faults rises, a `serial` call that returns `Ok` reports a cell exactly when the serial
     // elision's dag has two parallel conflicting accesses to it, and otherwise prints exactly the
@@ -322,6 +306,11 @@ pub fn cilkp<R: Drop, F: Files, S: Sink, G: Gate + Sync>(
     ensures formatted { IfOk result (λ e. ¬ (CountRose (F.faults files.old) (F.faults files.new)) → ¬ (CountRose (S.faults out.old) (S.faults out.new)) →
         IfSome (F.holds files.old) (λ content. (tree : SyntaxTree) → IsToFormat (command_of (words_of words.now)) content tree →
         ReturnsText tree e.status e.written e.run_log e.reports (S.taken out.old) (S.taken out.new))) }
+    // If the count of the sink's faults does not rise, a `bench` call that returns `Ok` has written
+    // the summary of the generated program and input completely.
+    ensures benched { IfOk result (λ e. ¬ (CountRose (S.faults out.old) (S.faults out.new)) → (tree : SyntaxTree) (numbers : List ℤ) →
+        IsToBench (command_of (words_of words.now)) tree numbers →
+        ReturnsSummary tree numbers e.status e.written e.run_log e.reports (S.taken out.old) (S.taken out.new)) }
 
     // Unless the status is 5, the text of the call's row, or the line of a read that failed, was
     // written completely; the run log and the reports are those of the row.

@@ -50,9 +50,9 @@ pub fn load_source<F: Files>(alloc: Global, files: &mut F, name: &str) -> Result
     }
 }
 
-// The program of these bytes, or the line that refuses them: the first fault of the lexer, the
-// parser or the checker.
-fn source_of(alloc: Global, source: &[u8]) -> Result<Source, NoMemory>
+/// Returns the program of these bytes, or the line that refuses them: the first fault of the lexer,
+/// the parser or the checker. Returns an error only if memory runs out.
+pub fn source_of(alloc: Global, source: &[u8]) -> Result<Source, NoMemory>
     ensures { IfOk result (λ outcome. IsLoadOf source.now outcome) }
 {
     let tokens = match tokens(alloc, source) {
@@ -96,8 +96,9 @@ pub fn load_input<F: Files>(alloc: Global, files: &mut F, name: &str) -> Result<
     }
 }
 
-// The numbers of these bytes, or the line that refuses them.
-fn input_of(alloc: Global, bytes: &[u8]) -> Result<Input, NoMemory>
+/// Returns the numbers of these bytes, or the line that refuses them. Returns an error only if memory
+/// runs out.
+pub fn input_of(alloc: Global, bytes: &[u8]) -> Result<Input, NoMemory>
     ensures { IfOk result (λ outcome. IsReadOf bytes.now outcome) }
 {
     match numbers(alloc, bytes) {

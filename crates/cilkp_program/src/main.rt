@@ -2,6 +2,7 @@
 //! top call, and exits with the status that the call returns.
 #![tactic(auto)]
 
+pub mod bench;
 pub mod call;
 #[cfg(test)]
 mod cases;
@@ -10,6 +11,7 @@ pub mod gate;
 mod language_rows;
 pub mod law;
 pub mod load;
+pub mod program_run;
 pub mod race_text;
 #[cfg(test)]
 mod race_text_tests;

@@ -1,3 +1,3 @@
-mod AcceptedSources
+pub mod AcceptedSources
 mod DecimalValues
-mod ReadInputs
+pub mod ReadInputs

@@ -2,6 +2,7 @@ use Rattle.std.proofs.Common.{◌∙◌, sym, arith, inl, inr}
 use Rattle.cilkp_program.proofs.ResultStatus.{counts_do_not_fall, grown_count_has_status, result_has_cause, result_keeps_count, result_is_logged, result_is_small, no_write_fault}
 use Rattle.cilkp_program.proofs.GivenUp.{text_cut_short, text_whole, given_up_writing}
 use Rattle.cilkp_program.proofs.FormatLaws.{text_printed}
+use Rattle.cilkp_program.proofs.BenchLaws.{printed_summary}
 use Rattle.cilkp_program.proofs.HeadlineLaws.{printed_meets}
 use Rattle.cilkp_program.proofs.SerialCallLaws.{printed_elision}
 use Rattle.cilkp_program.proofs.call.cilkp.Goals.{in-Whole, in-Failed}
@@ -47,6 +48,15 @@ returns-clause-formatted g c = λ calm_files calm_out.
     let w = c.write_text-written.ensures in
     elim c.match-written.branch [
       | in-Whole b ↦ rw b.status-is (text_printed _ _ _ _ _ _ _ _ _ _ calm_files (text_whole _ _ _ _ _ _ _ _ _ _ _ c.in_ok-outcome.ensures.outcome
+          ((rw c.as_slice.ensures at w.whole).0 b.in-Whole.is) (rw c.as_slice.ensures at w.taken)))
+      | in-Failed b ↦ (let cause = rw b.in-Failed.is at w.cause in absurd (calm_out cause.1))
+    ]
+
+pub returns-clause-benched : goal.returns-clause-benched
+returns-clause-benched g c = λ calm_out.
+    let w = c.write_text-written.ensures in
+    elim c.match-written.branch [
+      | in-Whole b ↦ rw b.status-is (printed_summary _ _ _ _ _ _ _ _ _ _ (text_whole _ _ _ _ _ _ _ _ _ _ _ c.in_ok-outcome.ensures.outcome
           ((rw c.as_slice.ensures at w.whole).0 b.in-Whole.is) (rw c.as_slice.ensures at w.taken)))
       | in-Failed b ↦ (let cause = rw b.in-Failed.is at w.cause in absurd (calm_out cause.1))
     ]

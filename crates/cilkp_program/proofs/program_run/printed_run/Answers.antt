@@ -1,6 +1,6 @@
 use Rattle.std.proofs.Common.{◌∙◌, sym}
 use Rattle.cilkp_program.proofs.RunTexts.{printed_to_its_end, printed_with_races, printed_with_trap}
-use Rattle.cilkp_program.proofs.call.printed_run.Goals as goal
+use Rattle.cilkp_program.proofs.program_run.printed_run.Goals as goal
 
 pub returns-then-not-is_empty : goal.returns-then-not-is_empty
 returns-then-not-is_empty c = printed_with_races _ _ _ _ _ (sym c.is_empty.ensures ∙ c.if-not-is_empty.true) c.in_ok-race_text.ensures

@@ -1,0 +1,124 @@
+-- Generated texts are accepted and read, and a call that prints a summary.
+use Rattle.std.proofs.Common.{◌≡◌, ◌≢◌, ◌∙◌, ◌≤◌, ℕ, ℤ, List, [], Option, Some, None, length, Result, Ok, Err, IfOk, ap, ap₂, refl, subst, sym}
+use Rattle.grammar_laws.proofs.SourceRefusals.{one_accepted, refused_not_accepted}
+use Rattle.pipe_gen.specs.Workload.{input_text, source_text}
+use Rattle.pipe_gen.specs.declared.workload.TheConstants.{MOST_SIZE}
+use Rattle.pipe_io.proofs.OneFault.{numbers_have_no_fault}
+use Rattle.pipe_io.proofs.OneReading.{one_reading}
+use Rattle.pipe_io.specs.Reads.{Content}
+use Rattle.pipe_model.specs.declared.event.RunLog.{RunLog}
+use Rattle.pipe_model.specs.declared.report.Report.{Report}
+use Rattle.pipe_model.specs.Language.SyntaxTree.{SyntaxTree, tree_of}
+use Rattle.pipe_model.specs.declared.tree.Program.{Program}
+use Rattle.workload_laws.proofs.AcceptedSources.{accepted}
+use Rattle.workload_laws.proofs.ReadInputs.{inputs_are_read}
+use Rattle.workload_laws.specs.GeneratedNumbers.{items_from}
+use Rattle.workload_laws.specs.GeneratedPrograms.{generated_tree}
+use Rattle.cilkp_words.specs.Commands.{Command, Bench}
+use Rattle.cilkp_program.proofs.OneCommand.{bench_has_no_source, bench_keeps_no_log}
+use Rattle.cilkp_program.proofs.OneRow.{one_row}
+use Rattle.cilkp_program.specs.BenchCalls.{IsToBench, ReturnsSummary}
+use Rattle.dag_build.specs.NodeColumns.{node_columns}
+use Rattle.program_laws.specs.WorkBounds.{instances_in}
+use Rattle.pipe_model.specs.declared.memory.NoMemory.{NoMemory}
+use Rattle.cilkp_program.proofs.InstanceCounts.{elision_is_small, instances_of_log}
+use Rattle.cilkp_program.specs.declared.program_run.TheConstants.{MOST_INSTANCES}
+use Rattle.cilkp_program.specs.SerialResults.{elision_columns, elision_log, elision_output}
+use Rattle.cilkp_program.specs.Benchmarks.{IsGenerated, elision_summary, last_or_zero, summary_text}
+use Rattle.cilkp_program.specs.CallResults.{IsCallResult, OfRow, SourceFault, InputFault, IsPrinted}
+use Rattle.cilkp_program.specs.declared.load.Input.{Input}
+use Rattle.cilkp_program.specs.declared.load.Input.TheVariants as inputs
+use Rattle.cilkp_program.specs.declared.load.Source.{Source}
+use Rattle.cilkp_program.specs.declared.load.Source.TheVariants as sources
+use Rattle.cilkp_program.specs.LoadedFiles.{IsLoadOf, IsReadOf}
+use Rattle.cilkp_program.specs.Rows.{Row, Benches}
+use Rattle.cilkp_program.specs.TakenText.{HasTaken}
+
+-- a generated source is loaded as a program
+pub source_is_accepted : (size : ℕ) (bytes : List ℕ) (source : Source) → 1 ≤ size → size ≤ MOST_SIZE → bytes ≡ source_text size → IsLoadOf bytes source
+    → ((checked : Program) → source ≡ sources.Accepted checked → ⊥) → ⊥
+source_is_accepted size bytes (sources.Accepted checked) some few e loaded other = other checked refl
+source_is_accepted size bytes (sources.Refused line) some few e loaded other =
+    refused_not_accepted (generated_tree size) (rw e at loaded.refused) (accepted size some few)
+source_is_accepted size bytes sources.Failed some few e loaded other = loaded
+
+-- a generated input is loaded as its numbers
+pub input_is_read : (seed size : ℕ) (bytes : List ℕ) (input : Input) → size ≤ MOST_SIZE → bytes ≡ input_text seed size → IsReadOf bytes input
+    → ((numbers : List ℤ) → input ≡ inputs.Accepted numbers → ⊥) → ⊥
+input_is_read seed size bytes (inputs.Accepted numbers) few e loaded other = other numbers refl
+input_is_read seed size bytes (inputs.Refused line) few e loaded other =
+    numbers_have_no_fault (rw e at loaded.faulty) (inputs_are_read seed size few)
+input_is_read seed size bytes inputs.Failed few e loaded other = loaded
+
+-- the loaded program and numbers are the generated ones
+pub is_generated : (seed size : ℕ) (source input : List ℕ) (checked : Program) (numbers : List ℤ) → source ≡ source_text size → input ≡ input_text seed size
+    → IsLoadOf source (sources.Accepted checked) → IsReadOf input (inputs.Accepted numbers) → IsGenerated seed size (tree_of checked) numbers
+is_generated seed size source input checked numbers e f loaded read = record { program = rw e at loaded; read = rw f at read }
+
+-- a seed and a size have one program and one list of numbers
+pub one_workload : (seed size : ℕ) (tree other : SyntaxTree) (numbers others : List ℤ) → IsGenerated seed size tree numbers
+    → IsGenerated seed size other others → (tree ≡ other) × (numbers ≡ others)
+one_workload seed size tree other numbers others g h =
+    (one_accepted (source_text size) tree other g.program h.program, one_reading (input_text seed size) numbers others g.read h.read)
+
+-- the summary of one workload is that of another with the same seed and size
+pub same_summary : (seed size : ℕ) (tree other : SyntaxTree) (numbers others : List ℤ) (text : List ℕ) → IsGenerated seed size tree numbers
+    → text ≡ elision_summary tree numbers → IsGenerated seed size other others → text ≡ elision_summary other others
+same_summary seed size tree other numbers others text g e h =
+    let one = one_workload seed size tree other numbers others g h in e ∙ ap₂ elision_summary one.0 one.1
+
+-- ---- the summary that is made
+
+-- the number of stage instances is within its bound
+pub count_is_bounded : (seed size : ℕ) (tree : SyntaxTree) (numbers : List ℤ) (log : RunLog) → 1 ≤ size → size ≤ MOST_SIZE
+    → IsGenerated seed size tree numbers → log ≡ elision_log tree numbers → instances_in (node_columns log.columns) ≤ MOST_INSTANCES
+count_is_bounded seed size tree numbers log some few generated is =
+    rw (is, instances_of_log tree numbers) (elision_is_small size tree numbers some few generated.program)
+
+-- the summary of the counted instances and the last numbers of two runs
+pub summary_made : (seed size : ℕ) (tree : SyntaxTree) (numbers : List ℤ) (items instances : ℕ) (log : RunLog) (with_one with_eight : List ℤ)
+    (made : Result (List ℕ) NoMemory)
+    → IsGenerated seed size tree numbers → items ≡ length numbers → log ≡ elision_log tree numbers → instances ≡ instances_in (node_columns log.columns)
+    → with_one ≡ elision_output tree numbers → with_eight ≡ elision_output tree numbers
+    → IfOk made (λ text. text ≡ summary_text items instances (last_or_zero with_one) (last_or_zero with_eight))
+    → IfOk made (λ text. (other : SyntaxTree) (others : List ℤ) → IsGenerated seed size other others → text ≡ elision_summary other others)
+summary_made seed size tree numbers items instances log with_one with_eight (Ok text) generated i l n o e is = λ other others g.
+    same_summary seed size tree other numbers others text generated
+    (is ∙ λ k. summary_text (i k) (counted k) (last_or_zero (o k)) (last_or_zero (e k))) g
+  where
+    counted : instances ≡ instances_in (elision_columns tree numbers)
+    counted = n ∙ ap (λ x. instances_in (node_columns x.columns)) l ∙ instances_of_log tree numbers
+summary_made seed size tree numbers items instances log with_one with_eight (Err m) generated i l n o e is = is
+
+-- ---- the result of a call
+
+-- the result is the summary of this program and input
+record IsSummaryOf (tree : SyntaxTree) (numbers : List ℤ) (status : ℕ) (text : List ℕ) (log : Option RunLog) (reports : List Report) : Type 0 where
+  done : status ≡ 0
+  text_is : text ≡ elision_summary tree numbers
+  unlogged : log ≡ None
+  silent : reports ≡ []
+
+-- the result of a `bench` call, whatever the files hold
+summary_outcome : {asked : Option Command} {holds : Option Content} {before now status : ℕ} {text : List ℕ} {log : Option RunLog} {reports : List Report}
+    (tree : SyntaxTree) (numbers : List ℤ) → IsToBench asked tree numbers → IsCallResult asked holds before now status text log reports
+    → IsSummaryOf tree numbers status text log reports
+summary_outcome tree numbers a (OfRow same row) =
+    let one = one_row (bench_keeps_no_log a.command) row.row (Benches a.seed a.size tree numbers a.command a.generated) in
+    record { done = one.0; text_is = one.1; unlogged = one.2; silent = one.3 }
+summary_outcome tree numbers a (SourceFault s grew rose w) = absurd (bench_has_no_source a.command w)
+summary_outcome tree numbers a (InputFault s i file other grew rose w v known of) = absurd (bench_has_no_source a.command w)
+
+-- a call whose text was written completely
+pub printed_summary : (asked : Option Command) (holds : Option Content) (before now status written : ℕ) (log : Option RunLog) (reports : List Report)
+    (taken_before taken_now : Option (List ℕ)) → IsPrinted asked holds before now status written log reports taken_before taken_now
+    → (tree : SyntaxTree) (numbers : List ℤ) → IsToBench asked tree numbers → ReturnsSummary tree numbers status written log reports taken_before taken_now
+printed_summary asked holds before now status written log reports taken_before taken_now printed tree numbers a =
+    let h = summary_outcome tree numbers a printed.outcome in
+    record {
+      done = h.done;
+      whole = printed.whole ∙ ap length h.text_is;
+      taken = subst (λ t. HasTaken written t taken_before taken_now) h.text_is printed.taken;
+      unlogged = h.unlogged;
+      silent = h.silent;
+    }

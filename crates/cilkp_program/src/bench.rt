@@ -1,0 +1,79 @@
+//! The measured runs of a generated workload.
+
+ghost use Rattle.std.specs.Prelude.{◌≡◌, ◌≤◌, ℕ, ℤ, List, IfOk};
+ghost use Rattle.pipe_gen.specs.declared.choices.TheConstants as choices;
+ghost use Rattle.pipe_gen.specs.declared.workload.TheConstants as workloads;
+ghost use Rattle.pipe_model.specs.Language.SyntaxTree.{SyntaxTree, tree_of};
+ghost use Rattle.cilkp_program.specs.Benchmarks.{IsGenerated, elision_summary, last_or_zero, summary_text};
+
+use crate::load::{Input, Source, input_of, source_of};
+use crate::program_run::{instance_count, run_program};
+use pipe_check::checked::Checked;
+use pipe_gen::workload::generate;
+use pipe_model::list::{Bytes, Numbers};
+use pipe_model::memory::NoMemory;
+use std::alloc::Global;
+
+// The program and the input numbers of the generated texts, which are read as any other source and
+// input.
+fn generated_program(alloc: Global, seed: u32, size: u32) -> Result<(Checked, Numbers), NoMemory>
+    requires seed { seed ≤ choices.MOST_SEED }
+    requires size { (1 ≤ size) × (size ≤ workloads.MOST_SIZE) }
+    ensures { IfOk result (λ r. IsGenerated seed size (tree_of r.0) r.1) }
+{
+    let generated = generate(alloc, seed, size)?;
+    let Source::Accepted(program) = source_of(alloc, generated.source.as_slice())? else {
+        unreachable!()
+    };
+    let Input::Accepted(numbers) = input_of(alloc, generated.input.as_slice())? else {
+        unreachable!()
+    };
+    Ok((program, numbers))
+}
+
+// The last number, or 0 if there is none.
+fn last_number(numbers: &Numbers) -> i64
+    ensures { result ≡ last_or_zero numbers.now }
+{
+    match numbers.as_slice().last() {
+        None => 0,
+        Some(number) => *number,
+    }
+}
+
+// The lines of a summary, by the outputs of both runs.
+fn summary_text(
+    alloc: Global,
+    items: usize,
+    instances: u64,
+    with_one: &Numbers,
+    with_eight: &Numbers,
+) -> Result<Bytes, NoMemory>
+    ensures { IfOk result (λ text. text ≡ summary_text items instances (last_or_zero with_one.now) (last_or_zero with_eight.now)) }
+{
+    let (one, eight) = (last_number(with_one), last_number(with_eight));
+    let text = format!(in alloc;
+        "items {items}\ninstances {instances}\nworkers 1 last {one}\nworkers 8 last {eight}\n"
+    )?;
+    Ok(Bytes::from_vec(text.into_bytes()))
+}
+
+/// Runs the generated program on the generated input of this seed and size, once as with 1 worker
+/// and once as with 8 workers, and returns the summary. Returns an error only if memory runs out.
+pub fn bench(alloc: Global, seed: u32, size: u32) -> Result<Bytes, NoMemory>
+    requires seed { seed ≤ choices.MOST_SEED }
+    requires size { (1 ≤ size) × (size ≤ workloads.MOST_SIZE) }
+    ensures { IfOk result (λ text. (tree : SyntaxTree) (numbers : List ℤ) → IsGenerated seed size tree numbers
+        → text ≡ elision_summary tree numbers) }
+{
+    let (program, numbers) = generated_program(alloc, seed, size)?;
+    let with_one = run_program(alloc, &program, &numbers)?;
+    let with_eight = run_program(alloc, &program, &numbers)?;
+    summary_text(
+        alloc,
+        numbers.len(),
+        instance_count(&with_one.run_log.columns),
+        &with_one.output,
+        &with_eight.output,
+    )
+}

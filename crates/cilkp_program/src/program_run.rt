@@ -1,0 +1,110 @@
+//! Runs an accepted program: its output, its trap, its log and its races.
+
+ghost use Rattle.std.specs.Prelude.{◌≡◌, ◌≤◌, ℕ, List, IfOk};
+ghost use Rattle.dag_build.specs.NodeColumns.{node_columns};
+ghost use Rattle.pipe_model.specs.Language.SourceRefusals.{IsAccepted};
+ghost use Rattle.pipe_model.specs.Language.SyntaxTree.{tree_of};
+ghost use Rattle.pipe_model.specs.Races.FirstRaces.{AreFirstRaces};
+ghost use Rattle.program_laws.specs.WorkBounds.{instances_in};
+ghost use Rattle.cilkp_program.specs.declared.program_run.TheConstants as bounds;
+ghost use Rattle.cilkp_program.specs.RunTexts.{IsPrintedAs};
+ghost use Rattle.cilkp_program.specs.SerialResults.{elision_accesses, elision_columns, elision_log, elision_output, elision_trap};
+
+use crate::race_text::race_text;
+use crate::text::outcome_text;
+use dag_build::dag::Dag;
+use pipe_check::checked::Checked;
+use pipe_model::column::Columns;
+use pipe_model::event::RunLog;
+use pipe_model::list::{Bytes, Numbers};
+use pipe_model::memory::NoMemory;
+use pipe_model::report::Reports;
+use pipe_model::trap::TrapAt;
+use pipe_model::tree::Declaration;
+use serial_elision::elision::{SerialRun, run_serial};
+use stage_code::lower::lower;
+use std::alloc::Global;
+
+const FINISHED: u8 = 0;
+
+const RACES: u8 = 2;
+
+const TRAPPED: u8 = 3;
+
+/// More stage instances than a run of an accepted program has.
+pub const MOST_INSTANCES: u64 = 1_000_000;
+
+/// A finished run of a program.
+#[derive(Drop)]
+pub struct FinishedRun {
+    /// The emitted numbers, in order.
+    pub output: Numbers,
+    /// The trap, if the program trapped.
+    pub trap: Option<TrapAt>,
+    /// The events of the run, and its columns.
+    pub run_log: RunLog,
+    /// The first race of each cell that has one, rising by cell.
+    pub reports: Reports,
+}
+
+/// Runs a program on an input. The run is serial, one iteration after the other, which is a run for
+/// every number of workers and every throttling limit. Returns an error only if memory runs out.
+pub fn run_program(
+    alloc: Global,
+    checked: &Checked,
+    input: &Numbers,
+) -> Result<FinishedRun, NoMemory>
+    requires { (source : List ℕ) × IsAccepted source (tree_of checked.now) }
+    ensures output { IfOk result (λ r. r.output ≡ elision_output (tree_of checked.now) input.now) }
+    ensures trap { IfOk result (λ r. r.trap ≡ elision_trap (tree_of checked.now) input.now) }
+    ensures log { IfOk result (λ r. r.run_log ≡ elision_log (tree_of checked.now) input.now) }
+    ensures reports { IfOk result (λ r. AreFirstRaces (elision_columns (tree_of checked.now) input.now)
+        (elision_accesses (tree_of checked.now) input.now) r.reports) }
+{
+    let code = lower(alloc, checked)?;
+    let SerialRun {
+        output,
+        trap,
+        columns,
+        accesses,
+        events,
+    } = run_serial(alloc, checked, &code, input)?;
+    let reports = Dag::of(alloc, &columns)?.races(alloc, &accesses)?;
+    Ok(FinishedRun {
+        output,
+        trap,
+        run_log: RunLog { columns, events },
+        reports,
+    })
+}
+
+/// Returns the status and the text of a run: the lines of its races, or else its output and its
+/// trap. Returns an error only if memory runs out.
+pub fn printed_run(
+    alloc: Global,
+    cells: &[Declaration],
+    run: &FinishedRun,
+) -> Result<(u8, Bytes), NoMemory>
+    ensures { IfOk result (λ r. IsPrintedAs cells.now run.now.output run.now.trap run.now.reports r.0 r.1) }
+{
+    if !run.reports.is_empty() {
+        return Ok((RACES, race_text(alloc, cells, &run.reports)?));
+    }
+    let text = outcome_text(alloc, &run.output, run.trap)?;
+    match run.trap {
+        None => Ok((FINISHED, text)),
+        Some(_) => Ok((TRAPPED, text)),
+    }
+}
+
+/// Counts the stage instances of the columns of a run.
+pub fn instance_count(columns: &Columns) -> u64
+    requires { instances_in (node_columns columns.now) ≤ bounds.MOST_INSTANCES }
+    ensures { result ≡ instances_in (node_columns columns.now) }
+{
+    let mut count = 0;
+    for column in columns.as_slice() {
+        count += column.nodes.len() as u64;
+    }
+    count
+}
