@@ -57,7 +57,7 @@ own_short events h few i =
       | inr none ↦ omega (arith, none)
     ]
 
-same_columns : (log : RunLog) → IsOwnLog log → (columns : List Column) → columns ≡ log.columns
+pub same_columns : (log : RunLog) → IsOwnLog log → (columns : List Column) → columns ≡ log.columns
     → nodes_of_columns columns ≡ log_columns log.events
 same_columns log own columns same = ap nodes_of_columns same ∙ own.columns
 
