@@ -33,7 +33,7 @@ no_nodes_rise : (nodes : List Node) → length nodes ≡ 0 → IsRising nodes
 no_nodes_rise nodes none = record { rises = λ j k l w. absurd (omega (arith, none, w)) }
 
 -- the stage numbers of each column rise
-own_rising : (events : List Event) → IsControlLog events → (i : ℕ) → IsRising (nodes_at (log_columns events) i)
+pub own_rising : (events : List Event) → IsControlLog events → (i : ℕ) → IsRising (nodes_at (log_columns events) i)
 own_rising events h i =
     let frames : List Frame = (control_after events).frames in
     elim (cases_lt i (length frames)) [
