@@ -1,26 +1,23 @@
 -- A run with one more event that the control part allows.
-use Rattle.std.proofs.Common.{◌≡◌, ◌==◌, ◌↔◌, ◌&&◌, eq-eqb, ◌≢◌, ◌∙◌, refl, pos, sym, ap, ap₂, subst, ℕ, ℤ, zero, suc, ◌-◌, ◌<◌, ◌≤◌, ◌<ℤ◌, List, [], ◌∷◌, ◌++◌, length, map, get_or, set, arith, true, false, Bool, cond, Some}
-use Rattle.std.specs.List.{All}
-use Rattle.std.proofs.lemmas.List.{get_or-map, get_or_default, length-append, length-map, length_push, length-set, map-append}
-use Rattle.order_2d.specs.LogStarts.{IsOwnLog, log_starts, nodes_of_columns}
+use Rattle.std.proofs.Common.{◌≡◌, ◌≢◌, ◌∙◌, refl, pos, sym, ap, ap₂, subst, ℕ, ℤ, zero, suc, ◌-◌, ◌<◌, ◌≤◌, ◌<ℤ◌, List, [], ◌∷◌, ◌++◌, length, map, get_or, set, arith, false, cond, Some}
+use Rattle.std.proofs.lemmas.List.{get_or-map, get_or_default, length-map, length_push, length-set, map-append}
+use Rattle.order_2d.specs.LogStarts.{IsOwnLog, nodes_of_columns}
 use Rattle.order_2d.proofs.EventsSoFar.{without-append}
 use Rattle.order_tests.specs.Plays.{IsPlayed, statuses_of}
 use Rattle.pipe_model.specs.declared.column.Column.{Column}
 use Rattle.pipe_model.specs.declared.column.ColumnEnd.{ColumnEnd}
 use Rattle.pipe_model.specs.declared.column.ColumnEnd.TheVariants.{Closed}
 use Rattle.pipe_model.specs.declared.event.Event.{Event}
-use Rattle.pipe_model.specs.declared.event.Event.TheVariants.{Begin, Access, Advance, Enter, Finish, Stop}
+use Rattle.pipe_model.specs.declared.event.Event.TheVariants.{Begin, Advance, Enter, Finish}
 use Rattle.pipe_model.specs.declared.node.Kind.{Kind}
 use Rattle.pipe_model.specs.declared.node.Kind.TheVariants.{Zero, Wait}
 use Rattle.pipe_model.specs.declared.node.Node.{Node}
-use Rattle.pipe_model.specs.declared.node.NodeId.{NodeId}
 use Rattle.pipe_model.specs.declared.status.Status.{Status}
 use Rattle.pipe_model.specs.declared.status.Status.TheVariants.{Running, Pending, Completed}
-use Rattle.pipe_model.specs.Orders.Starts.{IsStarted, start_number, started_by, starts_from}
 use Rattle.pipe_model.specs.Pipelines.Behaviour.{Action, Staged, Ended, node_of}
-use Rattle.pipe_model.specs.Races.Columns.{IsNodeOf, node_at, nodes_at}
+use Rattle.pipe_model.specs.Races.Columns.{node_at, nodes_at}
 use Rattle.pipe_model.specs.Runs.Allowed.{ContinuesLoop, ControlAllows, HasPassed, LeftHasPassed, MayBegin}
-use Rattle.pipe_model.specs.Runs.ControlParts.{control_after, control_from, next_control, without_accesses}
+use Rattle.pipe_model.specs.Runs.ControlParts.{control_after, control_from, next_control}
 use Rattle.pipe_model.specs.Runs.ControlRun.{ControlRun, ControlRunThen, EmptyControlRun, is_access}
 use Rattle.pipe_model.specs.Runs.State.{Frame, State, alive_in, alive_one, enter_pending, frame_at, fresh_frame, initial_state, next_state, own_columns, update_frame, with_action}
 use Rattle.run_laws.proofs.RunStates.FrameMoves.{enter_pending_is}
@@ -269,61 +266,3 @@ is_own_log {limit} {events} h = record {
   control = record { limit = limit; run = subst (λ es. ControlRun limit es (control_after events)) (sym h.quiet) h.run };
   columns = h.made;
 }
-
--- a run has no more starts than events
-few_starts_from : (s : State) (events : List Event) → length (starts_from s events) ≤ length events
-few_starts_from s [] = omega arith
-few_starts_from s (e ∷ es) =
-    let rest = few_starts_from (next_state s e) es in
-    let both = length-append (started_by s e) (starts_from (next_state s e) es) in
-    let one = at_most_one e in
-    omega (arith, rest, both, one)
-  where
-    at_most_one : (x : Event) → length (started_by s x) ≤ 1
-    at_most_one (Begin i) = omega arith
-    at_most_one (Enter i) = omega arith
-    at_most_one (Access i a) = omega arith
-    at_most_one (Advance i k n) = omega arith
-    at_most_one (Finish i d) = omega arith
-    at_most_one Stop = omega arith
-
-fewer_without : (events : List Event) → length (without_accesses events) ≤ length events
-fewer_without [] = omega arith
-fewer_without (e ∷ es) = by_test (is_access e) (fewer_without es)
-  where
-    by_test : (b : Bool) → length (without_accesses es) ≤ length es
-        → length (cond b (without_accesses es) (e ∷ without_accesses es)) ≤ suc (length es)
-    by_test true rest = omega (arith, rest)
-    by_test false rest = omega (arith, rest)
-
-pub few_starts : (events : List Event) → length (log_starts events) ≤ length events
-few_starts events =
-    let starts = few_starts_from initial_state (without_accesses events) in
-    let fewer = fewer_without events in
-    omega (arith, starts, fewer)
-
--- ---- starts
-
--- a start is found at its own number, or before
-started_at : (starts : List NodeId) (m : ℕ) (d : NodeId) → m < length starts
-    → start_number starts (get_or starts m d).iteration (get_or starts m d).index ≤ m
-started_at [] m d l = absurd (omega (arith, l))
-started_at (x ∷ xs) zero d l = at_first (x.iteration == x.iteration) (x.index == x.index) (eq-eqb x.iteration x.iteration refl) (eq-eqb x.index x.index refl)
-  where
-    at_first : (a b : Bool) → a ≡ true → b ≡ true → cond (a && b) 0 (suc (start_number xs x.iteration x.index)) ≤ 0
-    at_first true true p q = omega arith
-    at_first true false p q = absurd (cc)
-    at_first false b p q = absurd (cc)
-started_at (x ∷ xs) (suc m) d l =
-    later (x.iteration == (get_or xs m d).iteration && x.index == (get_or xs m d).index) (started_at xs m d (omega (arith, l)))
-  where
-    later : (b : Bool) → start_number xs (get_or xs m d).iteration (get_or xs m d).index ≤ m
-        → cond b 0 (suc (start_number xs (get_or xs m d).iteration (get_or xs m d).index)) ≤ suc m
-    later true rest = omega arith
-    later false rest = omega (arith, rest)
-
-pub all_instances : (columns : List (List Node)) (starts : List NodeId) → ((x : NodeId) → IsStarted starts x ↔ IsNodeOf columns x)
-    → All (IsNodeOf columns) starts
-all_instances columns starts same = λ m d l.
-    let at = started_at starts m d l in
-    (same (get_or starts m d)).0 (omega (arith, at, l))

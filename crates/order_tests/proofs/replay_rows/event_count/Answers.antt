@@ -1,6 +1,6 @@
 -- A run has no more starts than events.
 use Rattle.std.proofs.Common.{arith}
-use Rattle.order_tests.proofs.PlayedEvents.{few_starts}
+use Rattle.order_tests.proofs.OwnStarts.{few_starts}
 use Rattle.order_tests.proofs.replay_rows.event_count.Goals as goal
 
 pub returns : goal.returns

@@ -2,7 +2,7 @@
 use Rattle.std.proofs.Common.{◌∙◌, sym, subst}
 use Rattle.order_2d.proofs.OwnLogs.{own_rising}
 use Rattle.dag_build.specs.NodeColumns.{AreRising}
-use Rattle.order_tests.proofs.PlayedEvents.{all_instances}
+use Rattle.order_tests.proofs.OwnStarts.{all_instances}
 use Rattle.order_tests.proofs.replay_rows.lists_are_dag.Goals as goal
 use Rattle.pipe_model.specs.Races.Columns.{IsNodeOf}
 use Rattle.std.specs.List.{All}
