@@ -1,0 +1,3 @@
+pub mod Comparisons
+pub mod FoldedHistories
+pub mod GrownLists
