@@ -10,10 +10,14 @@ use Rattle.access_history.specs.declared.history.Verdict.TheVariants.{Clean, Rac
 use Rattle.pipe_model.specs.declared.access.AccessKind.{AccessKind}
 use Rattle.pipe_model.specs.declared.access.AccessKind.TheVariants.{Read}
 use Rattle.pipe_model.specs.declared.node.NodeId.{NodeId}
-use Rattle.pipe_model.specs.Orders.AccessHistory.{FoundRace, check_access, updated_history}
+use Rattle.pipe_model.specs.Orders.AccessHistory.{FoundRace, check_access, found_race, updated_history}
 use Rattle.pipe_model.specs.Orders.HistoryStates.{HistoryState, empty_state, found_or, history_after, history_from, noted}
 use Rattle.pipe_model.specs.Races.CellRaces.{NotedAccess, noted_access}
 use Rattle.pipe_model.specs.Races.Columns.{at}
+use Rattle.access_history.specs.CellAccesses.{ReportsFirst}
+use Rattle.program_laws.proofs.HistoryFolds.{histories_are_states}
+use Rattle.run_laws.proofs.RaceHistories.FirstRaces.{histories_of_orders}
+use Rattle.run_laws.specs.OrderRaces.{AreOrders}
 
 more_before : (found : Option FoundRace) (n : ℕ) (o : Option NotedAccess) → IfSome found (λ race. race.number < n)
     → IfSome (found_or found n o) (λ race. race.number < suc n)
@@ -29,16 +33,6 @@ found_before down right h (x ∷ xs) b =
     let e : suc h.count + length xs ≡ h.count + suc (length xs) = omega arith in
     subst (λ n. IfSome (history_from down right (noted down right h x) xs).found (λ race. race.number < n)) e
     (found_before down right (noted down right h x) xs (more_before h.found h.count (check_access down right h.kept x.who x.kind) b))
-
-count_from : (down right : NodeId → ℕ) (h : HistoryState) (xs : List NotedAccess)
-    → (history_from down right h xs).count ≡ h.count + length xs
-count_from down right h [] = omega arith
-count_from down right h (x ∷ xs) = let e = count_from down right (noted down right h x) xs in omega (arith, e)
-
-history_from-push : (down right : NodeId → ℕ) (h : HistoryState) (xs : List NotedAccess) (x : NotedAccess)
-    → history_from down right h (xs ++ x ∷ []) ≡ noted down right (history_from down right h xs) x
-history_from-push down right h [] x = refl
-history_from-push down right h (y ∷ xs) x = history_from-push down right (noted down right h y) xs x
 
 -- the report of a race with this later access
 abbrev report_with : FoundRace → NotedAccess → Found
@@ -63,8 +57,8 @@ pub history_pushed : (down right : NodeId → ℕ) (accesses : List NotedAccess)
     → IsHistoryAfter down right (accesses ++ noted_access x kind ∷ []) h'
 history_pushed down right accesses h h' x kind verdict race kept report before =
     let s = history_after down right accesses in
-    let push = history_from-push down right empty_state accesses (noted_access x kind) in
-    let count : s.count ≡ length accesses = (let e = count_from down right empty_state accesses in omega (arith, e)) in
+    let state = histories_are_states down right accesses in
+    let push = state.next (noted_access x kind) in
     let none : 0 + length accesses ≡ length accesses = omega arith in
     let within = subst (λ n. IfSome s.found (λ race. race.number < n)) none (found_before down right empty_state accesses tt) in
     record {
@@ -72,7 +66,16 @@ history_pushed down right accesses h h' x kind verdict race kept report before =
       report = report
           ∙ ap (λ r. report_after r x kind verdict) before.report
           ∙ report_pushed accesses x kind s.found verdict within
-          ∙ ap₂ (λ n o. report_of_race (accesses ++ noted_access x kind ∷ []) (found_or s.found n o)) (sym count)
+          ∙ ap₂ (λ n o. report_of_race (accesses ++ noted_access x kind ∷ []) (found_or s.found n o)) (sym state.count)
           (race ∙ ap (λ k. check_access down right k x kind) before.kept)
           ∙ ap (λ (t : HistoryState). report_of_race (accesses ++ noted_access x kind ∷ []) t.found) (sym push);
     }
+
+-- the history of all accesses reports their first race
+pub reports_first : (down right : NodeId → ℕ) (accesses : List NotedAccess) (h : History)
+    → IsHistoryAfter down right accesses h → AreOrders down right accesses → ReportsFirst down right accesses h.report
+reports_first down right accesses h after orders = record {
+  found = found_race down right accesses;
+  first = histories_of_orders down right accesses orders;
+  reported = after.report ∙ ap (report_of_race accesses) (histories_are_states down right accesses).found;
+}

@@ -14,6 +14,10 @@ use Rattle.pipe_model.specs.Orders.HistoryStates.{history_after}
 use Rattle.pipe_model.specs.Orders.OrderList.{StandsBefore}
 use Rattle.pipe_model.specs.Races.CellRaces.{NotedAccess, access_at, noted_access}
 
+-- the history of no accesses
+abbrev pub nothing_kept : History
+nothing_kept = record { writer = None; rightmost = None; downmost = None; report = None }
+
 -- the fact holds of each kept instance
 pub record AllKept (P : Who → Type 0) (h : History) : Type 0 where
   pub writer : IfSome h.writer P

@@ -1,8 +1,8 @@
 //! The history of a cell.
 
 ghost use Rattle.std.specs.Prelude.{◌≡◌, ◌↔◌, ◌++◌, ◌∷◌, [], ℕ, List, IsTrue, IfSome};
-ghost use Rattle.access_history.specs.KeptInstances.{AgreeOn, AgreeOnKept, IsEither, IsHistoryAfter, KeepsAmong, KeptAreIn, earlier_access, kept_of, node_of, report_after};
-ghost use Rattle.pipe_model.specs.Orders.AccessHistory.{check_access, empty_history, is_ordered, later, race_with, updated_history};
+ghost use Rattle.access_history.specs.KeptInstances.{AgreeOn, AgreeOnKept, IsEither, IsHistoryAfter, KeepsAmong, KeptAreIn, earlier_access, kept_of, node_of, nothing_kept, report_after};
+ghost use Rattle.pipe_model.specs.Orders.AccessHistory.{check_access, is_ordered, later, race_with, updated_history};
 ghost use Rattle.pipe_model.specs.Orders.GrowingLists.{AreIn, KeepsOrder};
 ghost use Rattle.pipe_model.specs.Races.CellRaces.{NotedAccess, noted_access};
 ghost use Rattle.pipe_model.specs.declared.access.AccessKind.TheVariants.{Read, Write};
@@ -188,8 +188,7 @@ fn later_in_right<O: Orders>(kept: &Option<Who>, x: &Who, orders: &mut O) -> Who
 impl History {
     /// Returns the history of no accesses.
     pub fn new() -> History
-        ensures kept { kept_of result ≡ empty_history }
-        ensures report { result.report ≡ None }
+        ensures { result ≡ nothing_kept }
     {
         History {
             writer: None,

@@ -3,4 +3,5 @@
 //! for Two-Dimensional Dags", PPoPP 2018).
 #![tactic(auto)]
 
+pub mod cell_accesses;
 pub mod history;
