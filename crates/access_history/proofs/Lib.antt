@@ -1,0 +1,4 @@
+pub mod Comparisons
+pub mod FoldedHistories
+pub mod GrownLists
+pub mod NotedAccesses

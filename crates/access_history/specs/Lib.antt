@@ -1,0 +1,2 @@
+pub mod CellAccesses
+pub mod KeptInstances

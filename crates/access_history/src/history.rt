@@ -1,0 +1,271 @@
+//! The history of a cell.
+
+ghost use Rattle.std.specs.Prelude.{◌≡◌, ◌↔◌, ◌++◌, ◌∷◌, [], ℕ, List, IsTrue, IfSome};
+ghost use Rattle.access_history.specs.KeptInstances.{AgreeOn, AgreeOnKept, IsEither, IsHistoryAfter, KeepsAmong, KeptAreIn, earlier_access, kept_of, node_of, nothing_kept, report_after};
+ghost use Rattle.pipe_model.specs.Orders.AccessHistory.{check_access, is_ordered, later, race_with, updated_history};
+ghost use Rattle.pipe_model.specs.Orders.GrowingLists.{AreIn, KeepsOrder};
+ghost use Rattle.pipe_model.specs.Races.CellRaces.{NotedAccess, noted_access};
+ghost use Rattle.pipe_model.specs.declared.access.AccessKind.TheVariants.{Read, Write};
+ghost use Rattle.pipe_model.specs.declared.marks.Marks.{Marks as PlainMarks};
+ghost use Rattle.pipe_model.specs.declared.node.NodeId.{NodeId as PlainNodeId};
+
+use pipe_model::access::AccessKind;
+use pipe_model::marks::Marks;
+use pipe_model::node::NodeId;
+use pipe_model::orders::Orders;
+
+/// A stage instance, with its elements of the two order lists.
+#[derive(Clone, Copy, PartialEq, Eq, Debug)]
+pub struct Who {
+    /// Its name.
+    pub node: NodeId,
+    /// Its elements.
+    pub marks: Marks,
+}
+
+/// A race of two accesses to a cell.
+#[derive(Clone, Copy, PartialEq, Eq, Debug)]
+pub struct Found {
+    /// The instance of the earlier access.
+    pub earlier: NodeId,
+    /// Whether that access reads or writes.
+    pub earlier_kind: AccessKind,
+    /// The instance of the later access.
+    pub later: NodeId,
+    /// Whether that access reads or writes.
+    pub later_kind: AccessKind,
+}
+
+/// Whether an access races with an earlier one.
+#[derive(Clone, Copy, PartialEq, Eq, Debug)]
+pub enum Verdict {
+    /// It races with no kept access.
+    Clean,
+    /// It races with this kept access.
+    Race(NodeId, AccessKind),
+}
+
+/// What is kept of the accesses to a cell.
+#[derive(Clone, Copy, PartialEq, Eq, Debug)]
+pub struct History {
+    /// The last writer.
+    pub writer: Option<Who>,
+    /// The reader that is last in down-first.
+    pub rightmost: Option<Who>,
+    /// The reader that is last in right-first.
+    pub downmost: Option<Who>,
+    /// The first race.
+    pub report: Option<Found>,
+}
+
+// Whether `y` is `x`, or before it in both orders.
+fn is_same_or_before<O: Orders>(y: &Who, x: &Who, orders: &mut O) -> bool
+    requires first { AreIn (O.down_first orders.old) (O.right_first orders.old) y.now.marks }
+    requires second { AreIn (O.down_first orders.old) (O.right_first orders.old) x.now.marks }
+    ensures ordered { (down right : PlainNodeId → ℕ)
+        → AgreeOn (O.down_first orders.old) (O.right_first orders.old) down right x.now y.now
+        → result ≡ is_ordered down right y.now.node x.now.node }
+    ensures down { KeepsOrder (O.down_first orders.old) (O.down_first orders.new) }
+    ensures right { KeepsOrder (O.right_first orders.old) (O.right_first orders.new) }
+    ensures same { O.identity orders.new ≡ O.identity orders.old }
+{
+    if y.node.iteration == x.node.iteration && y.node.index == x.node.index {
+        return true;
+    }
+    if !orders.down_before(&y.marks, &x.marks) {
+        return false;
+    }
+    orders.right_before(&y.marks, &x.marks)
+}
+
+// Compares an access of `x` with a kept one of this kind.
+fn compare<O: Orders>(kept: &Option<Who>, kind: AccessKind, x: &Who, orders: &mut O) -> Verdict
+    requires kept { IfSome kept.now (λ y. AreIn (O.down_first orders.old) (O.right_first orders.old) y.marks) }
+    requires new { AreIn (O.down_first orders.old) (O.right_first orders.old) x.now.marks }
+    ensures race { (down right : PlainNodeId → ℕ)
+        → IfSome kept.now (AgreeOn (O.down_first orders.old) (O.right_first orders.old) down right x.now)
+        → earlier_access result ≡ race_with down right x.now.node kind (node_of kept.now) None }
+    ensures down { KeepsOrder (O.down_first orders.old) (O.down_first orders.new) }
+    ensures right { KeepsOrder (O.right_first orders.old) (O.right_first orders.new) }
+    ensures same { O.identity orders.new ≡ O.identity orders.old }
+{
+    match kept {
+        Some(y) => {
+            if is_same_or_before(y, x, orders) {
+                Verdict::Clean
+            } else {
+                Verdict::Race(y.node, kind)
+            }
+        }
+        None => Verdict::Clean,
+    }
+}
+
+// Compares a write of `x` with the kept reads.
+fn compare_readers<O: Orders>(history: &History, x: &Who, orders: &mut O) -> Verdict
+    requires kept { KeptAreIn (O.down_first orders.old) (O.right_first orders.old) history.now }
+    requires new { AreIn (O.down_first orders.old) (O.right_first orders.old) x.now.marks }
+    ensures race { (down right : PlainNodeId → ℕ)
+        → AgreeOnKept (O.down_first orders.old) (O.right_first orders.old) down right x.now history.now
+        → earlier_access result ≡ race_with down right x.now.node Read (node_of history.now.rightmost)
+        (race_with down right x.now.node Read (node_of history.now.downmost) None) }
+    ensures down { KeepsOrder (O.down_first orders.old) (O.down_first orders.new) }
+    ensures right { KeepsOrder (O.right_first orders.old) (O.right_first orders.new) }
+    ensures same { O.identity orders.new ≡ O.identity orders.old }
+{
+    match compare(&history.rightmost, AccessKind::Read, x, orders) {
+        Verdict::Clean => compare(&history.downmost, AccessKind::Read, x, orders),
+        Verdict::Race(y, kind) => Verdict::Race(y, kind),
+    }
+}
+
+// Compares an access of `x` with the kept accesses.
+fn check<O: Orders>(history: &History, x: &Who, kind: AccessKind, orders: &mut O) -> Verdict
+    requires kept { KeptAreIn (O.down_first orders.old) (O.right_first orders.old) history.now }
+    requires new { AreIn (O.down_first orders.old) (O.right_first orders.old) x.now.marks }
+    ensures race { (down right : PlainNodeId → ℕ)
+        → AgreeOnKept (O.down_first orders.old) (O.right_first orders.old) down right x.now history.now
+        → earlier_access result ≡ check_access down right (kept_of history.now) x.now.node kind }
+    ensures down { KeepsOrder (O.down_first orders.old) (O.down_first orders.new) }
+    ensures right { KeepsOrder (O.right_first orders.old) (O.right_first orders.new) }
+    ensures same { O.identity orders.new ≡ O.identity orders.old }
+{
+    match (compare(&history.writer, AccessKind::Write, x, orders), kind) {
+        (Verdict::Race(y, earlier), _) => Verdict::Race(y, earlier),
+        (Verdict::Clean, AccessKind::Read) => Verdict::Clean,
+        (Verdict::Clean, AccessKind::Write) => compare_readers(history, x, orders),
+    }
+}
+
+// The later of the kept reader and `x` in down-first.
+fn later_in_down<O: Orders>(kept: &Option<Who>, x: &Who, orders: &mut O) -> Who
+    requires kept { IfSome kept.now (λ y. AreIn (O.down_first orders.old) (O.right_first orders.old) y.marks) }
+    requires new { AreIn (O.down_first orders.old) (O.right_first orders.old) x.now.marks }
+    ensures later { (down right : PlainNodeId → ℕ)
+        → IfSome kept.now (AgreeOn (O.down_first orders.old) (O.right_first orders.old) down right x.now)
+        → result.node ≡ later down (node_of kept.now) x.now.node }
+    ensures either { IsEither kept.now x.now result }
+    ensures down { KeepsOrder (O.down_first orders.old) (O.down_first orders.new) }
+    ensures right { KeepsOrder (O.right_first orders.old) (O.right_first orders.new) }
+    ensures same { O.identity orders.new ≡ O.identity orders.old }
+{
+    match kept {
+        Some(y) => {
+            if orders.down_before(&y.marks, &x.marks) {
+                *x
+            } else {
+                *y
+            }
+        }
+        None => *x,
+    }
+}
+
+// The later of the kept reader and `x` in right-first.
+fn later_in_right<O: Orders>(kept: &Option<Who>, x: &Who, orders: &mut O) -> Who
+    requires kept { IfSome kept.now (λ y. AreIn (O.down_first orders.old) (O.right_first orders.old) y.marks) }
+    requires new { AreIn (O.down_first orders.old) (O.right_first orders.old) x.now.marks }
+    ensures later { (down right : PlainNodeId → ℕ)
+        → IfSome kept.now (AgreeOn (O.down_first orders.old) (O.right_first orders.old) down right x.now)
+        → result.node ≡ later right (node_of kept.now) x.now.node }
+    ensures either { IsEither kept.now x.now result }
+    ensures down { KeepsOrder (O.down_first orders.old) (O.down_first orders.new) }
+    ensures right { KeepsOrder (O.right_first orders.old) (O.right_first orders.new) }
+    ensures same { O.identity orders.new ≡ O.identity orders.old }
+{
+    match kept {
+        Some(y) => {
+            if orders.right_before(&y.marks, &x.marks) {
+                *x
+            } else {
+                *y
+            }
+        }
+        None => *x,
+    }
+}
+
+impl History {
+    /// Returns the history of no accesses.
+    pub fn new() -> History
+        ensures { result ≡ nothing_kept }
+    {
+        History {
+            writer: None,
+            rightmost: None,
+            downmost: None,
+            report: None,
+        }
+    }
+
+    // Keeps a race, unless one was found before.
+    fn report_first(&mut self, who: Who, kind: AccessKind, verdict: Verdict)
+        ensures { self.new ≡ record self.old { report = report_after self.old.report who.node kind verdict } }
+    {
+        if let (None, Verdict::Race(earlier, earlier_kind)) = (self.report, verdict) {
+            self.report = Some(Found {
+                earlier,
+                earlier_kind,
+                later: who.node,
+                later_kind: kind,
+            });
+        }
+    }
+
+    // Keeps an access of `who`.
+    fn keep<O: Orders>(&mut self, who: Who, kind: AccessKind, orders: &mut O)
+        requires kept { KeptAreIn (O.down_first orders.old) (O.right_first orders.old) self.old }
+        requires new { AreIn (O.down_first orders.old) (O.right_first orders.old) who.marks }
+        ensures kept { (down right : PlainNodeId → ℕ)
+            → AgreeOnKept (O.down_first orders.old) (O.right_first orders.old) down right who self.old
+            → kept_of self.new ≡ updated_history down right (kept_of self.old) who.node kind }
+        ensures report { self.new.report ≡ self.old.report }
+        ensures each { KeepsAmong self.old who self.new }
+        ensures down { KeepsOrder (O.down_first orders.old) (O.down_first orders.new) }
+        ensures right { KeepsOrder (O.right_first orders.old) (O.right_first orders.new) }
+        ensures same { O.identity orders.new ≡ O.identity orders.old }
+    {
+        match kind {
+            AccessKind::Read => {
+                let rightmost = later_in_down(&self.rightmost, &who, orders);
+                let downmost = later_in_right(&self.downmost, &who, orders);
+                self.rightmost = Some(rightmost);
+                self.downmost = Some(downmost);
+            }
+            AccessKind::Write => self.writer = Some(who),
+        }
+    }
+
+    /// Compares an access with the kept ones, and then keeps it. A write is compared with the last
+    /// writer, then with the rightmost and then with the downmost reader; a read is compared with
+    /// the last writer alone. The first race is kept as the report. The elements of `who` and of
+    /// the kept instances must be in the lists. Does not allocate.
+    pub fn note<O: Orders>(&mut self, who: Who, kind: AccessKind, orders: &mut O) -> Verdict
+        requires kept { KeptAreIn (O.down_first orders.old) (O.right_first orders.old) self.old }
+        requires new { AreIn (O.down_first orders.old) (O.right_first orders.old) who.marks }
+        ensures race { (down right : PlainNodeId → ℕ)
+            → AgreeOnKept (O.down_first orders.old) (O.right_first orders.old) down right who self.old
+            → earlier_access result ≡ check_access down right (kept_of self.old) who.node kind }
+        ensures kept { (down right : PlainNodeId → ℕ)
+            → AgreeOnKept (O.down_first orders.old) (O.right_first orders.old) down right who self.old
+            → kept_of self.new ≡ updated_history down right (kept_of self.old) who.node kind }
+        ensures report { self.new.report ≡ report_after self.old.report who.node kind result }
+        ensures each { KeepsAmong self.old who self.new }
+
+        // One step of the fold over the accesses, by any two orders that agree with the lists.
+        ensures step { (down right : PlainNodeId → ℕ)
+            → AgreeOnKept (O.down_first orders.old) (O.right_first orders.old) down right who self.old
+            → (accesses : List NotedAccess) → IsHistoryAfter down right accesses self.old
+            → IsHistoryAfter down right (accesses ++ noted_access who.node kind ∷ []) self.new }
+
+        ensures in_lists { KeptAreIn (O.down_first orders.new) (O.right_first orders.new) self.new }
+        ensures down { KeepsOrder (O.down_first orders.old) (O.down_first orders.new) }
+        ensures right { KeepsOrder (O.right_first orders.old) (O.right_first orders.new) }
+        ensures same { O.identity orders.new ≡ O.identity orders.old }
+    {
+        let verdict = check(self, &who, kind, orders);
+        self.keep(who, kind, orders);
+        self.report_first(who, kind, verdict);
+        verdict
+    }
+}

@@ -1,0 +1,7 @@
+-- The reports so far.
+use Rattle.std.proofs.Common.{◌≡◌, map, take}
+use Rattle.race_report.specs.FoundReports.{column_nodes, report_found}
+use Rattle.race_report.proofs.gather.reports_of.Given as goal
+
+abbrev pub invariant-loop-cell : goal.invariant-loop-cell
+invariant-loop-cell l = l.reports.items ≡ map (λ f. report_found (column_nodes l.columns) f.0 f.1) (take l.cell-index l.found)

@@ -1,0 +1,2 @@
+pub mod CellNames
+pub mod FoundReports
