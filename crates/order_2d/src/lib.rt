@@ -7,6 +7,6 @@ pub mod list_writer;
 mod parents;
 pub mod plain_orders;
 pub mod replay;
-mod started;
+pub mod started;
 mod starts;
 pub mod two_orders;

@@ -34,6 +34,8 @@ pub struct Replayed {
     pub nodes: NodeIds,
     /// The marks of each instance, in the same order.
     pub marks: Vec<Marks>,
+    /// The instances of each column, in order, with their marks.
+    pub rows: Vec<Row>,
 }
 
 // Starts an instance with these parents; with none it is the first.
@@ -96,18 +98,19 @@ fn empty_rows(alloc: Global, columns: &[Column]) -> Result<Vec<Row>, NoMemory>
     Ok(rows)
 }
 
-// Starts all instances of `starts`, and returns the marks of each.
+// Starts all instances of `starts`, and returns the marks of each, in order and by columns.
 fn start_all(
     alloc: Global,
     columns: &[Column],
     numbers: &[Numbers],
     starts: &[NodeId],
     orders: &mut TwoOrders<OmList>,
-) -> Result<Vec<Marks>, NoMemory>
+) -> Result<(Vec<Marks>, Vec<Row>), NoMemory>
     requires run { CanReplay (nodes_of_columns columns.now) starts.now numbers.now }
     requires lists { HasLists (nodes_of_columns columns.now) starts.now 0 orders.old }
     ensures lists { OnOk result (HasLists (nodes_of_columns columns.now) starts.now (length starts.now) orders.new) }
-    ensures marks { IfOk result (λ marks. marks.items ≡ marks_of_starts (nodes_of_columns columns.now) starts.now starts.now) }
+    ensures marks { IfOk result (λ r. r.0.items ≡ marks_of_starts (nodes_of_columns columns.now) starts.now starts.now) }
+    ensures rows { IfOk result (λ r. HasStarted (nodes_of_columns columns.now) starts.now (length starts.now) r.1.items) }
 {
     let mut rows = empty_rows(alloc, columns)?;
     let mut marks = Vec::with_capacity(alloc, starts.len())?;
@@ -116,7 +119,7 @@ fn start_all(
         push_started(&mut rows, starts[m].iteration, node)?;
         marks.push(node.marks)?;
     }
-    Ok(marks)
+    Ok((marks, rows))
 }
 
 // Two orders with room for `count` instances.
@@ -142,6 +145,8 @@ pub fn replay(alloc: Global, run_log: &RunLog) -> Result<Replayed, NoMemory>
     ensures right { IfOk result (λ r. r.orders.right.log ≡ right_first_log (log_columns run_log.now.events) (log_starts run_log.now.events)) }
     ensures marks { IfOk result (λ r. r.marks.items ≡ marks_of_starts (log_columns run_log.now.events) (log_starts run_log.now.events)
         (log_starts run_log.now.events)) }
+    ensures rows { IfOk result (λ r. HasStarted (log_columns run_log.now.events) (log_starts run_log.now.events)
+        (length (log_starts run_log.now.events)) r.rows.items) }
     ensures placed { IfOk result (λ r. All (AreIn (list_of_log r.orders.down.log) (list_of_log r.orders.right.log)) r.marks.items) }
     ensures instances { IfOk result (λ r. (x : PlainNodeId) → IsStarted r.nodes x ↔ IsNodeOf (log_columns run_log.now.events) x) }
     ensures orders { IfOk result (λ r. OrdersArePrecedes (log_columns run_log.now.events) r.nodes r.marks.items r.orders) }
@@ -150,7 +155,7 @@ pub fn replay(alloc: Global, run_log: &RunLog) -> Result<Replayed, NoMemory>
     let starts = starts_of_log(alloc, run_log.events.as_slice())?;
     let numbers = column_numbers(alloc, columns)?;
     let mut orders = empty_orders(alloc, starts.len())?;
-    let marks = start_all(
+    let (marks, rows) = start_all(
         alloc,
         columns,
         numbers.as_slice(),
@@ -161,5 +166,6 @@ pub fn replay(alloc: Global, run_log: &RunLog) -> Result<Replayed, NoMemory>
         orders,
         nodes: starts,
         marks,
+        rows,
     })
 }

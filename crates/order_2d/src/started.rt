@@ -9,7 +9,7 @@ use pipe_model::node::NodeId;
 
 /// A started instance.
 #[derive(Clone, Copy, PartialEq, Eq, Debug)]
-pub(crate) struct StartedNode {
+pub struct StartedNode {
     /// Its marks.
     pub marks: Marks,
     /// The last index of the left column that precedes it; 0 in column 0.
@@ -17,7 +17,7 @@ pub(crate) struct StartedNode {
 }
 
 /// The started instances of a column, in order.
-pub(crate) type Row = ListOf<StartedNode>;
+pub type Row = ListOf<StartedNode>;
 
 /// Returns the instance above `x`, if `x` is not a head.
 pub(crate) fn above(rows: &[Row], x: NodeId) -> Option<StartedNode>

@@ -1,0 +1,4 @@
+pub mod FoundRaces
+pub mod MarkedHistories
+pub mod NotedCells
+pub mod ReplayedRuns

@@ -1,0 +1,6 @@
+//! Determinacy races of a run that has been logged, found as 2D-Order does (Xu, Lee and Agrawal,
+//! "Efficient Parallel Determinacy Race Detection for Two-Dimensional Dags", PPoPP 2018).
+#![tactic(auto)]
+
+pub mod detect;
+mod started_run;

@@ -1,0 +1,51 @@
+//! A run whose instances have started in both order lists, and the histories of its cells.
+
+ghost use Rattle.std.specs.Prelude.{◌≡◌, ◌<◌, ◌++◌, ◌∷◌, [], ℕ, List};
+ghost use Rattle.order_2d.specs.LogStarts.{nodes_of_columns};
+ghost use Rattle.pipe_model.specs.Orders.OrderMarks.{instance_marks};
+ghost use Rattle.pipe_model.specs.Races.CellRaces.{NotedAccess, noted_access};
+ghost use Rattle.pipe_model.specs.Races.Columns.{IsNodeOf};
+ghost use Rattle.race_detection.specs.NotedRuns.{HasNoted, IsReplayOf};
+
+use access_history::history::{History, Who};
+use order_2d::replay::Replayed;
+use pipe_model::access::NodeAccess;
+use pipe_model::column::Columns;
+use pipe_model::node::NodeId;
+
+/// A run whose instances have started in both order lists.
+#[derive(Drop)]
+pub(crate) struct StartedRun<'a> {
+    /// The columns of the run.
+    pub columns: &'a Columns,
+    /// Its lists, and the marks of its instances.
+    pub replayed: Replayed,
+}
+
+// An instance with its marks.
+fn who(run: &StartedRun<'_>, node: NodeId) -> Who
+    requires run { IsReplayOf (nodes_of_columns run.now.columns.now) run.now.replayed }
+    requires inside { IsNodeOf (nodes_of_columns run.now.columns.now) node }
+    ensures { result ≡ record { node = node; marks = instance_marks (nodes_of_columns run.now.columns.now) run.now.replayed.nodes node.iteration node.index } }
+{
+    let row = run.replayed.rows[node.iteration as usize].as_slice();
+    Who {
+        node,
+        marks: row[node.index as usize].marks,
+    }
+}
+
+/// Notes an access in the history of its cell.
+pub(crate) fn note(run: &StartedRun<'_>, history: History, access: NodeAccess) -> History
+    requires run { IsReplayOf (nodes_of_columns run.now.columns.now) run.now.replayed }
+    requires inside { IsNodeOf (nodes_of_columns run.now.columns.now) access.node }
+    requires noted { (accesses : List NotedAccess) × HasNoted (nodes_of_columns run.now.columns.now) run.now.replayed.nodes accesses history }
+    ensures { (accesses : List NotedAccess) → HasNoted (nodes_of_columns run.now.columns.now) run.now.replayed.nodes accesses history
+        → HasNoted (nodes_of_columns run.now.columns.now) run.now.replayed.nodes (accesses ++ noted_access access.node access.access.kind ∷ []) result }
+{
+    let who = who(run, access.node);
+    let mut orders = run.replayed.orders.view();
+    let mut history = history;
+    history.note(who, access.access.kind, &mut orders);
+    history
+}
