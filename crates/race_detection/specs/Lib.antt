@@ -1,1 +1,3 @@
+pub mod FoundReports
 pub mod NotedRuns
+pub mod DetectionLaws

@@ -3,4 +3,5 @@
 #![tactic(auto)]
 
 pub mod detect;
+pub mod law;
 mod started_run;
