@@ -1,5 +1,5 @@
 -- A row that runs a program meets the headline.
-use Rattle.std.proofs.Common.{◌≡◌, ◌≤◌, ℕ, ℤ, List, Option, Some, None, IfSome, refl}
+use Rattle.std.proofs.Common.{◌≡◌, ◌≢◌, ◌≤◌, ◌∙◌, ◌↔◌, ◌++◌, ℕ, ℤ, List, [], Option, Some, None, IfSome, append-nil, arith, refl, sym}
 use Rattle.pipe_model.specs.declared.event.RunLog.{RunLog}
 use Rattle.pipe_model.specs.declared.report.Report.{Report}
 use Rattle.pipe_model.specs.Language.SourceRefusals.{IsAccepted}
@@ -8,26 +8,75 @@ use Rattle.pipe_io.specs.Faults.{CountRose}
 use Rattle.pipe_io.specs.Reads.{Content}
 use Rattle.cilkp_words.specs.Commands.{Command, Run}
 use Rattle.cilkp_program.proofs.Agreements.{agreed_status}
-use Rattle.cilkp_program.proofs.ElisionOutcomes.{outcome_agrees, outcome_is_right}
+use Rattle.program_laws.proofs.Headlines.{runs_meet_the_headline}
+use Rattle.pipe_model.specs.declared.trap.TrapAt.{TrapAt}
+use Rattle.pipe_model.specs.Races.Reports.{AreRight}
+use Rattle.pipe_model.specs.Runs.RunLogs.{accesses_after, columns_after}
+use Rattle.pipe_model.specs.Texts.{output_lines, trap_lines}
+use Rattle.cilkp_program.proofs.DetectedRaces.{detectable}
+use Rattle.cilkp_program.specs.RunReports.{run_reports}
+use Rattle.cilkp_program.specs.RunTexts.{IsPrintedAs, WithRaces, ToItsEnd, WithTrap}
 use Rattle.cilkp_program.proofs.OneCommand.{no_command, one_limit, run_is_not_bench, run_is_not_format, run_is_not_serial}
 use Rattle.cilkp_program.proofs.OneContent.{one_input, one_source, refused_no_input, refused_not_accepted_file}
 use Rattle.cilkp_program.proofs.SerialDags.{serial_log}
 use Rattle.cilkp_program.specs.CallResults.{IsCallResult, OfRow, SourceFault, InputFault, IsPrinted}
-use Rattle.cilkp_program.specs.Headline.{ReturnsRun, IsToRun, MeetsHeadline}
+use Rattle.cilkp_program.specs.Headline.{AgreesWithElision, ReturnsRun, IsToRun, MeetsHeadline}
 use Rattle.cilkp_program.specs.ProgramFiles.{FileContents}
 use Rattle.cilkp_program.specs.Rows.{Row, NoCommand, SourceRefused, Formats, Benches, InputRefused, Runs, RunsSerially}
-use Rattle.cilkp_program.specs.SerialResults.{ElisionResult, elision_log}
+use Rattle.cilkp_program.specs.SerialResults.{ElisionHasNoRace, elision_log, elision_output, elision_trap}
 
--- the result of the elision and its log meet the headline, for every limit of at least 1
-pub elision_meets : (source : List ℕ) (tree : SyntaxTree) (numbers : List ℤ) (limit : ℕ) {status : ℕ} {text : List ℕ} {reports : List Report}
-    → IsAccepted source tree → 1 ≤ limit → ElisionResult tree numbers status text reports
+-- what is printed for the elision's output and trap, or for reports that are there exactly if the elision has a race, agrees with the elision
+printed_agrees : (tree : SyntaxTree) (numbers output : List ℤ) (trap : Option TrapAt) (reports : List Report) {status : ℕ} {text : List ℕ}
+    → (reports ≡ []) ↔ ElisionHasNoRace tree numbers → output ≡ elision_output tree numbers → trap ≡ elision_trap tree numbers
+    → IsPrintedAs tree.cells output trap reports status text → AgreesWithElision tree numbers reports status text
+printed_agrees tree numbers output trap reports silent o t (WithRaces some) =
+    let racy : ElisionHasNoRace tree numbers → ⊥ = λ free. some (silent.1 free) in
+    record {
+      silent = silent;
+      racy = (λ e. racy, λ e. refl);
+      races = λ e. refl;
+      otherwise = λ free. absurd (racy free);
+      trapped = ((λ e. absurd (omega (arith, e))), λ free. absurd (racy free.0));
+      untrapped = ((λ e. absurd (omega (arith, e))), λ free. absurd (racy free.0));
+    }
+printed_agrees tree numbers output trap reports silent o t (ToItsEnd none ends) =
+    let free = silent.0 none in
+    let no_trap : elision_trap tree numbers ≡ None = sym t ∙ ends in
+    record {
+      silent = silent;
+      racy = ((λ e. absurd (omega (arith, e))), λ some. absurd (some free));
+      races = λ e. absurd (omega (arith, e));
+      otherwise = λ e. sym (append-nil (output_lines output)) ∙ (λ i. output_lines (o i) ++ trap_lines (sym no_trap i));
+      trapped = ((λ e. absurd (omega (arith, e))), λ some. absurd (some.1 no_trap));
+      untrapped = (λ e. (free, no_trap), λ e. refl);
+    }
+printed_agrees tree numbers output trap reports silent o t (WithTrap at none ends) =
+    let free = silent.0 none in
+    let is : elision_trap tree numbers ≡ Some at = sym t ∙ ends in
+    let some : elision_trap tree numbers ≢ None = λ none. (let d : None ≡ Some at = sym none ∙ is in cc (d)) in
+    record {
+      silent = silent;
+      racy = ((λ e. absurd (omega (arith, e))), λ racy. absurd (racy free));
+      races = λ e. absurd (omega (arith, e));
+      otherwise = λ e. λ i. output_lines (o i) ++ trap_lines (sym is i);
+      trapped = (λ e. (free, some), λ e. refl);
+      untrapped = ((λ e. absurd (omega (arith, e))), λ none. absurd (some none.1));
+    }
+
+-- the serial elision as a run, and what its histories report, meet the headline for every limit of at least 1
+pub elision_meets : (source : List ℕ) (tree : SyntaxTree) (numbers : List ℤ) (limit : ℕ) (output : List ℤ) (trap : Option TrapAt) (reports : List Report)
+    {status : ℕ} {text : List ℕ} → IsAccepted source tree → 1 ≤ limit → output ≡ elision_output tree numbers → trap ≡ elision_trap tree numbers
+    → reports ≡ run_reports (elision_log tree numbers) → IsPrintedAs tree.cells output trap reports status text
     → MeetsHeadline tree numbers limit (elision_log tree numbers) reports status text
-elision_meets source tree numbers limit form room outcome =
+elision_meets source tree numbers limit output trap reports form room o t is printed =
+    let log = elision_log tree numbers in
     let h = serial_log source tree numbers limit form room in
+    let right : AreRight (columns_after log.events) (accesses_after log.events) reports = rw is (detectable source tree numbers form).right in
+    let whole = runs_meet_the_headline source tree numbers limit log reports [] form h.run right in
     record {
       run = h.run;
-      reported = rw (h.columns, h.accesses) (outcome_is_right outcome);
-      agrees = outcome_agrees outcome;
+      reported = right;
+      agrees = printed_agrees tree numbers output trap reports whole.silent o t printed;
       throttled = h.rules.throttled;
     }
 
@@ -46,7 +95,7 @@ accepted_row tree numbers limit a s i (SourceRefused source w r) = absurd (refus
 accepted_row tree numbers limit a s i (Formats source other w o) = absurd (run_is_not_format a.command w)
 accepted_row tree numbers limit a s i (Benches seed size other others w g) = absurd (run_is_not_bench a.command w)
 accepted_row tree numbers limit a s i (InputRefused input other w o r) = absurd (refused_no_input numbers r (rw (← i) a.read))
-accepted_row tree numbers limit a s i (Runs source input workers throttle log other others w o m) =
+accepted_row tree numbers limit a s i (Runs source input workers throttle log other others w o m found) =
     let same : other ≡ tree = one_source other tree o.program (rw (← s) a.program) in
     let also : others ≡ numbers = one_input others numbers o.read (rw (← i) a.read) in
     let bound : throttle ≡ limit = one_limit w a.command in

@@ -54,7 +54,7 @@ pub instances_of_log : (tree : SyntaxTree) (numbers : List ℤ)
 instances_of_log tree numbers = ap instances_in (ended_nodes (loop_traces (whole_of tree numbers)))
 
 -- a run of a program has as many instances as its limits allow
-run_is_small : (source : List ℕ) (tree : SyntaxTree) (numbers : List ℤ) (limit : ℕ) (events : List Event) (s : State) → IsAccepted source tree
+pub run_is_small : (source : List ℕ) (tree : SyntaxTree) (numbers : List ℤ) (limit : ℕ) (events : List Event) (s : State) → IsAccepted source tree
     → ProgramRun (whole_of tree numbers) limit events s → instances_in (own_columns s) ≤ most_instances tree
 run_is_small source tree numbers limit events s form (NoLoop trapped) = omega arith
 run_is_small source tree numbers limit events s form (OfLoop free r) = program_instances_are_bounded source tree numbers limit events s form r

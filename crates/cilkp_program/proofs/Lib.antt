@@ -6,9 +6,9 @@ pub mod OneCommand
 pub mod OneContent
 pub mod OneRow
 pub mod SerialDags
-pub mod RaceText
 pub mod RunTexts
 pub mod OneReports
+pub mod DetectedRaces
 pub mod HeadlineLaws
 pub mod BenchLaws
 pub mod InstanceCounts

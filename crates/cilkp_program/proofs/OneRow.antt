@@ -14,7 +14,7 @@ use Rattle.cilkp_program.proofs.OneCommand.{bench_has_no_input, bench_has_no_sou
 use Rattle.cilkp_program.proofs.OneContent.{one_held, one_input, one_input_refusal, one_source, one_source_refusal, refused_no_input, refused_not_accepted_file}
 use Rattle.cilkp_program.proofs.OneReports.{one_first_races}
 use Rattle.cilkp_program.specs.Benchmarks.{IsGenerated, elision_summary}
-use Rattle.cilkp_program.specs.CellNames.{race_lines}
+use Rattle.race_report.specs.CellNames.{race_lines}
 use Rattle.cilkp_program.specs.CommandFiles.{KeepsLog}
 use Rattle.cilkp_program.specs.Headline.{MeetsHeadline}
 use Rattle.cilkp_program.specs.ProgramFiles.{AreAccepted, FileContents}
@@ -91,49 +91,49 @@ alike (NoCommand n) (SourceRefused s' w' r') = absurd (no_source n w')
 alike (NoCommand n) (Formats s' tree' w' o') = absurd (no_command n w')
 alike (NoCommand n) (Benches n' m' tree' xs' w' g') = absurd (no_command n w')
 alike (NoCommand n) (InputRefused i' tree' w' o' r') = absurd (no_input n w')
-alike (NoCommand n) (Runs s' i' p' k' l' tree' xs' w' a' m') = absurd (no_command n w')
+alike (NoCommand n) (Runs s' i' p' k' l' tree' xs' w' a' m' f') = absurd (no_command n w')
 alike (NoCommand n) (RunsSerially s' i' tree' xs' w' a' r') = absurd (no_command n w')
 alike (SourceRefused s w r) (NoCommand n') = absurd (no_source n' w)
 alike (SourceRefused s w r) (SourceRefused s' w' r') = Same refl (one_source_refusal r (rw (one_held _ s s' w w') r')) refl refl
 alike (SourceRefused s w r) (Formats s' tree' w' o') = absurd (refused_not_accepted_file tree' r o')
 alike (SourceRefused s w r) (Benches n' m' tree' xs' w' g') = absurd (bench_has_no_source w' w)
 alike (SourceRefused s w r) (InputRefused i' tree' w' o' r') = absurd (refused_not_accepted_file tree' r o')
-alike (SourceRefused s w r) (Runs s' i' p' k' l' tree' xs' w' a' m') = absurd (refused_not_accepted_file tree' r a'.program)
+alike (SourceRefused s w r) (Runs s' i' p' k' l' tree' xs' w' a' m' f') = absurd (refused_not_accepted_file tree' r a'.program)
 alike (SourceRefused s w r) (RunsSerially s' i' tree' xs' w' a' r') = absurd (refused_not_accepted_file tree' r a'.program)
 alike (Formats s tree w o) (NoCommand n') = absurd (no_command n' w)
 alike (Formats s tree w o) (SourceRefused s' w' r') = absurd (refused_not_accepted_file tree r' o)
 alike (Formats s tree w o) (Formats s' tree' w' o') = Same refl (ap program_text (one_source tree tree' o o')) refl refl
 alike (Formats s tree w o) (Benches n' m' tree' xs' w' g') = absurd (format_is_not_bench w w')
 alike (Formats s tree w o) (InputRefused i' tree' w' o' r') = absurd (format_has_no_input w w')
-alike (Formats s tree w o) (Runs s' i' p' k' l' tree' xs' w' a' m') = absurd (run_is_not_format w' w)
+alike (Formats s tree w o) (Runs s' i' p' k' l' tree' xs' w' a' m' f') = absurd (run_is_not_format w' w)
 alike (Formats s tree w o) (RunsSerially s' i' tree' xs' w' a' r') = absurd (serial_is_not_format w' w)
 alike (Benches n m tree xs w g) (NoCommand n') = absurd (no_command n' w)
 alike (Benches n m tree xs w g) (SourceRefused s' w' r') = absurd (bench_has_no_source w w')
 alike (Benches n m tree xs w g) (Formats s' tree' w' o') = absurd (format_is_not_bench w' w)
 alike (Benches n m tree xs w g) (Benches n' m' tree' xs' w' g') = let one = one_bench w w' in Same refl (one_summary tree tree' xs xs' one.0 one.1 g g') refl refl
 alike (Benches n m tree xs w g) (InputRefused i' tree' w' o' r') = absurd (bench_has_no_input w w')
-alike (Benches n m tree xs w g) (Runs s' i' p' k' l' tree' xs' w' a' m') = absurd (run_is_not_bench w' w)
+alike (Benches n m tree xs w g) (Runs s' i' p' k' l' tree' xs' w' a' m' f') = absurd (run_is_not_bench w' w)
 alike (Benches n m tree xs w g) (RunsSerially s' i' tree' xs' w' a' r') = absurd (serial_is_not_bench w' w)
 alike (InputRefused i tree w o r) (NoCommand n') = absurd (no_input n' w)
 alike (InputRefused i tree w o r) (SourceRefused s' w' r') = absurd (refused_not_accepted_file tree r' o)
 alike (InputRefused i tree w o r) (Formats s' tree' w' o') = absurd (format_has_no_input w' w)
 alike (InputRefused i tree w o r) (Benches n' m' tree' xs' w' g') = absurd (bench_has_no_input w' w)
 alike (InputRefused i tree w o r) (InputRefused i' tree' w' o' r') = Same refl (one_input_refusal r (rw (one_held _ i i' w w') r')) refl refl
-alike (InputRefused i tree w o r) (Runs s' i' p' k' l' tree' xs' w' a' m') = absurd (refused_no_input xs' r a'.read)
+alike (InputRefused i tree w o r) (Runs s' i' p' k' l' tree' xs' w' a' m' f') = absurd (refused_no_input xs' r a'.read)
 alike (InputRefused i tree w o r) (RunsSerially s' i' tree' xs' w' a' r') = absurd (refused_no_input xs' r a'.read)
-alike (Runs s i p k l tree xs w a m) (NoCommand n') = absurd (no_command n' w)
-alike (Runs s i p k l tree xs w a m) (SourceRefused s' w' r') = absurd (refused_not_accepted_file tree r' a.program)
-alike (Runs s i p k l tree xs w a m) (Formats s' tree' w' o') = absurd (run_is_not_format w w')
-alike (Runs s i p k l tree xs w a m) (Benches n' m' tree' xs' w' g') = absurd (run_is_not_bench w w')
-alike (Runs s i p k l tree xs w a m) (InputRefused i' tree' w' o' r') = absurd (refused_no_input xs r' a.read)
-alike (Runs s i p k l tree xs w a m) (Runs s' i' p' k' l' tree' xs' w' a' m') = let one = one_run tree tree' xs xs' a a' m m' in BothRun (rw w refl) one.0 one.1
-alike (Runs s i p k l tree xs w a m) (RunsSerially s' i' tree' xs' w' a' r') = absurd (run_is_not_serial w w')
+alike (Runs s i p k l tree xs w a m f) (NoCommand n') = absurd (no_command n' w)
+alike (Runs s i p k l tree xs w a m f) (SourceRefused s' w' r') = absurd (refused_not_accepted_file tree r' a.program)
+alike (Runs s i p k l tree xs w a m f) (Formats s' tree' w' o') = absurd (run_is_not_format w w')
+alike (Runs s i p k l tree xs w a m f) (Benches n' m' tree' xs' w' g') = absurd (run_is_not_bench w w')
+alike (Runs s i p k l tree xs w a m f) (InputRefused i' tree' w' o' r') = absurd (refused_no_input xs r' a.read)
+alike (Runs s i p k l tree xs w a m f) (Runs s' i' p' k' l' tree' xs' w' a' m' f') = let one = one_run tree tree' xs xs' a a' m m' in BothRun (rw w refl) one.0 one.1
+alike (Runs s i p k l tree xs w a m f) (RunsSerially s' i' tree' xs' w' a' r') = absurd (run_is_not_serial w w')
 alike (RunsSerially s i tree xs w a r) (NoCommand n') = absurd (no_command n' w)
 alike (RunsSerially s i tree xs w a r) (SourceRefused s' w' r') = absurd (refused_not_accepted_file tree r' a.program)
 alike (RunsSerially s i tree xs w a r) (Formats s' tree' w' o') = absurd (serial_is_not_format w w')
 alike (RunsSerially s i tree xs w a r) (Benches n' m' tree' xs' w' g') = absurd (serial_is_not_bench w w')
 alike (RunsSerially s i tree xs w a r) (InputRefused i' tree' w' o' r') = absurd (refused_no_input xs r' a.read)
-alike (RunsSerially s i tree xs w a r) (Runs s' i' p' k' l' tree' xs' w' a' m') = absurd (run_is_not_serial w' w)
+alike (RunsSerially s i tree xs w a r) (Runs s' i' p' k' l' tree' xs' w' a' m' f') = absurd (run_is_not_serial w' w)
 alike (RunsSerially s i tree xs w a r) (RunsSerially s' i' tree' xs' w' a' r') = let one = one_elision tree tree' xs xs' a a' r r' in Same one.0 one.1 refl one.2
 
 -- two rows of a command that keeps no log are equal

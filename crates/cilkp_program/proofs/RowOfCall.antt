@@ -26,7 +26,8 @@ use Rattle.cilkp_program.specs.SerialResults.{ElisionResult, elision_log}
 use Rattle.cilkp_program.specs.Benchmarks.{IsGenerated, elision_summary}
 use Rattle.cilkp_program.specs.Rows.{NoCommand, SourceRefused, Formats, Benches, InputRefused, Runs, RunsSerially}
 use Rattle.cilkp_program.specs.PreparedFiles.{AreReady}
-use Rattle.cilkp_program.proofs.HeadlineLaws.{elision_meets}
+use Rattle.cilkp_program.specs.Headline.{MeetsHeadline}
+use Rattle.cilkp_program.specs.RunReports.{run_reports}
 use Rattle.cilkp_program.proofs.OneCommand.{bench_has_no_input, bench_has_no_source, no_input, no_source}
 use Rattle.cilkp_program.proofs.OneContent.{one_held}
 
@@ -138,16 +139,16 @@ files_ready holds later before mid now source input checked numbers keeps same s
 pub result_of_run : (holds : Option Content) (before now : ℕ) (source input : List ℕ) (tree : SyntaxTree) (numbers : List ℤ)
     (r : Result CommandResult NoMemory)
     → AreReady holds before now source input tree numbers
-    → IfOk r (λ a. ElisionResult tree numbers a.status a.text a.reports) → IfOk r (λ a. a.run_log ≡ Some (elision_log tree numbers))
+    → IfOk r (λ a. (limit : ℕ) → 1 ≤ limit → MeetsHeadline tree numbers limit (elision_log tree numbers) a.reports a.status a.text)
+    → IfOk r (λ a. a.run_log ≡ Some (elision_log tree numbers)) → IfOk r (λ a. a.reports ≡ run_reports (elision_log tree numbers))
     → IfOk r (λ a. (workers throttle : ℕ) → 1 ≤ throttle
     → IsCallResult (Some (Run source input workers throttle)) holds before now a.status a.text a.run_log a.reports)
-result_of_run holds before now source input tree numbers (Ok a) ready outcome log = λ workers throttle room. rw log (OfRow ready.calm (record {
+result_of_run holds before now source input tree numbers (Ok a) ready meets log found = λ workers throttle room. rw log (OfRow ready.calm (record {
   held = ready.held;
   known = files_known _ holds source input _ refl refl ready.source_known ready.input_known;
-  row = Runs source input workers throttle (elision_log tree numbers) tree numbers refl ready.accepted
-      (elision_meets _ tree numbers throttle ready.accepted.program.accepted room outcome);
+  row = Runs source input workers throttle (elision_log tree numbers) tree numbers refl ready.accepted (meets throttle room) found;
 }))
-result_of_run holds before now source input tree numbers (Err m) ready outcome log = outcome
+result_of_run holds before now source input tree numbers (Err m) ready meets log found = log
 
 -- for each number of workers and each throttling limit
 pub result_with_options : (holds : Option Content) (before now : ℕ) (source input : List ℕ) (r : Result CommandResult NoMemory) (workers throttle : ℕ)
@@ -158,15 +159,16 @@ result_with_options holds before now source input (Ok a) workers throttle room h
 result_with_options holds before now source input (Err m) workers throttle room h = h
 
 -- by `serial`, without it
-pub result_of_serial : (holds : Option Content) (before now : ℕ) (source input : List ℕ) (tree : SyntaxTree) (numbers : List ℤ) {status : ℕ}
-    {text : List ℕ} {reports : List Report}
-    → AreReady holds before now source input tree numbers → ElisionResult tree numbers status text reports
-    → IsCallResult (Some (Serial source input)) holds before now status text None reports
-result_of_serial holds before now source input tree numbers ready outcome = OfRow ready.calm (record {
+pub result_of_serial : (holds : Option Content) (before now : ℕ) (source input : List ℕ) (tree : SyntaxTree) (numbers : List ℤ)
+    (r : Result CommandResult NoMemory) → AreReady holds before now source input tree numbers
+    → IfOk r (λ a. ElisionResult tree numbers a.status a.text a.reports) → IfOk r (λ a. a.run_log ≡ None)
+    → IfOk r (λ a. IsCallResult (Some (Serial source input)) holds before now a.status a.text a.run_log a.reports)
+result_of_serial holds before now source input tree numbers (Ok a) ready outcome log = rw log (OfRow ready.calm (record {
   held = ready.held;
   known = files_known _ holds source input _ refl refl ready.source_known ready.input_known;
   row = RunsSerially source input tree numbers refl ready.accepted outcome;
-})
+}))
+result_of_serial holds before now source input tree numbers (Err m) ready outcome log = log
 
 -- ---- `bench`
 

@@ -6,7 +6,7 @@ use Rattle.pipe_model.specs.declared.report.Report.{Report}
 use Rattle.pipe_model.specs.declared.trap.TrapAt.{TrapAt}
 use Rattle.pipe_model.specs.declared.tree.Declaration.{Declaration}
 use Rattle.pipe_model.specs.Texts.{output_lines, trap_lines}
-use Rattle.cilkp_program.specs.CellNames.{race_lines}
+use Rattle.race_report.specs.CellNames.{race_lines}
 use Rattle.cilkp_program.specs.RunTexts.{IsPrintedAs, WithRaces, ToItsEnd, WithTrap}
 
 -- a list whose length is 0 is empty

@@ -38,7 +38,7 @@ ended_nodes [] = refl
 ended_nodes (t ∷ traces) = ap (λ cs. column_of t ∷ cs) (ended_nodes traces)
 
 -- the instances of the columns of frames are those of the frames
-nodes_of_frames : (frames : List Frame) → node_columns (map column_of_frame frames) ≡ map (λ (f : Frame). f.nodes) frames
+pub nodes_of_frames : (frames : List Frame) → node_columns (map column_of_frame frames) ≡ map (λ (f : Frame). f.nodes) frames
 nodes_of_frames [] = refl
 nodes_of_frames (f ∷ frames) = ap (λ ns. f.nodes ∷ ns) (nodes_of_frames frames)
 
@@ -89,7 +89,7 @@ column_inside (c ∷ cs) zero k w = omega arith
 column_inside (c ∷ cs) (suc i) k w = let h = column_inside cs i k w in omega (arith, h)
 
 -- the accesses of the loop are made by instances of its columns
-accesses_inside : (source : List ℕ) (tree : SyntaxTree) (input : List ℤ) → IsAccepted source tree
+pub accesses_inside : (source : List ℕ) (tree : SyntaxTree) (input : List ℤ) → IsAccepted source tree
     → All (IsAccessOf (elision_columns tree input)) (elision_accesses tree input)
 accesses_inside source tree input form =
     let h = serial_log source tree input 1 form (omega arith) in

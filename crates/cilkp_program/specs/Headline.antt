@@ -10,7 +10,7 @@ use Rattle.pipe_model.specs.Texts.{trap_lines}
 use Rattle.pipe_model.specs.Runs.Throttling.{IsThrottled}
 use Rattle.pipe_model.specs.Runs.WholeProgramRuns.{IsFinishedProgramRun}
 use Rattle.cilkp_program.specs.TakenText.{HasTaken}
-use Rattle.cilkp_program.specs.CellNames.{race_lines}
+use Rattle.race_report.specs.CellNames.{race_lines}
 use Rattle.pipe_io.specs.Reads.{Content}
 use Rattle.cilkp_program.specs.ProgramFiles.{IsInputOf, IsSourceOf}
 use Rattle.cilkp_program.specs.SerialResults.{ElisionHasNoRace, elision_output_text, elision_trap}

@@ -1,8 +1,8 @@
 pub mod CommandFiles
 pub mod InputLines
 pub mod ProgramFiles
-pub mod CellNames
 pub mod SerialResults
+pub mod RunReports
 pub mod TakenText
 pub mod Headline
 pub mod Benchmarks

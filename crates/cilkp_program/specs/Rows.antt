@@ -9,12 +9,13 @@ use Rattle.cilkp_program.specs.Benchmarks.{IsGenerated, elision_summary}
 use Rattle.cilkp_program.specs.CommandFiles.{NamesInput, NamesSource}
 use Rattle.cilkp_program.specs.Headline.{MeetsHeadline}
 use Rattle.cilkp_program.specs.ProgramFiles.{AreAccepted, FileContents, InputRefusal, IsSourceOf, SourceRefusal}
+use Rattle.cilkp_program.specs.RunReports.{run_reports}
 use Rattle.cilkp_program.specs.SerialResults.{ElisionResult}
 use Rattle.cilkp_words.specs.Commands.{Command, Run, Serial, Format, Bench}
 
 -- the row of a call by its command and its files: its status, its text, its run log if it keeps one, and its reports.
 -- The words are refused before the source, and the source before the input. A `run` command may have any run that meets the headline under its throttling
--- limit; all other commands have one result
+-- limit, and reports what the histories of that run find; all other commands have one result
 pub data Row (asked : Option Command) (held : FileContents) : ℕ → List ℕ → Option RunLog → List Report → Type 0 where
   NoCommand : asked ≡ None → Row asked held 1 refused_usage None []
   SourceRefused : (source : List ℕ) {text : List ℕ} → NamesSource asked source → SourceRefusal source held.source text → Row asked held 1 text None []
@@ -27,7 +28,7 @@ pub data Row (asked : Option Command) (held : FileContents) : ℕ → List ℕ �
   Runs : (source input : List ℕ) (workers throttle : ℕ) {status : ℕ} {text : List ℕ} {reports : List Report} (log : RunLog) (tree : SyntaxTree)
       (numbers : List ℤ)
       → asked ≡ Some (Run source input workers throttle) → AreAccepted held tree numbers
-      → MeetsHeadline tree numbers throttle log reports status text
+      → MeetsHeadline tree numbers throttle log reports status text → reports ≡ run_reports log
       → Row asked held status text (Some log) reports
   RunsSerially : (source input : List ℕ) {status : ℕ} {text : List ℕ} {reports : List Report} (tree : SyntaxTree) (numbers : List ℤ)
       → asked ≡ Some (Serial source input) → AreAccepted held tree numbers → ElisionResult tree numbers status text reports

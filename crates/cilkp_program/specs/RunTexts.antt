@@ -4,7 +4,7 @@ use Rattle.pipe_model.specs.declared.report.Report.{Report}
 use Rattle.pipe_model.specs.declared.trap.TrapAt.{TrapAt}
 use Rattle.pipe_model.specs.declared.tree.Declaration.{Declaration}
 use Rattle.pipe_model.specs.Texts.{output_lines, trap_line}
-use Rattle.cilkp_program.specs.CellNames.{race_lines}
+use Rattle.race_report.specs.CellNames.{race_lines}
 
 -- the status and the text of a run: its races if there are any, and otherwise its output and its trap
 pub data IsPrintedAs (cells : List Declaration) (output : List ℤ) (trap : Option TrapAt) (reports : List Report) : ℕ → List ℕ → Type 0 where

@@ -12,7 +12,7 @@ use Rattle.pipe_model.specs.Pipelines.WholePrograms.{loop_accesses, loop_traces,
 use Rattle.pipe_model.specs.Language.ProgramsOfTrees.{whole_of}
 use Rattle.pipe_model.specs.Language.SyntaxTree.{SyntaxTree}
 use Rattle.pipe_model.specs.Texts.{output_lines, trap_line}
-use Rattle.cilkp_program.specs.CellNames.{race_lines}
+use Rattle.race_report.specs.CellNames.{race_lines}
 
 abbrev pub elision_output : SyntaxTree → List ℤ → List ℤ
 elision_output tree input = program_output (whole_of tree input)

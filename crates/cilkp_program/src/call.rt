@@ -1,7 +1,7 @@
 //! The top call: runs a program, runs its serial elision alone, prints its canonical text, or runs a
 //! generated program and prints a summary.
 
-ghost use Rattle.std.specs.Prelude.{◌≡◌, ◌≢◌, ℕ, ℤ, ◌≤◌, ◌⊎◌, ◌↔◌, List, [], Option, IfOk, IfSome, OnErr, is_some, true};
+ghost use Rattle.std.specs.Prelude.{◌≡◌, ◌≢◌, ℕ, ℤ, ◌≤◌, ◌⊎◌, ◌↔◌, List, [], Option, None, Some, IfOk, IfSome, OnErr, is_some, true};
 ghost use Rattle.pipe_model.specs.Language.CanonicalText.{program_text};
 ghost use Rattle.pipe_model.specs.Language.SourceRefusals.{IsAccepted};
 ghost use Rattle.pipe_model.specs.Language.SyntaxTree.{SyntaxTree, tree_of};
@@ -9,7 +9,8 @@ ghost use Rattle.pipe_model.specs.Texts.{fault_read};
 ghost use Rattle.cilkp_program.specs.CallResults.{IsCallResult, IsPrinted, IsCutShort, IsGivenUp};
 ghost use Rattle.pipe_io.specs.Faults.{CountGrew, CountRose};
 ghost use Rattle.cilkp_program.specs.Formatting.{ReturnsText, IsToFormat};
-ghost use Rattle.cilkp_program.specs.Headline.{ReturnsRun, IsToRun};
+ghost use Rattle.cilkp_program.specs.Headline.{MeetsHeadline, ReturnsRun, IsToRun};
+ghost use Rattle.cilkp_program.specs.RunReports.{run_reports};
 ghost use Rattle.cilkp_program.specs.PreparedFiles.{IsPreparation};
 ghost use Rattle.cilkp_program.specs.CommandFiles.{KeepsLog};
 ghost use Rattle.cilkp_program.specs.BenchCalls.{IsToBench, ReturnsSummary};
@@ -23,7 +24,7 @@ ghost use Rattle.cilkp_program.specs.SerialCalls.{ReturnsElision, IsToRunSeriall
 use crate::bench::bench;
 use crate::gate::Gate;
 use crate::load::{Input, Source, load_input, load_source};
-use crate::program_run::{printed_run, run_program};
+use crate::program_run::{printed_run, run_elision, run_program};
 use crate::text::{line, named_line};
 use cilkp_words::commands::Command;
 use cilkp_words::words::read_words;
@@ -57,7 +58,7 @@ pub struct Ended {
     /// The events of the run and its columns; `None` if no program was run, or only its serial
     /// elision.
     pub run_log: Option<RunLog>,
-    /// The first race of each cell that has one, rising by cell; empty if no program was run.
+    /// A race of each cell that has one, rising by cell; empty if no program was run.
     pub reports: Reports,
     /// The number of bytes that the sink took in the call.
     pub written: u64,
@@ -84,15 +85,37 @@ enum Prepared {
 // The status, text, log and reports of the program's run.
 fn run_result(alloc: Global, checked: &Checked, input: &Numbers) -> Result<CommandResult, NoMemory>
     requires { (source : List ℕ) × IsAccepted source (tree_of checked.now) }
-    ensures outcome { IfOk result (λ a. ElisionResult (tree_of checked.now) input.now a.status a.text a.reports) }
     ensures log { IfOk result (λ a. a.run_log ≡ Some (elision_log (tree_of checked.now) input.now)) }
+    ensures meets { IfOk result (λ a. (limit : ℕ) → 1 ≤ limit →
+        MeetsHeadline (tree_of checked.now) input.now limit (elision_log (tree_of checked.now) input.now) a.reports a.status a.text) }
+    ensures found { IfOk result (λ a. a.reports ≡ run_reports (elision_log (tree_of checked.now) input.now)) }
 {
     let run = run_program(alloc, checked, input)?;
-    let (status, text) = printed_run(alloc, checked.program().cells.as_slice(), &run)?;
+    let (status, text) = printed_run(alloc, checked, &run)?;
     Ok(CommandResult {
         status,
         text,
         run_log: Some(run.run_log),
+        reports: run.reports,
+    })
+}
+
+// The status, text and reports of the program's serial elision.
+fn elision_result(
+    alloc: Global,
+    checked: &Checked,
+    input: &Numbers,
+) -> Result<CommandResult, NoMemory>
+    requires { (source : List ℕ) × IsAccepted source (tree_of checked.now) }
+    ensures outcome { IfOk result (λ a. ElisionResult (tree_of checked.now) input.now a.status a.text a.reports) }
+    ensures log { IfOk result (λ a. a.run_log ≡ None) }
+{
+    let run = run_elision(alloc, checked, input)?;
+    let (status, text) = printed_run(alloc, checked, &run)?;
+    Ok(CommandResult {
+        status,
+        text,
+        run_log: None,
         reports: run.reports,
     })
 }
@@ -188,13 +211,7 @@ fn execute_serial<F: Files>(
         (F.faults files.old) (F.faults files.new) a.status a.text a.run_log a.reports) }
 {
     match prepare(alloc, files, source, input)? {
-        Prepared::Ready(program, numbers) => {
-            let outcome = run_result(alloc, &program, &numbers)?;
-            Ok(CommandResult {
-                run_log: None,
-                ..outcome
-            })
-        }
+        Prepared::Ready(program, numbers) => elision_result(alloc, &program, &numbers),
         Prepared::Decided(outcome) => Ok(outcome),
     }
 }

@@ -12,9 +12,6 @@ mod language_rows;
 pub mod law;
 pub mod load;
 pub mod program_run;
-pub mod race_text;
-#[cfg(test)]
-mod race_text_tests;
 pub mod refusal;
 #[cfg(test)]
 mod refusal_tests;

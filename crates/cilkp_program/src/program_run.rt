@@ -8,10 +8,11 @@ ghost use Rattle.pipe_model.specs.Races.FirstRaces.{AreFirstRaces};
 ghost use Rattle.program_laws.specs.WorkBounds.{instances_in};
 ghost use Rattle.cilkp_program.specs.declared.program_run.TheConstants as bounds;
 ghost use Rattle.cilkp_program.specs.RunTexts.{IsPrintedAs};
+ghost use Rattle.serial_elision.specs.Elisions.{IsElision};
+ghost use Rattle.pipe_model.specs.Language.ProgramsOfTrees.{whole_of};
+ghost use Rattle.cilkp_program.specs.RunReports.{run_reports};
 ghost use Rattle.cilkp_program.specs.SerialResults.{elision_accesses, elision_columns, elision_log, elision_output, elision_trap};
 
-use crate::race_text::race_text;
-use crate::text::outcome_text;
 use dag_build::dag::Dag;
 use pipe_check::checked::Checked;
 use pipe_model::column::Columns;
@@ -20,7 +21,9 @@ use pipe_model::list::{Bytes, Numbers};
 use pipe_model::memory::NoMemory;
 use pipe_model::report::Reports;
 use pipe_model::trap::TrapAt;
-use pipe_model::tree::Declaration;
+use race_detection::detect::detect;
+use race_report::outcome::outcome_text;
+use race_report::race_text::text;
 use serial_elision::elision::{SerialRun, run_serial};
 use stage_code::lower::lower;
 use std::alloc::Global;
@@ -43,12 +46,22 @@ pub struct FinishedRun {
     pub trap: Option<TrapAt>,
     /// The events of the run, and its columns.
     pub run_log: RunLog,
-    /// The first race of each cell that has one, rising by cell.
+    /// A race of each cell that has one, rising by cell.
     pub reports: Reports,
 }
 
-/// Runs a program on an input. The run is serial, one iteration after the other, which is a run for
-/// every number of workers and every throttling limit. Returns an error only if memory runs out.
+// Runs the serial elision of a program.
+fn elide(alloc: Global, checked: &Checked, input: &Numbers) -> Result<SerialRun, NoMemory>
+    requires { (source : List ℕ) × IsAccepted source (tree_of checked.now) }
+    ensures { IfOk result (λ r. IsElision (whole_of (tree_of checked.now) input.now) r) }
+{
+    let code = lower(alloc, checked)?;
+    run_serial(alloc, checked, &code, input)
+}
+
+/// Runs a program on an input, and finds the races of the run by the access histories of its cells.
+/// The run is serial, one iteration after the other, which is a run for every number of workers and
+/// every throttling limit. Returns an error only if memory runs out.
 pub fn run_program(
     alloc: Global,
     checked: &Checked,
@@ -58,23 +71,51 @@ pub fn run_program(
     ensures output { IfOk result (λ r. r.output ≡ elision_output (tree_of checked.now) input.now) }
     ensures trap { IfOk result (λ r. r.trap ≡ elision_trap (tree_of checked.now) input.now) }
     ensures log { IfOk result (λ r. r.run_log ≡ elision_log (tree_of checked.now) input.now) }
-    ensures reports { IfOk result (λ r. AreFirstRaces (elision_columns (tree_of checked.now) input.now)
-        (elision_accesses (tree_of checked.now) input.now) r.reports) }
+    ensures reports { IfOk result (λ r. r.reports ≡ run_reports (elision_log (tree_of checked.now) input.now)) }
 {
-    let code = lower(alloc, checked)?;
     let SerialRun {
         output,
         trap,
         columns,
         accesses,
         events,
-    } = run_serial(alloc, checked, &code, input)?;
-    let reports = Dag::of(alloc, &columns)?.races(alloc, &accesses)?;
+    } = elide(alloc, checked, input)?;
+    let run_log = RunLog { columns, events };
+    let reports = detect(alloc, &run_log, &accesses)?;
+    Ok(FinishedRun {
+        output,
+        trap,
+        run_log,
+        reports,
+    })
+}
+
+/// Runs the serial elision of a program on an input, and searches its explicit dag for the first
+/// race of each cell. Returns an error only if memory runs out.
+pub fn run_elision(
+    alloc: Global,
+    checked: &Checked,
+    input: &Numbers,
+) -> Result<FinishedRun, NoMemory>
+    requires { (source : List ℕ) × IsAccepted source (tree_of checked.now) }
+    ensures output { IfOk result (λ r. r.output ≡ elision_output (tree_of checked.now) input.now) }
+    ensures trap { IfOk result (λ r. r.trap ≡ elision_trap (tree_of checked.now) input.now) }
+    ensures reports { IfOk result (λ r. AreFirstRaces (elision_columns (tree_of checked.now) input.now)
+        (elision_accesses (tree_of checked.now) input.now) r.reports) }
+{
+    let SerialRun {
+        output,
+        trap,
+        columns,
+        accesses,
+        events,
+    } = elide(alloc, checked, input)?;
+    let races = Dag::of(alloc, &columns)?.races(alloc, &accesses)?;
     Ok(FinishedRun {
         output,
         trap,
         run_log: RunLog { columns, events },
-        reports,
+        reports: races,
     })
 }
 
@@ -82,18 +123,18 @@ pub fn run_program(
 /// trap. Returns an error only if memory runs out.
 pub fn printed_run(
     alloc: Global,
-    cells: &[Declaration],
+    checked: &Checked,
     run: &FinishedRun,
 ) -> Result<(u8, Bytes), NoMemory>
-    ensures { IfOk result (λ r. IsPrintedAs cells.now run.now.output run.now.trap run.now.reports r.0 r.1) }
+    ensures { IfOk result (λ r. IsPrintedAs checked.now.cells run.now.output run.now.trap run.now.reports r.0 r.1) }
 {
     if !run.reports.is_empty() {
-        return Ok((RACES, race_text(alloc, cells, &run.reports)?));
+        return Ok((RACES, text(alloc, &run.reports, checked)?));
     }
-    let text = outcome_text(alloc, &run.output, run.trap)?;
+    let lines = outcome_text(alloc, &run.output, run.trap)?;
     match run.trap {
-        None => Ok((FINISHED, text)),
-        Some(_) => Ok((TRAPPED, text)),
+        None => Ok((FINISHED, lines)),
+        Some(_) => Ok((TRAPPED, lines)),
     }
 }
 

@@ -1,21 +1,29 @@
+use Rattle.std.proofs.Common.{◌∙◌}
 use Rattle.pipe_model.specs.Language.SyntaxTree.{tree_of}
-use Rattle.cilkp_program.proofs.SerialDags.{given_accesses_inside, given_columns_rise, given_log, given_races}
+use Rattle.cilkp_program.proofs.DetectedRaces.{given_detectable}
+use Rattle.cilkp_program.proofs.SerialDags.{given_log}
 use Rattle.cilkp_program.proofs.program_run.run_program.Goals as goal
 
-pub run_serial-requires : goal.run_serial-requires
-run_serial-requires c = record { code = record { accepted = c.requires.1.obeys; limits = c.in_ok-code.ensures.limits; runs = c.in_ok-code.ensures.runs } }
+pub detect-requires-clause-own : goal.detect-requires-clause-own
+detect-requires-clause-own c =
+    (given_detectable _ (tree_of c.args.checked.now) c.args.input.now _ _ _ c.requires.1 c.in_ok-output.ensures.columns_are
+    c.in_ok-output.ensures.events_are c.in_ok-output.ensures.accesses_are).own
 
-pub of-requires : goal.of-requires
-of-requires c = given_columns_rise _ _ _ _ c.requires.1 c.in_ok-output.ensures.columns
+pub detect-requires-clause-few : goal.detect-requires-clause-few
+detect-requires-clause-few c =
+    (given_detectable _ (tree_of c.args.checked.now) c.args.input.now _ _ _ c.requires.1 c.in_ok-output.ensures.columns_are
+    c.in_ok-output.ensures.events_are c.in_ok-output.ensures.accesses_are).few
 
-pub races-requires : goal.races-requires
-races-requires c =
-    given_accesses_inside _ _ _ _ _ _ c.requires.1 c.in_ok-of.ensures c.in_ok-output.ensures.columns
-    c.in_ok-output.ensures.accesses
-
-pub returns-clause-log : goal.returns-clause-log
-returns-clause-log c = given_log (tree_of c.args.checked.now) _ _ _ c.in_ok-output.ensures.columns c.in_ok-output.ensures.events
+pub detect-requires-clause-inside : goal.detect-requires-clause-inside
+detect-requires-clause-inside c =
+    (given_detectable _ (tree_of c.args.checked.now) c.args.input.now _ _ _ c.requires.1 c.in_ok-output.ensures.columns_are
+    c.in_ok-output.ensures.events_are c.in_ok-output.ensures.accesses_are).inside
 
 pub returns-clause-reports : goal.returns-clause-reports
 returns-clause-reports c =
-    given_races (tree_of c.args.checked.now) c.args.input.now _ _ _ _ c.in_ok-of.ensures c.in_ok-output.ensures.columns c.in_ok-output.ensures.accesses c.in_ok-reports.ensures
+    c.in_ok-reports.ensures ∙ (given_detectable _ (tree_of c.args.checked.now) c.args.input.now _ _ _ c.requires.1 c.in_ok-output.ensures.columns_are
+    c.in_ok-output.ensures.events_are c.in_ok-output.ensures.accesses_are).found
+
+pub returns-clause-log : goal.returns-clause-log
+returns-clause-log c =
+    given_log (tree_of c.args.checked.now) c.args.input.now _ _ c.in_ok-output.ensures.columns_are c.in_ok-output.ensures.events_are

@@ -1,0 +1,15 @@
+use Rattle.pipe_model.specs.Language.SyntaxTree.{tree_of}
+use Rattle.cilkp_program.proofs.SerialDags.{given_accesses_inside, given_columns_rise, given_races}
+use Rattle.cilkp_program.proofs.program_run.run_elision.Goals as goal
+
+pub of-requires : goal.of-requires
+of-requires c = given_columns_rise _ _ _ _ c.requires.1 c.in_ok-output.ensures.columns_are
+
+pub races-requires : goal.races-requires
+races-requires c =
+    given_accesses_inside _ _ _ _ _ _ c.requires.1 c.in_ok-of.ensures c.in_ok-output.ensures.columns_are c.in_ok-output.ensures.accesses_are
+
+pub returns-clause-reports : goal.returns-clause-reports
+returns-clause-reports c =
+    given_races (tree_of c.args.checked.now) c.args.input.now _ _ _ _ c.in_ok-of.ensures c.in_ok-output.ensures.columns_are
+    c.in_ok-output.ensures.accesses_are c.in_ok-races.ensures

@@ -1,9 +1,0 @@
-use Rattle.std.proofs.Common.{◌≡◌, drop}
-use Rattle.cilkp_program.specs.CellNames.{declared_name}
-use Rattle.cilkp_program.proofs.race_text.push_declared.Given as goal
-
-abbrev pub invariant-loop-declaration : goal.invariant-loop-declaration
-invariant-loop-declaration l = record {
-  kept : l.text.items ≡ l.fn.text.items;
-  following : declared_name (drop l.declaration-index l.cells) l.rest ≡ declared_name l.cells l.place;
-}
