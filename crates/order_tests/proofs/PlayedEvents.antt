@@ -84,13 +84,13 @@ played_on {limit} {events} h e quiet may still more after made stand same =
     let next : control_after (events ++ e ∷ []) ≡ next_state s e =
     control-push initial_state events e ∙ ap (λ b. cond b s (next_state s e)) quiet in
     record {
-      run = subst (λ c. ControlRun limit (events ++ e ∷ []) c) (sym next) (ControlRunThen h.run e quiet h.going may);
-      quiet = without-append events (e ∷ [])
-          ∙ ap₂ (λ (l m : List Event). l ++ m) h.quiet (ap (λ b. cond b [] (e ∷ [])) quiet);
-      going = ap (λ (c : State). c.stopped) next ∙ (still ∙ h.going);
-      made = made ∙ ap own_columns (sym next);
-      stand = stand ∙ ap statuses_of (sym next);
-      same = same;
+      run = subst (λ c. ControlRun limit (events ++ e ∷ []) c) (sym next) (ControlRunThen h.run e quiet h.not_stopped may);
+      no_accesses = without-append events (e ∷ [])
+          ∙ ap₂ (λ (l m : List Event). l ++ m) h.no_accesses (ap (λ b. cond b [] (e ∷ [])) quiet);
+      not_stopped = ap (λ (c : State). c.stopped) next ∙ (still ∙ h.not_stopped);
+      columns_are = made ∙ ap own_columns (sym next);
+      statuses_are = stand ∙ ap statuses_of (sym next);
+      same_length = same;
     }
 
 -- ---- the frame of an iteration
@@ -112,14 +112,14 @@ has_frame : {limit : ℕ} {events : List Event} {columns : List Column} {before 
 has_frame {events = es} {columns = cs} h i l =
     let fs : List Frame = (control_after es).frames in
     let wide = length-map cs (λ (c : Column). c.nodes) in
-    let long = ap (λ (x : List (List Node)). length x) h.made in
+    let long = ap (λ (x : List (List Node)). length x) h.columns_are in
     let same = length-map fs (λ (f : Frame). f.nodes) in
     let f = frame_at_exists fs i (omega (arith, l, wide, long, same)) in
     record {
       frame = f.0;
       is = f.1;
-      has_nodes = sym (ap (λ (x : List (List Node)). nodes_at x i) h.made ∙ nodes_at_frame fs i f.0 f.1);
-      has_status = sym (ap (λ (x : List Status). get_or x i Running) h.stand ∙ status_at_frame fs i f.0 f.1);
+      has_nodes = sym (ap (λ (x : List (List Node)). nodes_at x i) h.columns_are ∙ nodes_at_frame fs i f.0 f.1);
+      has_status = sym (ap (λ (x : List Status). get_or x i Running) h.statuses_are ∙ status_at_frame fs i f.0 f.1);
     }
 
 -- ---- reads of columns and statuses
@@ -141,7 +141,7 @@ module _ {limit : ℕ} {events : List Event} {columns : List Column} {before : L
   wide : length columns ≡ length s.frames
   wide =
       let columns_long = length-map columns (λ (c : Column). c.nodes) in
-      let made = ap (λ (x : List (List Node)). length x) h.made in
+      let made = ap (λ (x : List (List Node)). length x) h.columns_are in
       let frames_long = length-map s.frames (λ (f : Frame). f.nodes) in
       omega (arith, columns_long, made, frames_long)
 
@@ -175,12 +175,12 @@ module _ {limit : ℕ} {events : List Event} {columns : List Column} {before : L
   begun new first may =
       let longer = length_push columns new in
       let stand = length_push before Running in
-      let same = h.same in
+      let same = h.same_length in
       played_on h (Begin (length columns)) refl may refl (columns ++ new ∷ []) (before ++ Running ∷ [])
       (map-append (λ (c : Column). c.nodes) columns (new ∷ [])
-      ∙ (ap₂ (λ (x : List (List Node)) (y : List Node). x ++ y ∷ []) h.made first
+      ∙ (ap₂ (λ (x : List (List Node)) (y : List Node). x ++ y ∷ []) h.columns_are first
       ∙ sym (map-append (λ (f : Frame). f.nodes) s.frames (fresh_frame ∷ []))))
-      (ap (λ (x : List Status). x ++ Running ∷ []) h.stand ∙ sym (map-append (λ (f : Frame). f.status) s.frames (fresh_frame ∷ [])))
+      (ap (λ (x : List Status). x ++ Running ∷ []) h.statuses_are ∙ sym (map-append (λ (f : Frame). f.status) s.frames (fresh_frame ∷ [])))
       (omega (arith, longer, stand, same))
 
   module _ (i : ℕ) (inside : i < length columns) where
@@ -190,7 +190,7 @@ module _ {limit : ℕ} {events : List Event} {columns : List Column} {before : L
     advanced kind number runs named up =
         let here = has_frame h i inside in
         let stand = length-set before i (Pending kind number) in
-        let same = h.same in
+        let same = h.same_length in
         played_on h (Advance i kind number) refl
         (record {
           running = record { frame = here.frame; is = here.is; runs = here.has_status ∙ runs };
@@ -198,8 +198,8 @@ module _ {limit : ℕ} {events : List Event} {columns : List Column} {before : L
           above = subst (λ (x : List Node). (node_at x (length x - 1)).number <ℤ number) (sym here.has_nodes) up;
         })
         refl columns (set before i (Pending kind number))
-        (h.made ∙ sym (columns-action s.frames i (Staged kind number) (Pending kind number)))
-        (ap (λ (x : List Status). set x i (Pending kind number)) h.stand
+        (h.columns_are ∙ sym (columns-action s.frames i (Staged kind number) (Pending kind number)))
+        (ap (λ (x : List Status). set x i (Pending kind number)) h.statuses_are
         ∙ sym (statuses-action s.frames i (Staged kind number) (Pending kind number)))
         (omega (arith, stand, same))
 
@@ -210,15 +210,15 @@ module _ {limit : ℕ} {events : List Event} {columns : List Column} {before : L
     finished end more runs first nodes long =
         let here = has_frame h i inside in
         let stand = length-set before i (Completed end) in
-        let same = h.same in
+        let same = h.same_length in
         played_on h (Finish i end) refl
         (record {
           running = record { frame = here.frame; is = here.is; runs = here.has_status ∙ runs };
           first = subst (λ (x : List Node). end ≡ Closed → length x ≡ 1) (sym here.has_nodes) first;
         })
         refl more (set before i (Completed end))
-        (nodes ∙ (h.made ∙ sym (columns-action s.frames i (Ended end) (Completed end))))
-        (ap (λ (x : List Status). set x i (Completed end)) h.stand ∙ sym (statuses-action s.frames i (Ended end) (Completed end)))
+        (nodes ∙ (h.columns_are ∙ sym (columns-action s.frames i (Ended end) (Completed end))))
+        (ap (λ (x : List Status). set x i (Completed end)) h.statuses_are ∙ sym (statuses-action s.frames i (Ended end) (Completed end)))
         (omega (arith, stand, same, long))
 
     -- the left neighbour has passed a number
@@ -240,14 +240,14 @@ module _ {limit : ℕ} {events : List Event} {columns : List Column} {before : L
     entered kind number more named free nodes long =
         let here = has_frame h i inside in
         let stand = length-set before i Running in
-        let same = h.same in
+        let same = h.same_length in
         let status = here.has_status ∙ named in
         played_on h (Enter i) refl
         (record { frame = here.frame; kind = kind; number = number; is = here.is; named = status; free = free })
         refl more (set before i Running)
-        (nodes ∙ (ap (λ (x : List (List Node)). set x i (nodes_at x i ++ node_of kind number ∷ [])) h.made
+        (nodes ∙ (ap (λ (x : List (List Node)). set x i (nodes_at x i ++ node_of kind number ∷ [])) h.columns_are
         ∙ sym (columns-entered s.frames i here.frame kind number here.is status)))
-        (ap (λ (x : List Status). set x i Running) h.stand ∙ sym (statuses-entered s.frames i here.frame kind number here.is status))
+        (ap (λ (x : List Status). set x i Running) h.statuses_are ∙ sym (statuses-entered s.frames i here.frame kind number here.is status))
         (omega (arith, stand, same, long))
 
 -- ---- the beginning and the end
@@ -258,11 +258,11 @@ nothing_played limit events columns before none no_columns no_statuses =
     subst (λ es. IsPlayed limit es columns before) (sym none)
     (subst (λ cs. IsPlayed limit [] cs before) (sym no_columns)
     (subst (λ ss. IsPlayed limit [] [] ss) (sym no_statuses)
-    (record { run = EmptyControlRun; quiet = refl; going = refl; made = refl; stand = refl; same = refl })))
+    (record { run = EmptyControlRun; no_accesses = refl; not_stopped = refl; columns_are = refl; statuses_are = refl; same_length = refl })))
 
 pub is_own_log : {limit : ℕ} {events : List Event} {columns : List Column} {before : List Status} → IsPlayed limit events columns before
     → IsOwnLog (record { columns = columns; events = events })
 is_own_log {limit} {events} h = record {
-  control = record { limit = limit; run = subst (λ es. ControlRun limit es (control_after events)) (sym h.quiet) h.run };
-  columns = h.made;
+  control = record { limit = limit; run = subst (λ es. ControlRun limit es (control_after events)) (sym h.no_accesses) h.run };
+  columns = h.columns_are;
 }

@@ -15,8 +15,8 @@ statuses_of s = map (λ f. f.status) s.frames
 -- the events have no accesses and are a run of the control part, which has made these columns and statuses
 pub record IsPlayed (limit : ℕ) (events : List Event) (columns : List Column) (statuses : List Status) : Type 0 where
   pub run : ControlRun limit events (control_after events)
-  pub quiet : without_accesses events ≡ events
-  pub going : (control_after events).stopped ≡ false
-  pub made : nodes_of_columns columns ≡ own_columns (control_after events)
-  pub stand : statuses ≡ statuses_of (control_after events)
-  pub same : length statuses ≡ length columns
+  pub no_accesses : without_accesses events ≡ events
+  pub not_stopped : (control_after events).stopped ≡ false
+  pub columns_are : nodes_of_columns columns ≡ own_columns (control_after events)
+  pub statuses_are : statuses ≡ statuses_of (control_after events)
+  pub same_length : length statuses ≡ length columns

@@ -9,7 +9,7 @@ use Rattle.pipe_model.specs.Runs.Allowed.{ContinuesLoop}
 pub returns-then-i-lt-MOST_ITERATIONS : goal.returns-then-i-lt-MOST_ITERATIONS
 returns-then-i-lt-MOST_ITERATIONS c = OnTrue_from _ _ (λ goes.
     let columns = c.args.play.now.columns.items in
-    let same = c.requires.same in
+    let same = c.requires.same_length in
     let next : length columns ≡ suc (c.len-i.result - 1) = omega (arith, c.len-i.ensures, c.if-i-eq0.false) in
     let inside : c.len-i.result - 1 < length columns = omega (arith, next) in
     let nodes = column_nodes columns (c.len-i.result - 1) c.index-then-i-lt-MOST_ITERATIONS.result.now inside c.index-then-i-lt-MOST_ITERATIONS.ensures in

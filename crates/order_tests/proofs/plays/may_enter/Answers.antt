@@ -14,7 +14,7 @@ use Rattle.pipe_model.specs.declared.node.Kind.TheVariants.{Wait}
 pub returns : goal.returns
 returns c = OnTrue_from c.has_passed.result (c.args.kind ≡ Wait → LeftHasPassed (control_after c.args.play.now.events).frames c.args.i c.args.number) (λ passed waits.
     let columns = c.args.play.now.columns.items in
-    let same = c.requires.played.same in
+    let same = c.requires.played.same_length in
     let next : c.args.i ≡ suc (c.args.i - 1) = omega (arith, c.if-i-eq0.false) in
     let inside : c.args.i - 1 < length columns = omega (arith, next, c.requires.begun) in
     let nodes = column_nodes columns (c.args.i - 1) c.index.result.now inside c.index.ensures in
