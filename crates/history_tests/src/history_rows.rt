@@ -1,0 +1,147 @@
+//! Accesses to one cell, each row by hand: the first race, and the kept access that shows it. The
+//! dag has the columns 0, 1 and 2 with three, three and two instances. Besides the edges down each
+//! column and between the heads, an edge leads from (0, 1) to (1, 1) and from there to (2, 1).
+
+ghost use Rattle.std.specs.Prelude.{◌≡◌};
+
+use crate::listed_orders::ListedOrders;
+use access_history::history::{Found, History, Verdict, Who};
+use pipe_model::access::AccessKind;
+use pipe_model::access::AccessKind::{Read, Write};
+use pipe_model::marks::{Marks, Placeholder};
+use pipe_model::node::NodeId;
+use std::test::Fail;
+
+// The instances, by iteration and index. Each has the element of its number in both lists.
+const INSTANCES: [(u32, u32); 8] = [
+    (0, 0),
+    (0, 1),
+    (0, 2),
+    (1, 0),
+    (1, 1),
+    (1, 2),
+    (2, 0),
+    (2, 1),
+];
+
+// Column after column.
+const DOWN_FIRST: [u32; 8] = [0, 1, 2, 3, 4, 5, 6, 7];
+
+// The heads, then the instances 1, then the others from right to left.
+const RIGHT_FIRST: [u32; 8] = [0, 3, 6, 1, 4, 7, 5, 2];
+
+// Accesses by the number of the instance.
+type Accesses = &'static [(u32, AccessKind)];
+
+// The number of the access that races, and the earlier access.
+type Race = (usize, u32, AccessKind);
+
+const RACES: [(Accesses, Race); 10] = [
+    // With the last writer.
+    (&[(1, Write), (3, Read)], (1, 1, Write)),
+    (&[(2, Write), (4, Write)], (1, 2, Write)),
+    (&[(0, Write), (2, Write), (3, Read)], (2, 2, Write)),
+    // The writer comes before the readers.
+    (&[(3, Write), (6, Read), (1, Write)], (2, 3, Write)),
+    // The first race is kept.
+    (
+        &[(1, Write), (3, Read), (2, Write), (6, Read)],
+        (1, 1, Write),
+    ),
+    // With the rightmost reader.
+    (&[(1, Read), (3, Read), (2, Write)], (2, 3, Read)),
+    (&[(1, Write), (4, Read), (2, Write)], (2, 4, Read)),
+    // The rightmost reader comes before the downmost one.
+    (&[(4, Read), (6, Read), (2, Write)], (2, 6, Read)),
+    // With the downmost reader.
+    (&[(1, Read), (3, Read), (6, Write)], (2, 1, Read)),
+    (&[(3, Read), (1, Read), (6, Write)], (2, 1, Read)),
+];
+
+const NO_RACES: [Accesses; 10] = [
+    &[],
+    &[(1, Read), (3, Read), (2, Read), (6, Read)],
+    &[(0, Write), (1, Read), (3, Read)],
+    &[(1, Write), (1, Read), (1, Write)],
+    &[(0, Write), (1, Write), (4, Write), (7, Write)],
+    &[(1, Read), (3, Read), (4, Write)],
+    &[(0, Read), (3, Read), (6, Read), (7, Write)],
+    &[(1, Read), (4, Read), (7, Write), (7, Read)],
+    &[(0, Write), (3, Read), (1, Read), (4, Write), (5, Read)],
+    &[(0, Read), (0, Write), (2, Read), (2, Write)],
+];
+
+fn name(number: u32) -> NodeId {
+    let (iteration, index) = match INSTANCES.get(number as usize) {
+        Some(x) => *x,
+        None => (0, 0),
+    };
+    NodeId { iteration, index }
+}
+
+fn who(number: u32) -> Who {
+    let unused = Placeholder {
+        down_first: 0,
+        right_first: 0,
+    };
+    Who {
+        node: name(number),
+        marks: Marks {
+            down_first: number,
+            right_first: number,
+            down: unused,
+            right: unused,
+        },
+    }
+}
+
+// Notes the accesses. Returns the history, and the number of the first access that races, with the
+// earlier access.
+fn noted(accesses: Accesses) -> Result<(History, Option<(usize, NodeId, AccessKind)>), Fail> {
+    let mut orders = ListedOrders {
+        down: &DOWN_FIRST,
+        right: &RIGHT_FIRST,
+    };
+    let mut history = History::new();
+    let mut first = None;
+    for (n, (number, kind)) in accesses.iter().enumerate() {
+        let new = who(*number);
+        if !orders.has(&new.marks) {
+            return Err(Fail::new(format_args!("no such instance")));
+        }
+        if let (None, Verdict::Race(x, earlier)) = (first, history.note(new, *kind, &mut orders)) {
+            first = Some((n, x, earlier));
+        }
+    }
+    Ok((history, first))
+}
+
+#[test]
+fn first_races_are_found(rt: HostRuntime) -> Result<(), Fail> {
+    for (accesses, (racing, number, earlier_kind)) in RACES {
+        let (history, first) = noted(accesses)?;
+        let earlier = name(number);
+        assert_eq!(rt; first, Some((racing, earlier, earlier_kind)));
+        let Some((later, later_kind)) = accesses.get(racing) else {
+            return Err(Fail::new(format_args!("no such access")));
+        };
+        let wanted = Found {
+            earlier,
+            earlier_kind,
+            later: name(*later),
+            later_kind: *later_kind,
+        };
+        assert_eq!(rt; history.report, Some(wanted));
+    }
+    Ok(())
+}
+
+#[test]
+fn ordered_accesses_do_not_race(rt: HostRuntime) -> Result<(), Fail> {
+    for accesses in NO_RACES {
+        let (history, first) = noted(accesses)?;
+        assert_eq!(rt; first, None);
+        assert_eq!(rt; history.report, None);
+    }
+    Ok(())
+}
