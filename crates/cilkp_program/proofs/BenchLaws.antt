@@ -1,5 +1,5 @@
 -- Generated texts are accepted and read, and a call that prints a summary.
-use Rattle.std.proofs.Common.{◌≡◌, ◌≢◌, ◌∙◌, ◌≤◌, ℕ, ℤ, List, [], Option, Some, None, length, Result, Ok, Err, IfOk, ap, ap₂, refl, subst, sym}
+use Rattle.std.proofs.Common.{◌≡◌, ◌∙◌, ◌≤◌, ℕ, ℤ, List, [], Option, None, length, Result, Ok, Err, IfOk, ap, ap₂, refl, subst}
 use Rattle.grammar_laws.proofs.SourceRefusals.{one_accepted, refused_not_accepted}
 use Rattle.pipe_gen.specs.Workload.{input_text, source_text}
 use Rattle.pipe_gen.specs.declared.workload.TheConstants.{MOST_SIZE}
@@ -12,9 +12,8 @@ use Rattle.pipe_model.specs.Language.SyntaxTree.{SyntaxTree, tree_of}
 use Rattle.pipe_model.specs.declared.tree.Program.{Program}
 use Rattle.workload_laws.proofs.AcceptedSources.{accepted}
 use Rattle.workload_laws.proofs.ReadInputs.{inputs_are_read}
-use Rattle.workload_laws.specs.GeneratedNumbers.{items_from}
 use Rattle.workload_laws.specs.GeneratedPrograms.{generated_tree}
-use Rattle.cilkp_words.specs.Commands.{Command, Bench}
+use Rattle.cilkp_words.specs.Commands.{Command}
 use Rattle.cilkp_program.proofs.OneCommand.{bench_has_no_source, bench_keeps_no_log}
 use Rattle.cilkp_program.proofs.OneRow.{one_row}
 use Rattle.cilkp_program.specs.BenchCalls.{IsToBench, ReturnsSummary}
@@ -31,7 +30,7 @@ use Rattle.cilkp_program.specs.declared.load.Input.TheVariants as inputs
 use Rattle.cilkp_program.specs.declared.load.Source.{Source}
 use Rattle.cilkp_program.specs.declared.load.Source.TheVariants as sources
 use Rattle.cilkp_program.specs.LoadedFiles.{IsLoadOf, IsReadOf}
-use Rattle.cilkp_program.specs.Rows.{Row, Benches}
+use Rattle.cilkp_program.specs.Rows.{Benches}
 use Rattle.cilkp_program.specs.TakenText.{HasTaken}
 
 -- a generated source is loaded as a program

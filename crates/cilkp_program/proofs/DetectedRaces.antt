@@ -1,5 +1,5 @@
 -- The log of a serial elision is one whose races can be detected, and what is detected is right.
-use Rattle.std.proofs.Common.{◌≡◌, ◌≢◌, ◌∙◌, ◌≤◌, ◌*◌, ◌+◌, ◌*ℤ◌, ℕ, ℤ, zero, suc, pos, negsuc, Bool, true, false, not, All, List, [], Option, Some, None, length, ap, sym, refl, subst, arith, int_lt, if◌then◌else◌}
+use Rattle.std.proofs.Common.{◌≡◌, ◌∙◌, ◌≤◌, ◌*◌, ◌*ℤ◌, ℕ, ℤ, pos, negsuc, Bool, true, false, not, All, List, [], Option, Some, None, length, ap, sym, refl, subst, arith, int_lt, if◌then◌else◌}
 use Rattle.std.proofs.lemmas.Bool.Decides.{nat_tests}
 use Rattle.order_2d.specs.declared.starts.TheConstants.{MOST_INSTANCES}
 use Rattle.order_2d.specs.LogStarts.{IsOwnLog, log_columns, log_starts, nodes_of_columns}
@@ -7,7 +7,6 @@ use Rattle.pipe_model.specs.declared.column.Column.{Column}
 use Rattle.pipe_model.specs.declared.access.NodeAccess.{NodeAccess}
 use Rattle.pipe_model.specs.declared.event.Event.{Event}
 use Rattle.pipe_model.specs.declared.event.RunLog.{RunLog}
-use Rattle.pipe_model.specs.declared.report.Report.{Report}
 use Rattle.pipe_model.specs.Language.CheckingRules.{Fault, fault_of, first_limit_out, is_between, limit_fault_or}
 use Rattle.pipe_model.specs.Language.Programs.{natural}
 use Rattle.pipe_model.specs.Language.ProgramsOfTrees.{whole_of}
@@ -18,7 +17,7 @@ use Rattle.pipe_model.specs.Pipelines.WholePrograms.{WholeProgram, loop_after_in
 use Rattle.pipe_model.specs.Races.Columns.{IsNodeOf}
 use Rattle.pipe_model.specs.Races.Reports.{AreRight}
 use Rattle.pipe_model.specs.Runs.Run.{EmptyRun}
-use Rattle.pipe_model.specs.Runs.RunLogs.{accesses_after, column_of_frame, columns_after, state_after}
+use Rattle.pipe_model.specs.Runs.RunLogs.{accesses_after, columns_after, state_after}
 use Rattle.pipe_model.specs.Runs.State.{State, initial_state, own_columns}
 use Rattle.pipe_model.specs.Runs.WholeProgramRuns.{ProgramRun, NoLoop, OfLoop}
 use Rattle.program_laws.proofs.InstanceBounds.{starts_are_counted}
@@ -29,7 +28,7 @@ use Rattle.race_detection.specs.FoundReports.{found_reports}
 use Rattle.cilkp_program.proofs.InstanceCounts.{run_is_small}
 use Rattle.cilkp_program.proofs.SerialDags.{IsSerialLog, accesses_inside, given_log, nodes_of_frames, serial_log}
 use Rattle.cilkp_program.specs.RunReports.{run_reports}
-use Rattle.cilkp_program.specs.SerialResults.{elision_accesses, elision_columns, elision_log}
+use Rattle.cilkp_program.specs.SerialResults.{elision_accesses, elision_log}
 
 -- ---- how many instances an accepted program has
 

@@ -6,7 +6,7 @@ use Rattle.pipe_model.specs.Language.SourceRefusals.{IsAccepted}
 use Rattle.pipe_model.specs.Language.SyntaxTree.{SyntaxTree}
 use Rattle.pipe_io.specs.Faults.{CountRose}
 use Rattle.pipe_io.specs.Reads.{Content}
-use Rattle.cilkp_words.specs.Commands.{Command, Run}
+use Rattle.cilkp_words.specs.Commands.{Command}
 use Rattle.cilkp_program.proofs.Agreements.{agreed_status}
 use Rattle.program_laws.proofs.Headlines.{runs_meet_the_headline}
 use Rattle.pipe_model.specs.declared.trap.TrapAt.{TrapAt}

@@ -1,5 +1,5 @@
 -- The number of stage instances of the elision of a generated program.
-use Rattle.std.proofs.Common.{◌≡◌, ◌<◌, ◌≤◌, ◌∙◌, ◌+◌, ◌*◌, ℕ, ℤ, zero, suc, List, [], ◌∷◌, get_or, length, take, map, arith, ap, refl, subst, sym}
+use Rattle.std.proofs.Common.{◌≡◌, ◌<◌, ◌≤◌, ◌+◌, ◌*◌, ℕ, ℤ, zero, suc, List, [], ◌∷◌, get_or, length, take, arith, ap, subst}
 use Rattle.dag_build.specs.NodeColumns.{node_columns}
 use Rattle.grammar_laws.proofs.SourceRefusals.{one_accepted}
 use Rattle.pipe_gen.specs.Workload.{source_text}
@@ -10,7 +10,7 @@ use Rattle.pipe_model.specs.Language.ProgramsOfTrees.{whole_of}
 use Rattle.pipe_model.specs.Language.SourceRefusals.{IsAccepted}
 use Rattle.pipe_model.specs.Language.SyntaxTree.{SyntaxTree}
 use Rattle.pipe_model.specs.Pipelines.WholePrograms.{loop_traces}
-use Rattle.pipe_model.specs.Runs.RunLogs.{columns_after, state_after}
+use Rattle.pipe_model.specs.Runs.RunLogs.{state_after}
 use Rattle.pipe_model.specs.Runs.State.{State, own_columns}
 use Rattle.pipe_model.specs.Runs.WholeProgramRuns.{ProgramRun, NoLoop, OfLoop}
 use Rattle.program_laws.proofs.InstanceBounds.{program_instances_are_bounded}

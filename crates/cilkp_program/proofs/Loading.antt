@@ -1,5 +1,5 @@
 -- Loading a source and an input, from the result of reading a whole file.
-use Rattle.std.proofs.Common.{◌≡◌, ◌<◌, ℕ, List, [], length, Option, Some, None, Result, Ok, Err, IfOk, IfSome, refl, ap, sym, arith}
+use Rattle.std.proofs.Common.{◌≡◌, ◌<◌, ℕ, List, length, Option, Some, None, Result, Ok, Err, IfOk, IfSome, refl, ap, sym, arith}
 use Rattle.std.proofs.lemmas.List.{take_all}
 use Rattle.grammar_laws.proofs.SourceRefusals.{one_refusal}
 use Rattle.pipe_model.specs.declared.bounds.TheConstants.{LONGEST_SOURCE}

@@ -1,5 +1,5 @@
 -- What follows from the status of a result: its cause, and whether there is a run log.
-use Rattle.std.proofs.Common.{◌≡◌, ◌≢◌, ◌≤◌, ◌⊎◌, ◌↔◌, ℕ, Bool, List, Option, Some, None, true, false, refl, inl, inr, arith, []}
+use Rattle.std.proofs.Common.{◌≡◌, ◌≢◌, ◌≤◌, ◌⊎◌, ◌↔◌, ℕ, Bool, List, Option, Some, None, true, false, refl, inl, inr, arith}
 use Rattle.std.specs.Prelude.{is_some}
 use Rattle.pipe_model.specs.declared.event.RunLog.{RunLog}
 use Rattle.pipe_model.specs.declared.report.Report.{Report}

@@ -1,7 +1,6 @@
 -- Which row a call has.
 use Rattle.std.proofs.Common.{◌≡◌, ◌∙◌, ◌≤◌, ℕ, ℤ, true, false, List, [], Option, Some, None, Result, Ok, Err, IfOk, IfSome, refl, ap}
 use Rattle.std.specs.Prelude.{option_and_then}
-use Rattle.pipe_model.specs.declared.report.Report.{Report}
 use Rattle.pipe_model.specs.declared.memory.NoMemory.{NoMemory}
 use Rattle.pipe_model.specs.Language.CanonicalText.{program_text}
 use Rattle.pipe_model.specs.Language.SyntaxTree.{SyntaxTree, tree_of}

@@ -1,5 +1,5 @@
 -- The bound on the numbers of accessed cells.
-use Rattle.std.proofs.Common.{◌≡◌, ◌∙◌, ◌<◌, ◌≤◌, ◌+◌, ℕ, zero, suc, All, List, [], ◌∷◌, ◌++◌, get_or, length, take, ap, sym, arith, max}
+use Rattle.std.proofs.Common.{◌≡◌, ◌∙◌, ◌<◌, ◌+◌, ℕ, zero, suc, All, List, [], ◌∷◌, ◌++◌, get_or, length, take, ap, sym, arith, max}
 use Rattle.std.proofs.Math.Nat.{le-max_left, le-max_right, max-zero, zero-max}
 use Rattle.std.proofs.Math.Seq.{take-suc}
 use Rattle.pipe_model.specs.declared.access.NodeAccess.{NodeAccess}

@@ -1,5 +1,5 @@
 -- What the histories have found, as reports.
-use Rattle.std.proofs.Common.{◌≡◌, ◌≢◌, ◌∙◌, ◌<◌, ◌≤◌, ◌+◌, ℕ, zero, suc, List, [], ◌∷◌, ◌++◌, All, AllPairs, Contains, Result, Ok, Err, IfOk, ◌⊎◌, inl, inr, Option, Some, None, IfSome, get_or, length, map, ap, ap₂, refl, sym, subst, arith}
+use Rattle.std.proofs.Common.{◌≡◌, ◌≢◌, ◌∙◌, ◌<◌, ◌≤◌, ℕ, zero, suc, List, [], ◌∷◌, ◌++◌, All, AllPairs, Contains, Result, Ok, Err, IfOk, ◌⊎◌, inl, inr, Option, Some, None, IfSome, length, map, ap, ap₂, refl, sym, subst, arith}
 use Rattle.std.proofs.lemmas.List.{append-nil, get_or-map, length-map, map-append}
 use Rattle.std.proofs.lemmas.List.Elements.{All-append, All-cons}
 use Rattle.std.proofs.lemmas.List.Quantifiers.{all_pairs_push}
@@ -8,14 +8,13 @@ use Rattle.std.specs.List.Sorted.{IsPermutation}
 use Rattle.access_history.specs.declared.history.Found.{Found}
 use Rattle.access_history.specs.declared.history.History.{History}
 use Rattle.access_history.specs.KeptInstances.{report_of_race}
-use Rattle.order_2d.specs.LogStarts.{log_columns, log_starts, nodes_of_columns}
 use Rattle.pipe_model.specs.declared.memory.NoMemory.{NoMemory}
 use Rattle.pipe_model.specs.declared.access.CellId.{CellId}
 use Rattle.pipe_model.specs.declared.access.NodeAccess.{NodeAccess}
 use Rattle.pipe_model.specs.declared.node.Node.{Node}
 use Rattle.pipe_model.specs.declared.node.NodeId.{NodeId}
 use Rattle.pipe_model.specs.declared.report.Report.{Report}
-use Rattle.pipe_model.specs.Orders.AccessHistory.{FoundRace, found_race}
+use Rattle.pipe_model.specs.Orders.AccessHistory.{FoundRace}
 use Rattle.pipe_model.specs.Orders.HistoryRaces.{found_race_of_cell}
 use Rattle.pipe_model.specs.Orders.HistoryReports as reports
 use Rattle.pipe_model.specs.Orders.HistoryReports.{reports_below}
@@ -24,7 +23,7 @@ use Rattle.pipe_model.specs.Races.CellRaces.{NotedAccess, accesses_to}
 use Rattle.pipe_model.specs.Races.Reports.{RiseByCell}
 use Rattle.program_laws.proofs.HistoryFolds.{histories_are_states}
 use Rattle.race_report.specs.FoundReports.{IsFoundIn, report_found}
-use Rattle.race_detection.specs.NotedRuns.{HasNoted, HaveNoted, found_below, found_of, history_at}
+use Rattle.race_detection.specs.NotedRuns.{HaveNoted, found_below, found_of, history_at}
 
 -- ---- the cells of what was found
 

@@ -1,5 +1,5 @@
 -- The history of a cell whose kept instances have the marks of a run.
-use Rattle.std.proofs.Common.{◌≡◌, ◌≢◌, ◌∙◌, ◌<◌, ◌↔◌, ℕ, Bool, true, false, List, Option, Some, None, IfSome, inl, inr, ap, refl, sym, arith, [], ◌∷◌, ◌++◌, if◌then◌else◌}
+use Rattle.std.proofs.Common.{◌≡◌, ℕ, Bool, true, false, List, Option, Some, None, IfSome, inl, inr, refl, arith, [], ◌∷◌, ◌++◌, if◌then◌else◌}
 use Rattle.access_history.specs.declared.history.Found.{Found}
 use Rattle.access_history.specs.declared.history.History.{History}
 use Rattle.access_history.specs.declared.history.Verdict.{Verdict}
@@ -8,13 +8,12 @@ use Rattle.access_history.specs.declared.history.Who.{Who}
 use Rattle.access_history.specs.KeptInstances.{AgreeOn, AgreeOnKept, AllKept, IsEither, IsHistoryAfter, KeepsAmong, earlier_access, kept_of, node_of, report_after}
 use Rattle.pipe_model.specs.declared.access.AccessKind.{AccessKind}
 use Rattle.pipe_model.specs.declared.access.AccessKind.TheVariants.{Read, Write}
-use Rattle.pipe_model.specs.declared.marks.Marks.{Marks}
 use Rattle.pipe_model.specs.declared.node.Node.{Node}
 use Rattle.pipe_model.specs.declared.node.NodeId.{NodeId}
-use Rattle.pipe_model.specs.Orders.AccessHistory.{AccessHistory, check_access, is_ordered, race_with}
+use Rattle.pipe_model.specs.Orders.AccessHistory.{check_access, is_ordered, race_with}
 use Rattle.pipe_model.specs.Orders.OrderList.{list_of_log, place}
 use Rattle.pipe_model.specs.Orders.OrderMarks.{instance_marks}
-use Rattle.pipe_model.specs.Orders.TwoOrders.{down_element, down_first_log, down_place, right_element, right_first_log, right_place}
+use Rattle.pipe_model.specs.Orders.TwoOrders.{down_first_log, down_place, right_first_log, right_place}
 use Rattle.pipe_model.specs.Races.CellRaces.{NotedAccess, noted_access}
 use Rattle.pipe_model.specs.Races.Columns.{IsNodeOf}
 use Rattle.race_report.specs.FoundReports.{IsFoundIn}

@@ -1,5 +1,5 @@
 -- The histories of all cells after one more access, and after none.
-use Rattle.std.proofs.Common.{◌≡◌, ◌≢◌, ◌∙◌, ◌<◌, ◌≤◌, ◌+◌, ◌==◌, ℕ, pos, zero, suc, Bool, true, false, List, [], ◌∷◌, ◌++◌, get_or, take, length, slice_set, ap, refl, sym, subst, arith, inl, inr, if◌then◌else◌}
+use Rattle.std.proofs.Common.{◌≡◌, ◌≢◌, ◌∙◌, ◌<◌, ◌+◌, ◌==◌, ℕ, pos, zero, suc, Bool, true, false, List, [], ◌∷◌, ◌++◌, get_or, take, length, slice_set, ap, refl, sym, subst, arith, inl, inr, if◌then◌else◌}
 use Rattle.std.proofs.lemmas.Bool.{cases_lt}
 use Rattle.std.proofs.lemmas.Bool.Decides.{nat_tests}
 use Rattle.std.proofs.lemmas.List.{length-append}

@@ -1,5 +1,5 @@
 -- What a replay gives of a run: its lists, and the marks of its instances.
-use Rattle.std.proofs.Common.{◌≡◌, ◌∙◌, ◌↔◌, ◌<◌, ◌==◌, ◌&&◌, ℕ, suc, Bool, true, false, All, List, [], ◌∷◌, get_or, if◌then◌else◌, refl, length, map, ap, sym, subst, arith}
+use Rattle.std.proofs.Common.{◌≡◌, ◌∙◌, ◌↔◌, ◌<◌, ◌==◌, ◌&&◌, ℕ, suc, Bool, true, false, All, List, [], ◌∷◌, get_or, if◌then◌else◌, refl, length, ap, sym, subst, arith}
 use Rattle.std.proofs.lemmas.Bool.Decides.{nat_tests}
 use Rattle.std.proofs.lemmas.List.{get_or-map, length-map}
 use Rattle.order_2d.specs.declared.replay.Replayed.{Replayed}

@@ -1,11 +1,9 @@
 -- The control part of a run has the columns and the starts of the run, so the reports of its histories are those of the run.
-use Rattle.std.proofs.Common.{◌≡◌, ◌∙◌, ◌≤◌, ℕ, Bool, true, false, List, [], ◌∷◌, ◌++◌, ap, sym, refl, append-nil, append_assoc, length, if◌then◌else◌}
+use Rattle.std.proofs.Common.{◌≡◌, ◌∙◌, ℕ, Bool, true, false, List, [], ◌∷◌, ◌++◌, ap, sym, refl, append-nil, append_assoc, length, if◌then◌else◌}
 use Rattle.order_2d.proofs.EventsSoFar.{without-append}
 use Rattle.order_2d.specs.LogStarts.{IsControlLog, log_columns, log_starts}
 use Rattle.pipe_model.specs.declared.event.Event.{Event}
 use Rattle.pipe_model.specs.declared.event.Event.TheVariants.{Begin, Access, Advance, Enter, Finish, Stop}
-use Rattle.pipe_model.specs.declared.node.Node.{Node}
-use Rattle.pipe_model.specs.declared.node.NodeId.{NodeId}
 use Rattle.pipe_model.specs.Orders.Starts.{started_by, starts_from, starts_of}
 use Rattle.pipe_model.specs.Pipelines.Pipeline.{Pipeline}
 use Rattle.pipe_model.specs.Races.Columns.{at, nodes_at}

@@ -1,4 +1,4 @@
-use Rattle.std.proofs.Common.{arith, rules}
+use Rattle.std.proofs.Common.{arith}
 use Rattle.race_detection.proofs.CellBounds.{bound_grown}
 use Rattle.race_detection.proofs.detect.cell_bound.Goals.{then-bound-cell, else-bound-cell}
 use Rattle.race_detection.proofs.detect.cell_bound.Goals as goal

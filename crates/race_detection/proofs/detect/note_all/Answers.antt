@@ -1,4 +1,4 @@
-use Rattle.std.proofs.Common.{◌≡◌, ◌∙◌, ◌<◌, ◌+◌, arith, get_or, length, subst, sym, take}
+use Rattle.std.proofs.Common.{◌∙◌, ◌<◌, arith, get_or, length, subst, sym, take}
 use Rattle.order_2d.specs.LogStarts.{nodes_of_columns}
 use Rattle.pipe_model.specs.declared.access.NodeAccess.{NodeAccess}
 use Rattle.pipe_model.specs.Races.CellRaces.{accesses_to}

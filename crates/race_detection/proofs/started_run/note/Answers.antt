@@ -1,7 +1,6 @@
-use Rattle.std.proofs.Common.{◌≡◌, ◌∙◌, ap, List, ℕ}
+use Rattle.std.proofs.Common.{◌∙◌, ap}
 use Rattle.order_2d.specs.LogStarts.{nodes_of_columns}
 use Rattle.pipe_model.specs.Orders.OrderList.{list_of_log}
-use Rattle.race_detection.specs.NotedRuns.{IsMarked}
 use Rattle.race_detection.proofs.MarkedHistories.{marked_as, noted_again}
 use Rattle.race_detection.proofs.started_run.note.Goals as goal
 
