@@ -12,6 +12,8 @@ mod language_rows;
 pub mod law;
 pub mod load;
 pub mod program_run;
+#[cfg(test)]
+mod race_rows;
 pub mod refusal;
 #[cfg(test)]
 mod refusal_tests;

@@ -1,0 +1,118 @@
+// Races by `run` and by `serial`, which report the same cells, and long runs.
+
+use crate::cases::{Case, source};
+use pipe_model::access::CellId;
+use pipe_model::memory::NoMemory;
+use std::alloc::Global;
+use std::test::Fail;
+
+// What iterations do in stage 0, and then in later stages.
+const FIRST_STAGES: [&str; 5] = [
+    "",
+    "let t = c;",
+    "c = c + 1;",
+    "d = 1;",
+    "let t = c; d = t;",
+];
+
+const STAGE_STATEMENTS: [&str; 2] = ["pipe_wait(1);", "pipe_continue(1);"];
+
+const LATER_STAGES: [&str; 5] = [
+    "let u = c;",
+    "c = 2;",
+    "let u = d; c = u;",
+    "emit c;",
+    "d = c; pipe_continue(2); c = 3;",
+];
+
+const PIPELINE: &str =
+    "cell sum = 0; pipe_while (more()) { let x = take(); pipe_continue(1); let a = x * 2; pipe_continue(2); a = a + 1; pipe_continue(3); a = a * a; pipe_continue(4); let b = a; pipe_wait(5); sum = sum + b; } final { emit sum; }";
+
+// The cells that a call reports.
+fn reported_cells(alloc: Global, case: Case<'_>) -> Result<Vec<CellId>, NoMemory> {
+    let (ended, _) = case.run(alloc)?;
+    let mut cells = Vec::new(alloc);
+    for report in ended.reports.as_slice() {
+        cells.push(report.cell)?;
+    }
+    Ok(cells)
+}
+
+// Fails the test unless `run` and `serial` report the same cells.
+fn check_cells(alloc: Global, body: &str) -> Result<(), Fail> {
+    let source = source(alloc, [4, 3, 50, 4], body)?;
+    let by_run = reported_cells(alloc, Case::of(source.as_bytes()))?;
+    let by_serial = reported_cells(alloc, Case::serial(source.as_bytes()))?;
+    if by_run.as_slice() != by_serial.as_slice() {
+        return Err(Fail::new(format_args!("{body}: other cells")));
+    }
+    Ok(())
+}
+
+// Fifty programs: each first stage, each stage statement, and each end.
+fn same_cells(alloc: Global) -> Result<(), Fail> {
+    for first in FIRST_STAGES {
+        for stage in STAGE_STATEMENTS {
+            for later in LATER_STAGES {
+                let body = format!(in alloc;
+                    "cell n = 0; cell c = 0; cell d = 0; pipe_while (n < 3) {{ n = n + 1; {first} {stage} {later} }}"
+                )?;
+                check_cells(alloc, body.as_str())?;
+            }
+        }
+    }
+    Ok(())
+}
+
+// A cell that is written twice before it is read: the histories name the last write, and the
+// explicit search the first.
+fn other_accesses(alloc: Global) -> Result<(), Fail> {
+    let source = source(
+        alloc,
+        [2, 3, 50, 0],
+        "cell n = 0; cell c = 0; pipe_while (n < 2) { n = n + 1; let t = c; pipe_continue(1); c = 1; pipe_continue(2); c = 2; }",
+    )?;
+    Case::of(source.as_bytes()).check(alloc, "run", 2, "race c write 0/2 read 1/0\n")?;
+    Case::serial(source.as_bytes()).check(alloc, "serial", 2, "race c write 0/1 read 1/0\n")?;
+    Ok(())
+}
+
+// A thousand items through six stages.
+fn long_runs(alloc: Global) -> Result<(), Fail> {
+    let source = source(alloc, [1000, 6, 100, 1], PIPELINE)?;
+    let mut input = String::new(alloc);
+    for number in 1..1001 {
+        writeln!(input, "{number}")?;
+    }
+    let run = Case {
+        words: &[
+            "run",
+            "a.pipe",
+            "a.in",
+            "--workers",
+            "8",
+            "--throttle",
+            "32",
+        ],
+        input: input.as_bytes(),
+        ..Case::of(source.as_bytes())
+    };
+    run.check(alloc, "run", 0, "1337337000\n")?;
+    let bench = Case {
+        words: &["bench", "--seed", "1", "--size", "1000"],
+        ..Case::of(b"")
+    };
+    bench.check(
+        alloc,
+        "bench",
+        0,
+        "items 1000\ninstances 6001\nworkers 1 last 459974\nworkers 8 last 459974\n",
+    )
+}
+
+#[test]
+fn races_by_histories(rt: HostRuntime) -> Result<(), Fail> {
+    same_cells(rt.alloc())?;
+    other_accesses(rt.alloc())?;
+    long_runs(rt.alloc())
+}
