@@ -31,7 +31,7 @@ events_before events n = without_accesses (take n events)
 abbrev pub state_before : List Event → ℕ → State
 state_before events n = state_from initial_state (events_before events n)
 
-without-append : (xs ys : List Event) → without_accesses (xs ++ ys) ≡ without_accesses xs ++ without_accesses ys
+pub without-append : (xs ys : List Event) → without_accesses (xs ++ ys) ≡ without_accesses xs ++ without_accesses ys
 without-append [] ys = refl
 without-append (x ∷ xs) ys = by_test (is_access x) (without-append xs ys)
   where

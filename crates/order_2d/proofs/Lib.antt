@@ -4,4 +4,5 @@ pub mod LeftParentSearch
 pub mod ListsSoFar
 pub mod OwnLogs
 pub mod ParentMarks
+pub mod PlacedMarks
 pub mod RowsSoFar

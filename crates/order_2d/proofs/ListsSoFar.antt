@@ -26,7 +26,7 @@ log_entries-push taken m (y ∷ xs) x =
     ap (λ es. taken y.iteration y.index ∷ first_placeholder m ∷ es) (log_entries-push taken (m + 1) xs x
     ∙ ap (λ k. log_entries taken (m + 1) xs ++ taken x.iteration x.index ∷ first_placeholder k ∷ []) e)
 
-length-log_entries : (taken : ℕ → ℕ → ℕ) (m : ℕ) (xs : List NodeId) → length (log_entries taken m xs) ≡ 2 * length xs
+pub length-log_entries : (taken : ℕ → ℕ → ℕ) (m : ℕ) (xs : List NodeId) → length (log_entries taken m xs) ≡ 2 * length xs
 length-log_entries taken m [] = refl
 length-log_entries taken m (x ∷ xs) = let rest = length-log_entries taken (m + 1) xs in omega (arith, rest)
 

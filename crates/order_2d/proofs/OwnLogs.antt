@@ -33,7 +33,7 @@ no_nodes_rise : (nodes : List Node) → length nodes ≡ 0 → IsRising nodes
 no_nodes_rise nodes none = record { rises = λ j k l w. absurd (omega (arith, none, w)) }
 
 -- the stage numbers of each column rise
-own_rising : (events : List Event) → IsControlLog events → (i : ℕ) → IsRising (nodes_at (log_columns events) i)
+pub own_rising : (events : List Event) → IsControlLog events → (i : ℕ) → IsRising (nodes_at (log_columns events) i)
 own_rising events h i =
     let frames : List Frame = (control_after events).frames in
     elim (cases_lt i (length frames)) [
@@ -57,7 +57,7 @@ own_short events h few i =
       | inr none ↦ omega (arith, none)
     ]
 
-same_columns : (log : RunLog) → IsOwnLog log → (columns : List Column) → columns ≡ log.columns
+pub same_columns : (log : RunLog) → IsOwnLog log → (columns : List Column) → columns ≡ log.columns
     → nodes_of_columns columns ≡ log_columns log.events
 same_columns log own columns same = ap nodes_of_columns same ∙ own.columns
 

@@ -1,10 +1,12 @@
 //! The two orders of a run that has been logged.
 
-ghost use Rattle.std.specs.Prelude.{◌≡◌, ◌↔◌, ◌<◌, ◌≤◌, ◌+◌, ◌*◌, ◌++◌, ◌∷◌, [], IfOk, OnOk, length, slice_set};
+ghost use Rattle.std.specs.Prelude.{◌≡◌, ◌↔◌, ◌<◌, ◌≤◌, ◌+◌, ◌*◌, ◌++◌, ◌∷◌, [], All, IfOk, OnOk, length, slice_set};
 ghost use Rattle.order_2d.specs.LogStarts.{IsOwnLog, log_columns, log_starts, nodes_of_columns};
 ghost use Rattle.order_2d.specs.OrderPairs.{AreInserted, HasRoom, down_taken, marks_after, right_taken, with_start};
 ghost use Rattle.order_2d.specs.ReplayedOrders.{OrdersArePrecedes, marks_of_starts};
 ghost use Rattle.order_2d.specs.StartedNodes.{CanReplay, HasLists, HasStarted, no_rows, row_at, started_node};
+ghost use Rattle.pipe_model.specs.Orders.GrowingLists.{AreIn};
+ghost use Rattle.pipe_model.specs.Orders.OrderList.{list_of_log};
 ghost use Rattle.pipe_model.specs.Orders.Starts.{IsStarted, start_at};
 ghost use Rattle.pipe_model.specs.Orders.TwoOrders.{down_first_log, right_first_log};
 ghost use Rattle.pipe_model.specs.Races.Columns.{IsNodeOf};
@@ -140,6 +142,7 @@ pub fn replay(alloc: Global, run_log: &RunLog) -> Result<Replayed, NoMemory>
     ensures right { IfOk result (λ r. r.orders.right.log ≡ right_first_log (log_columns run_log.now.events) (log_starts run_log.now.events)) }
     ensures marks { IfOk result (λ r. r.marks.items ≡ marks_of_starts (log_columns run_log.now.events) (log_starts run_log.now.events)
         (log_starts run_log.now.events)) }
+    ensures placed { IfOk result (λ r. All (AreIn (list_of_log r.orders.down.log) (list_of_log r.orders.right.log)) r.marks.items) }
     ensures instances { IfOk result (λ r. (x : PlainNodeId) → IsStarted r.nodes x ↔ IsNodeOf (log_columns run_log.now.events) x) }
     ensures orders { IfOk result (λ r. OrdersArePrecedes (log_columns run_log.now.events) r.nodes r.marks.items r.orders) }
 {

@@ -1,0 +1,2 @@
+pub mod OwnStarts
+pub mod PlayedEvents

@@ -1,0 +1,7 @@
+-- The events so far are a run.
+use Rattle.order_tests.specs.Plays.{IsPlayed}
+use Rattle.order_tests.specs.declared.plays.TheConstants.{MOST_ITERATIONS}
+use Rattle.order_tests.proofs.plays.make_event.Given as goal
+
+abbrev pub invariant-loop-k : goal.invariant-loop-k
+invariant-loop-k l = IsPlayed MOST_ITERATIONS l.play.events l.play.columns.items l.play.statuses.items
