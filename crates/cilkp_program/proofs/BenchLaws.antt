@@ -74,20 +74,20 @@ pub count_is_bounded : (seed size : ℕ) (tree : SyntaxTree) (numbers : List ℤ
 count_is_bounded seed size tree numbers log some few generated is =
     rw (is, instances_of_log tree numbers) (elision_is_small size tree numbers some few generated.program)
 
--- the summary of the counted instances and the last numbers of two runs
-pub summary_made : (seed size : ℕ) (tree : SyntaxTree) (numbers : List ℤ) (items instances : ℕ) (log : RunLog) (with_one with_eight : List ℤ)
+-- the summary of the counted instances, and of the workers and the last numbers of two runs
+pub summary_made : (seed size : ℕ) (tree : SyntaxTree) (numbers : List ℤ) (items instances : ℕ) (log : RunLog) (one eight : ℕ) (with_one with_eight : List ℤ)
     (made : Result (List ℕ) NoMemory)
     → IsGenerated seed size tree numbers → items ≡ length numbers → log ≡ elision_log tree numbers → instances ≡ instances_in (node_columns log.columns)
-    → with_one ≡ elision_output tree numbers → with_eight ≡ elision_output tree numbers
-    → IfOk made (λ text. text ≡ summary_text items instances (last_or_zero with_one) (last_or_zero with_eight))
+    → one ≡ 1 → eight ≡ 8 → with_one ≡ elision_output tree numbers → with_eight ≡ elision_output tree numbers
+    → IfOk made (λ text. text ≡ summary_text items instances one (last_or_zero with_one) eight (last_or_zero with_eight))
     → IfOk made (λ text. (other : SyntaxTree) (others : List ℤ) → IsGenerated seed size other others → text ≡ elision_summary other others)
-summary_made seed size tree numbers items instances log with_one with_eight (Ok text) generated i l n o e is = λ other others g.
+summary_made seed size tree numbers items instances log one eight with_one with_eight (Ok text) generated i l n w v o e is = λ other others g.
     same_summary seed size tree other numbers others text generated
-    (is ∙ λ k. summary_text (i k) (counted k) (last_or_zero (o k)) (last_or_zero (e k))) g
+    (is ∙ λ k. summary_text (i k) (counted k) (w k) (last_or_zero (o k)) (v k) (last_or_zero (e k))) g
   where
     counted : instances ≡ instances_in (elision_columns tree numbers)
     counted = n ∙ ap (λ x. instances_in (node_columns x.columns)) l ∙ instances_of_log tree numbers
-summary_made seed size tree numbers items instances log with_one with_eight (Err m) generated i l n o e is = is
+summary_made seed size tree numbers items instances log one eight with_one with_eight (Err m) generated i l n w v o e is = is
 
 -- ---- the result of a call
 

@@ -14,6 +14,7 @@ use Rattle.pipe_model.specs.Races.Reports.{AreRight}
 use Rattle.pipe_model.specs.Runs.RunLogs.{accesses_after, columns_after}
 use Rattle.pipe_model.specs.Texts.{output_lines, trap_lines}
 use Rattle.cilkp_program.proofs.DetectedRaces.{detectable}
+use Rattle.cilkp_program.proofs.GreaterLimits.{meets_more}
 use Rattle.cilkp_program.specs.RunReports.{run_reports}
 use Rattle.cilkp_program.specs.RunTexts.{IsPrintedAs, WithRaces, ToItsEnd, WithTrap}
 use Rattle.cilkp_program.proofs.OneCommand.{no_command, one_limit, run_is_not_bench, run_is_not_format, run_is_not_serial}
@@ -98,8 +99,8 @@ accepted_row tree numbers limit a s i (InputRefused input other w o r) = absurd 
 accepted_row tree numbers limit a s i (Runs source input workers throttle log other others w o m found) =
     let same : other ≡ tree = one_source other tree o.program (rw (← s) a.program) in
     let also : others ≡ numbers = one_input others numbers o.read (rw (← i) a.read) in
-    let bound : throttle ≡ limit = one_limit w a.command in
-    record { log = log; logged = refl; meets = rw (← same, ← also, ← bound) m }
+    let bound : throttle ≡ a.throttle = one_limit w a.command in
+    record { log = log; logged = refl; meets = meets_more (rw (← bound) a.within) (rw (← same, ← also) m) }
 accepted_row tree numbers limit a s i (RunsSerially source input other others w o r) = absurd (run_is_not_serial a.command w)
 
 -- the result of a call that runs an accepted program, if no read failed

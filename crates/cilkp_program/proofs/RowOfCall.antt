@@ -135,26 +135,26 @@ files_ready holds later before mid now source input checked numbers keeps same s
 -- ---- a program that is run
 
 -- by `run`, with the run log
-pub result_of_run : (holds : Option Content) (before now : ℕ) (source input : List ℕ) (tree : SyntaxTree) (numbers : List ℤ)
+pub result_of_run : (holds : Option Content) (before now : ℕ) (source input : List ℕ) (workers : ℕ) (tree : SyntaxTree) (numbers : List ℤ)
     (r : Result CommandResult NoMemory)
     → AreReady holds before now source input tree numbers
     → IfOk r (λ a. (limit : ℕ) → 1 ≤ limit → MeetsHeadline tree numbers limit (elision_log tree numbers) a.reports a.status a.text)
     → IfOk r (λ a. a.run_log ≡ Some (elision_log tree numbers)) → IfOk r (λ a. a.reports ≡ run_reports (elision_log tree numbers))
-    → IfOk r (λ a. (workers throttle : ℕ) → 1 ≤ throttle
+    → IfOk r (λ a. (throttle : ℕ) → 1 ≤ throttle
     → IsCallResult (Some (Run source input workers throttle)) holds before now a.status a.text a.run_log a.reports)
-result_of_run holds before now source input tree numbers (Ok a) ready meets log found = λ workers throttle room. rw log (OfRow ready.calm (record {
+result_of_run holds before now source input workers tree numbers (Ok a) ready meets log found = λ throttle room. rw log (OfRow ready.calm (record {
   held = ready.held;
   known = files_known _ holds source input _ refl refl ready.source_known ready.input_known;
   row = Runs source input workers throttle (elision_log tree numbers) tree numbers refl ready.accepted (meets throttle room) found;
 }))
-result_of_run holds before now source input tree numbers (Err m) ready meets log found = log
+result_of_run holds before now source input workers tree numbers (Err m) ready meets log found = log
 
--- for each number of workers and each throttling limit
+-- for each throttling limit
 pub result_with_options : (holds : Option Content) (before now : ℕ) (source input : List ℕ) (r : Result CommandResult NoMemory) (workers throttle : ℕ)
-    → 1 ≤ throttle → IfOk r (λ a. (workers throttle : ℕ) → 1 ≤ throttle
+    → 1 ≤ throttle → IfOk r (λ a. (throttle : ℕ) → 1 ≤ throttle
     → IsCallResult (Some (Run source input workers throttle)) holds before now a.status a.text a.run_log a.reports)
     → IfOk r (λ a. IsCallResult (Some (Run source input workers throttle)) holds before now a.status a.text a.run_log a.reports)
-result_with_options holds before now source input (Ok a) workers throttle room h = h workers throttle room
+result_with_options holds before now source input (Ok a) workers throttle room h = h throttle room
 result_with_options holds before now source input (Err m) workers throttle room h = h
 
 -- by `serial`, without it

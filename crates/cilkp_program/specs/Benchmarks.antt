@@ -22,15 +22,16 @@ number_or_zero (Some number) = number
 abbrev pub last_or_zero : List ℤ → ℤ
 last_or_zero numbers = number_or_zero (slice_get numbers (length numbers - 1))
 
--- the four lines of a summary
-abbrev pub summary_text : (items instances : ℕ) (last_with_one last_with_eight : ℤ) → List ℕ
-summary_text items instances last_with_one last_with_eight =
+-- the four lines of a summary: the items, the stage instances, and the workers and the last number of each of two runs
+abbrev pub summary_text : (items instances workers : ℕ) (last : ℤ) (other_workers : ℕ) (other_last : ℤ) → List ℕ
+summary_text items instances workers last other_workers other_last =
     codes "items " ++ (decimal items ++ (codes "\ninstances " ++ (decimal instances
-    ++ (codes "\nworkers 1 last " ++ (signed_decimal last_with_one ++ (codes "\nworkers 8 last " ++ (signed_decimal last_with_eight ++ codes "\n")))))))
+    ++ (codes "\nworkers " ++ (decimal workers ++ (codes " last " ++ (signed_decimal last
+    ++ (codes "\nworkers " ++ (decimal other_workers ++ (codes " last " ++ (signed_decimal other_last ++ codes "\n")))))))))))
 
 -- the summary of a program and its input: its items, the stage instances of its serial elision, and the last number of the elision's output, or 0, for
--- both runs
+-- a run with 1 worker and one with 8
 abbrev pub elision_summary : SyntaxTree → List ℤ → List ℕ
 elision_summary tree numbers =
-    summary_text (length numbers) (instances_in (elision_columns tree numbers)) (last_or_zero (elision_output tree numbers))
-    (last_or_zero (elision_output tree numbers))
+    summary_text (length numbers) (instances_in (elision_columns tree numbers)) 1 (last_or_zero (elision_output tree numbers))
+    8 (last_or_zero (elision_output tree numbers))

@@ -1,5 +1,5 @@
--- The headline: what a call guarantees for an accepted program, its input and its throttling limit.
-use Rattle.std.specs.Prelude.{◌≡◌, ◌≢◌, ◌⊎◌, ◌↔◌, ◌++◌, ℕ, ℤ, List, [], length, Option, Some, None}
+-- The headline: what a call guarantees for an accepted program, its input, and every limit from its throttling limit on.
+use Rattle.std.specs.Prelude.{◌≡◌, ◌≢◌, ◌≤◌, ◌⊎◌, ◌↔◌, ◌++◌, ℕ, ℤ, List, [], length, Option, Some, None}
 use Rattle.pipe_model.specs.declared.event.RunLog.{RunLog}
 use Rattle.pipe_model.specs.declared.report.Report.{Report}
 use Rattle.pipe_model.specs.Language.ProgramsOfTrees.{whole_of}
@@ -16,12 +16,15 @@ use Rattle.cilkp_program.specs.ProgramFiles.{IsInputOf, IsSourceOf}
 use Rattle.cilkp_program.specs.SerialResults.{ElisionHasNoRace, elision_output_text, elision_trap}
 use Rattle.cilkp_words.specs.Commands.{Command, Run}
 
--- the command is `run` with a source that is accepted as the program, an input of these numbers, any number of workers, and this throttling limit
+-- the command is `run` with a source that is accepted as the program, an input of these numbers, any number of workers, and a throttling limit of at most
+-- `limit`
 pub record IsToRun (asked : Option Command) (content : Content) (tree : SyntaxTree) (numbers : List ℤ) (limit : ℕ) : Type 0 where
   pub source : List ℕ
   pub input : List ℕ
   pub workers : ℕ
-  pub command : asked ≡ Some (Run source input workers limit)
+  pub throttle : ℕ
+  pub command : asked ≡ Some (Run source input workers throttle)
+  pub within : throttle ≤ limit
   pub program : IsSourceOf (content source) tree
   pub read : IsInputOf (content input) numbers
 

@@ -7,7 +7,7 @@ ghost use Rattle.pipe_model.specs.Language.SyntaxTree.{SyntaxTree, tree_of};
 ghost use Rattle.cilkp_program.specs.Benchmarks.{IsGenerated, elision_summary, last_or_zero, summary_text};
 
 use crate::load::{Input, Source, input_of, source_of};
-use crate::program_run::{instance_count, run_program};
+use crate::program_run::{FinishedRun, instance_count, run_program};
 use pipe_check::checked::Checked;
 use pipe_gen::workload::generate;
 use pipe_model::list::{Bytes, Numbers};
@@ -41,19 +41,21 @@ fn last_number(numbers: &Numbers) -> i64
     }
 }
 
-// The lines of a summary, by the outputs of both runs.
+// The lines of a summary, by the workers and the outputs of both runs.
 fn summary_text(
     alloc: Global,
     items: usize,
     instances: u64,
-    with_one: &Numbers,
-    with_eight: &Numbers,
+    run: &FinishedRun,
+    other: &FinishedRun,
 ) -> Result<Bytes, NoMemory>
-    ensures { IfOk result (λ text. text ≡ summary_text items instances (last_or_zero with_one.now) (last_or_zero with_eight.now)) }
+    ensures { IfOk result (λ text. text ≡ summary_text items instances run.now.workers (last_or_zero run.now.output)
+        other.now.workers (last_or_zero other.now.output)) }
 {
-    let (one, eight) = (last_number(with_one), last_number(with_eight));
+    let (workers, last) = (run.workers, last_number(&run.output));
+    let (more, other_last) = (other.workers, last_number(&other.output));
     let text = format!(in alloc;
-        "items {items}\ninstances {instances}\nworkers 1 last {one}\nworkers 8 last {eight}\n"
+        "items {items}\ninstances {instances}\nworkers {workers} last {last}\nworkers {more} last {other_last}\n"
     )?;
     Ok(Bytes::from_vec(text.into_bytes()))
 }
@@ -67,13 +69,13 @@ pub fn bench(alloc: Global, seed: u32, size: u32) -> Result<Bytes, NoMemory>
         → text ≡ elision_summary tree numbers) }
 {
     let (program, numbers) = generated_program(alloc, seed, size)?;
-    let with_one = run_program(alloc, &program, &numbers)?;
-    let with_eight = run_program(alloc, &program, &numbers)?;
+    let with_one = run_program(alloc, &program, &numbers, 1)?;
+    let with_eight = run_program(alloc, &program, &numbers, 8)?;
     summary_text(
         alloc,
         numbers.len(),
         instance_count(&with_one.run_log.columns),
-        &with_one.output,
-        &with_eight.output,
+        &with_one,
+        &with_eight,
     )
 }

@@ -83,14 +83,19 @@ enum Prepared {
 }
 
 // The status, text, log and reports of the program's run.
-fn run_result(alloc: Global, checked: &Checked, input: &Numbers) -> Result<CommandResult, NoMemory>
+fn run_result(
+    alloc: Global,
+    checked: &Checked,
+    input: &Numbers,
+    workers: u32,
+) -> Result<CommandResult, NoMemory>
     requires { (source : List ℕ) × IsAccepted source (tree_of checked.now) }
     ensures log { IfOk result (λ a. a.run_log ≡ Some (elision_log (tree_of checked.now) input.now)) }
     ensures meets { IfOk result (λ a. (limit : ℕ) → 1 ≤ limit →
         MeetsHeadline (tree_of checked.now) input.now limit (elision_log (tree_of checked.now) input.now) a.reports a.status a.text) }
     ensures found { IfOk result (λ a. a.reports ≡ run_reports (elision_log (tree_of checked.now) input.now)) }
 {
-    let run = run_program(alloc, checked, input)?;
+    let run = run_program(alloc, checked, input, workers)?;
     let (status, text) = printed_run(alloc, checked, &run)?;
     Ok(CommandResult {
         status,
@@ -178,22 +183,23 @@ fn prepare<F: Files>(
     }
 }
 
-// The result of `run SOURCE INPUT`, which is the same for all numbers of workers and all throttling
+// The result of `run SOURCE INPUT` with this number of workers, which is the same for all throttling
 // limits, since the run is serial.
 fn execute_run<F: Files>(
     alloc: Global,
     files: &mut F,
     source: &str,
     input: &str,
+    workers: u32,
 ) -> Result<CommandResult, NoMemory>
     ensures keeps { F.holds files.new ≡ F.holds files.old }
     ensures grows { OnErr result (F.faults files.old ≤ F.faults files.new) }
-    ensures outcome { IfOk result (λ a. (workers throttle : ℕ) → 1 ≤ throttle →
+    ensures outcome { IfOk result (λ a. (throttle : ℕ) → 1 ≤ throttle →
         IsCallResult (Some (Run source.now input.now workers throttle)) (F.holds files.old)
         (F.faults files.old) (F.faults files.new) a.status a.text a.run_log a.reports) }
 {
     match prepare(alloc, files, source, input)? {
-        Prepared::Ready(program, numbers) => run_result(alloc, &program, &numbers),
+        Prepared::Ready(program, numbers) => run_result(alloc, &program, &numbers, workers),
         Prepared::Decided(outcome) => Ok(outcome),
     }
 }
@@ -260,7 +266,12 @@ fn execute_command<F: Files>(
         (F.faults files.old) (F.faults files.new) a.status a.text a.run_log a.reports) }
 {
     match command {
-        Command::Run { source, input, .. } => execute_run(alloc, files, source, input),
+        Command::Run {
+            source,
+            input,
+            workers,
+            ..
+        } => execute_run(alloc, files, source, input, workers),
         Command::Serial { source, input } => execute_serial(alloc, files, source, input),
         Command::Format { source } => execute_format(alloc, files, source),
         Command::Bench { seed, size } => execute_bench(alloc, seed, size),
@@ -300,8 +311,8 @@ pub fn cilkp<R: Drop, F: Files, S: Sink, G: Gate + Sync>(
     out: &mut S,
     _gate: &G,
 ) -> Result<Ended, NoMemory>
-    // The headline: for every accepted program, input, number of workers and throttling limit, if the
-    // files' content is known and neither count of faults rises, a call that returns `Ok` reports a
+    // The headline: for every accepted program, input, number of workers and limit from the throttling
+    // limit of the command on, if the files' content is known and neither count of faults rises, a call that returns `Ok` reports a
     // cell exactly when the run's own dag has two parallel conflicting accesses to it, reports some
     // cell exactly when the serial elision's dag has such a pair, and otherwise prints exactly the
     // serial elision's output and trap; at most the throttling limit of iterations are alive at any

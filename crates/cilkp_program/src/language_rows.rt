@@ -534,7 +534,14 @@ const ROWS: [Row; 45] = [
 ];
 
 // Pipelines whose stages depend on the iteration, `init`, `final` and traps, by `run` and by `serial`.
-const PIPELINES: [Row; 16] = [
+const PIPELINES: [Row; 17] = [
+    // Stage 1 reads the counter, which stage 0 of the next iteration writes.
+    (
+        [8, 4, 100, 8],
+        "cell n = 0; cell s = 0; pipe_while (n < 3) { n = n + 1; let t = n; pipe_wait(1); s = s + n; emit s; }",
+        2,
+        "race n read 0/1 write 1/0\n",
+    ),
     // Stage numbers that depend on the iteration.
     (
         [4, 3, 50, 4],

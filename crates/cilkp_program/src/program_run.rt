@@ -40,6 +40,8 @@ pub const MOST_INSTANCES: u64 = 1_000_000;
 /// A finished run of a program.
 #[derive(Drop)]
 pub struct FinishedRun {
+    /// The number of workers that were asked for.
+    pub workers: u32,
     /// The emitted numbers, in order.
     pub output: Numbers,
     /// The trap, if the program trapped.
@@ -66,8 +68,10 @@ pub fn run_program(
     alloc: Global,
     checked: &Checked,
     input: &Numbers,
+    workers: u32,
 ) -> Result<FinishedRun, NoMemory>
     requires { (source : List ℕ) × IsAccepted source (tree_of checked.now) }
+    ensures workers { IfOk result (λ r. r.workers ≡ workers) }
     ensures output { IfOk result (λ r. r.output ≡ elision_output (tree_of checked.now) input.now) }
     ensures trap { IfOk result (λ r. r.trap ≡ elision_trap (tree_of checked.now) input.now) }
     ensures log { IfOk result (λ r. r.run_log ≡ elision_log (tree_of checked.now) input.now) }
@@ -83,6 +87,7 @@ pub fn run_program(
     let run_log = RunLog { columns, events };
     let reports = detect(alloc, &run_log, &accesses)?;
     Ok(FinishedRun {
+        workers,
         output,
         trap,
         run_log,
@@ -112,6 +117,7 @@ pub fn run_elision(
     } = elide(alloc, checked, input)?;
     let races = Dag::of(alloc, &columns)?.races(alloc, &accesses)?;
     Ok(FinishedRun {
+        workers: 1,
         output,
         trap,
         run_log: RunLog { columns, events },

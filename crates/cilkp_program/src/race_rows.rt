@@ -28,6 +28,10 @@ const LATER_STAGES: [&str; 5] = [
 const PIPELINE: &str =
     "cell sum = 0; pipe_while (more()) { let x = take(); pipe_continue(1); let a = x * 2; pipe_continue(2); a = a + 1; pipe_continue(3); a = a * a; pipe_continue(4); let b = a; pipe_wait(5); sum = sum + b; } final { emit sum; }";
 
+// The reports of the fifty programs, counted by hand: for each first stage, those of the five ends
+// after a wait and after a continue.
+const REPORTS: usize = (1 + 5) + (3 + 5) + (5 + 7) + (3 + 6) + (5 + 6);
+
 // The cells that a call reports.
 fn reported_cells(alloc: Global, case: Case<'_>) -> Result<Vec<CellId>, NoMemory> {
     let (ended, _) = case.run(alloc)?;
@@ -38,28 +42,32 @@ fn reported_cells(alloc: Global, case: Case<'_>) -> Result<Vec<CellId>, NoMemory
     Ok(cells)
 }
 
-// Fails the test unless `run` and `serial` report the same cells.
-fn check_cells(alloc: Global, body: &str) -> Result<(), Fail> {
+// Fails the test unless `run` and `serial` report the same cells. Returns how many there are.
+fn check_cells(alloc: Global, body: &str) -> Result<usize, Fail> {
     let source = source(alloc, [4, 3, 50, 4], body)?;
     let by_run = reported_cells(alloc, Case::of(source.as_bytes()))?;
     let by_serial = reported_cells(alloc, Case::serial(source.as_bytes()))?;
     if by_run.as_slice() != by_serial.as_slice() {
         return Err(Fail::new(format_args!("{body}: other cells")));
     }
-    Ok(())
+    Ok(by_run.len())
 }
 
 // Fifty programs: each first stage, each stage statement, and each end.
 fn same_cells(alloc: Global) -> Result<(), Fail> {
+    let mut reports = 0;
     for first in FIRST_STAGES {
         for stage in STAGE_STATEMENTS {
             for later in LATER_STAGES {
                 let body = format!(in alloc;
                     "cell n = 0; cell c = 0; cell d = 0; pipe_while (n < 3) {{ n = n + 1; {first} {stage} {later} }}"
                 )?;
-                check_cells(alloc, body.as_str())?;
+                reports = check_cells(alloc, body.as_str())?.saturating_add(reports);
             }
         }
+    }
+    if reports != REPORTS {
+        return Err(Fail::new(format_args!("{reports} reports")));
     }
     Ok(())
 }

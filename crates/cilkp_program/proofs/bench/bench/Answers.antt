@@ -8,6 +8,7 @@ instance_count-requires c =
 
 pub returns : goal.returns
 returns c =
-    summary_made c.args.seed c.args.size _ _ _ _ c.in_ok-with_one.with_one.run_log c.in_ok-with_one.with_one.output
+    summary_made c.args.seed c.args.size _ _ _ _ c.in_ok-with_one.with_one.run_log c.in_ok-with_one.with_one.workers
+    c.in_ok-with_eight.with_eight.workers c.in_ok-with_one.with_one.output
     c.in_ok-with_eight.with_eight.output _ c.in_ok-program.ensures c.len.ensures c.in_ok-with_one.ensures.log c.instance_count.ensures
-    c.in_ok-with_one.ensures.output c.in_ok-with_eight.ensures.output c.summary_text.ensures
+    c.in_ok-with_one.ensures.workers c.in_ok-with_eight.ensures.workers c.in_ok-with_one.ensures.output c.in_ok-with_eight.ensures.output c.summary_text.ensures
