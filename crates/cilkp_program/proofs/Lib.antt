@@ -17,3 +17,4 @@ pub mod FormatLaws
 pub mod SourceFaults
 pub mod ElisionOutcomes
 pub mod SerialCallLaws
+pub mod GreaterLimits

@@ -1,7 +1,7 @@
 //! Questions about two lists that do not change meanwhile.
 
-ghost use Rattle.std.specs.Prelude.{◌≡◌};
-ghost use Rattle.pipe_model.specs.Orders.OrderList.{list_of_log};
+ghost use Rattle.std.specs.Prelude.{◌≡◌, ◌↔◌, IsTrue, true};
+ghost use Rattle.pipe_model.specs.Orders.OrderList.{IsLog, StandsBefore, has, list_of_log};
 
 use crate::two_orders::TwoOrders;
 use om_list::om_list::OmList;
@@ -39,6 +39,16 @@ impl TwoOrders<OmList> {
     }
 }
 
+// Whether an element of a list is before another.
+fn is_before(list: &OmList, x: u32, y: u32) -> bool
+    requires log { IsLog 1 list.now.log }
+    requires first { has x (list_of_log list.now.log) ≡ true }
+    requires second { has y (list_of_log list.now.log) ≡ true }
+    ensures { IsTrue result ↔ StandsBefore (list_of_log list.now.log) x y }
+{
+    list.before(x, y)
+}
+
 impl<'a> Orders for PlainOrders<'a> {
     ghost down_first = { λ o. list_of_log o.down };
 
@@ -47,10 +57,10 @@ impl<'a> Orders for PlainOrders<'a> {
     ghost identity = { λ o. 0 };
 
     fn down_before(&mut self, a: &Marks, b: &Marks) -> bool {
-        self.down.before(a.down_first, b.down_first)
+        is_before(self.down, a.down_first, b.down_first)
     }
 
     fn right_before(&mut self, a: &Marks, b: &Marks) -> bool {
-        self.right.before(a.right_first, b.right_first)
+        is_before(self.right, a.right_first, b.right_first)
     }
 }
