@@ -1,5 +1,5 @@
 -- The history of a cell whose kept instances have the marks of a run.
-use Rattle.std.proofs.Common.{◌≡◌, ℕ, Bool, true, false, List, Option, Some, None, IfSome, inl, inr, refl, arith, [], ◌∷◌, ◌++◌, if◌then◌else◌}
+use Rattle.std.proofs.Common.{ap, ◌≡◌, ℕ, Bool, true, false, List, Option, Some, None, IfSome, inl, inr, refl, arith, [], ◌∷◌, ◌++◌, if◌then◌else◌}
 use Rattle.access_history.specs.declared.history.Found.{Found}
 use Rattle.access_history.specs.declared.history.History.{History}
 use Rattle.access_history.specs.declared.history.Verdict.{Verdict}
