@@ -2,3 +2,4 @@ pub mod Comparisons
 pub mod FoldedHistories
 pub mod GrownLists
 pub mod NotedAccesses
+pub mod KnownInstances

@@ -1,2 +1,3 @@
 pub mod CellAccesses
 pub mod KeptInstances
+pub mod KnownOrder

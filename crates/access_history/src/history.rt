@@ -2,6 +2,7 @@
 
 ghost use Rattle.std.specs.Prelude.{◌≡◌, ◌↔◌, ◌++◌, ◌∷◌, [], ℕ, List, IsTrue, IfSome};
 ghost use Rattle.access_history.specs.KeptInstances.{AgreeOn, AgreeOnKept, IsEither, IsHistoryAfter, KeepsAmong, KeptAreIn, earlier_access, kept_of, node_of, nothing_kept, report_after};
+ghost use Rattle.access_history.specs.KnownOrder.{AgreeOnKnown, AgreeOnKnownKept, is_known_before};
 ghost use Rattle.pipe_model.specs.Orders.AccessHistory.{check_access, is_ordered, later, race_with, updated_history};
 ghost use Rattle.pipe_model.specs.Orders.GrowingLists.{AreIn, KeepsOrder};
 ghost use Rattle.pipe_model.specs.Races.CellRaces.{NotedAccess, noted_access};
@@ -58,18 +59,33 @@ pub struct History {
     pub report: Option<Found>,
 }
 
+// Whether `y` is known to be before `x` without the lists.
+fn is_known_before(joined: Option<u32>, x: NodeId, y: NodeId) -> bool
+    ensures { result ≡ is_known_before joined x y }
+{
+    match joined {
+        Some(joined) => {
+            (y.iteration == x.iteration && y.index < x.index)
+                || (x.iteration > 0 && y.iteration == x.iteration - 1 && y.index <= joined)
+        }
+        None => false,
+    }
+}
+
 // Whether `y` is `x`, or before it in both orders.
-fn is_same_or_before<O: Orders>(y: &Who, x: &Who, orders: &mut O) -> bool
+fn is_same_or_before<O: Orders>(y: &Who, x: &Who, joined: Option<u32>, orders: &mut O) -> bool
     requires first { AreIn (O.down_first orders.old) (O.right_first orders.old) y.now.marks }
     requires second { AreIn (O.down_first orders.old) (O.right_first orders.old) x.now.marks }
     ensures ordered { (down right : PlainNodeId → ℕ)
         → AgreeOn (O.down_first orders.old) (O.right_first orders.old) down right x.now y.now
+        → AgreeOnKnown joined down right x.now.node y.now.node
         → result ≡ is_ordered down right y.now.node x.now.node }
     ensures down { KeepsOrder (O.down_first orders.old) (O.down_first orders.new) }
     ensures right { KeepsOrder (O.right_first orders.old) (O.right_first orders.new) }
     ensures same { O.identity orders.new ≡ O.identity orders.old }
 {
-    if y.node.iteration == x.node.iteration && y.node.index == x.node.index {
+    let same = y.node.iteration == x.node.iteration && y.node.index == x.node.index;
+    if same || is_known_before(joined, x.node, y.node) {
         return true;
     }
     if !orders.down_before(&y.marks, &x.marks) {
@@ -79,11 +95,18 @@ fn is_same_or_before<O: Orders>(y: &Who, x: &Who, orders: &mut O) -> bool
 }
 
 // Compares an access of `x` with a kept one of this kind.
-fn compare<O: Orders>(kept: &Option<Who>, kind: AccessKind, x: &Who, orders: &mut O) -> Verdict
+fn compare<O: Orders>(
+    kept: &Option<Who>,
+    kind: AccessKind,
+    x: &Who,
+    joined: Option<u32>,
+    orders: &mut O,
+) -> Verdict
     requires kept { IfSome kept.now (λ y. AreIn (O.down_first orders.old) (O.right_first orders.old) y.marks) }
     requires new { AreIn (O.down_first orders.old) (O.right_first orders.old) x.now.marks }
     ensures race { (down right : PlainNodeId → ℕ)
         → IfSome kept.now (AgreeOn (O.down_first orders.old) (O.right_first orders.old) down right x.now)
+        → IfSome kept.now (λ y. AgreeOnKnown joined down right x.now.node y.node)
         → earlier_access result ≡ race_with down right x.now.node kind (node_of kept.now) None }
     ensures down { KeepsOrder (O.down_first orders.old) (O.down_first orders.new) }
     ensures right { KeepsOrder (O.right_first orders.old) (O.right_first orders.new) }
@@ -91,7 +114,7 @@ fn compare<O: Orders>(kept: &Option<Who>, kind: AccessKind, x: &Who, orders: &mu
 {
     match kept {
         Some(y) => {
-            if is_same_or_before(y, x, orders) {
+            if is_same_or_before(y, x, joined, orders) {
                 Verdict::Clean
             } else {
                 Verdict::Race(y.node, kind)
@@ -102,47 +125,64 @@ fn compare<O: Orders>(kept: &Option<Who>, kind: AccessKind, x: &Who, orders: &mu
 }
 
 // Compares a write of `x` with the kept reads.
-fn compare_readers<O: Orders>(history: &History, x: &Who, orders: &mut O) -> Verdict
+fn compare_readers<O: Orders>(
+    history: &History,
+    x: &Who,
+    joined: Option<u32>,
+    orders: &mut O,
+) -> Verdict
     requires kept { KeptAreIn (O.down_first orders.old) (O.right_first orders.old) history.now }
     requires new { AreIn (O.down_first orders.old) (O.right_first orders.old) x.now.marks }
     ensures race { (down right : PlainNodeId → ℕ)
         → AgreeOnKept (O.down_first orders.old) (O.right_first orders.old) down right x.now history.now
+        → AgreeOnKnownKept joined down right x.now.node history.now
         → earlier_access result ≡ race_with down right x.now.node Read (node_of history.now.rightmost)
         (race_with down right x.now.node Read (node_of history.now.downmost) None) }
     ensures down { KeepsOrder (O.down_first orders.old) (O.down_first orders.new) }
     ensures right { KeepsOrder (O.right_first orders.old) (O.right_first orders.new) }
     ensures same { O.identity orders.new ≡ O.identity orders.old }
 {
-    match compare(&history.rightmost, AccessKind::Read, x, orders) {
-        Verdict::Clean => compare(&history.downmost, AccessKind::Read, x, orders),
+    match compare(&history.rightmost, AccessKind::Read, x, joined, orders) {
+        Verdict::Clean => compare(&history.downmost, AccessKind::Read, x, joined, orders),
         Verdict::Race(y, kind) => Verdict::Race(y, kind),
     }
 }
 
 // Compares an access of `x` with the kept accesses.
-fn check<O: Orders>(history: &History, x: &Who, kind: AccessKind, orders: &mut O) -> Verdict
+fn check<O: Orders>(
+    history: &History,
+    x: &Who,
+    joined: Option<u32>,
+    kind: AccessKind,
+    orders: &mut O,
+) -> Verdict
     requires kept { KeptAreIn (O.down_first orders.old) (O.right_first orders.old) history.now }
     requires new { AreIn (O.down_first orders.old) (O.right_first orders.old) x.now.marks }
     ensures race { (down right : PlainNodeId → ℕ)
         → AgreeOnKept (O.down_first orders.old) (O.right_first orders.old) down right x.now history.now
+        → AgreeOnKnownKept joined down right x.now.node history.now
         → earlier_access result ≡ check_access down right (kept_of history.now) x.now.node kind }
     ensures down { KeepsOrder (O.down_first orders.old) (O.down_first orders.new) }
     ensures right { KeepsOrder (O.right_first orders.old) (O.right_first orders.new) }
     ensures same { O.identity orders.new ≡ O.identity orders.old }
 {
-    match (compare(&history.writer, AccessKind::Write, x, orders), kind) {
+    match (
+        compare(&history.writer, AccessKind::Write, x, joined, orders),
+        kind,
+    ) {
         (Verdict::Race(y, earlier), _) => Verdict::Race(y, earlier),
         (Verdict::Clean, AccessKind::Read) => Verdict::Clean,
-        (Verdict::Clean, AccessKind::Write) => compare_readers(history, x, orders),
+        (Verdict::Clean, AccessKind::Write) => compare_readers(history, x, joined, orders),
     }
 }
 
 // The later of the kept reader and `x` in down-first.
-fn later_in_down<O: Orders>(kept: &Option<Who>, x: &Who, orders: &mut O) -> Who
+fn later_in_down<O: Orders>(kept: &Option<Who>, x: &Who, joined: Option<u32>, orders: &mut O) -> Who
     requires kept { IfSome kept.now (λ y. AreIn (O.down_first orders.old) (O.right_first orders.old) y.marks) }
     requires new { AreIn (O.down_first orders.old) (O.right_first orders.old) x.now.marks }
     ensures later { (down right : PlainNodeId → ℕ)
         → IfSome kept.now (AgreeOn (O.down_first orders.old) (O.right_first orders.old) down right x.now)
+        → IfSome kept.now (λ y. AgreeOnKnown joined down right x.now.node y.node)
         → result.node ≡ later down (node_of kept.now) x.now.node }
     ensures either { IsEither kept.now x.now result }
     ensures down { KeepsOrder (O.down_first orders.old) (O.down_first orders.new) }
@@ -151,6 +191,9 @@ fn later_in_down<O: Orders>(kept: &Option<Who>, x: &Who, orders: &mut O) -> Who
 {
     match kept {
         Some(y) => {
+            if is_known_before(joined, x.node, y.node) {
+                return *x;
+            }
             if orders.down_before(&y.marks, &x.marks) {
                 *x
             } else {
@@ -162,11 +205,17 @@ fn later_in_down<O: Orders>(kept: &Option<Who>, x: &Who, orders: &mut O) -> Who
 }
 
 // The later of the kept reader and `x` in right-first.
-fn later_in_right<O: Orders>(kept: &Option<Who>, x: &Who, orders: &mut O) -> Who
+fn later_in_right<O: Orders>(
+    kept: &Option<Who>,
+    x: &Who,
+    joined: Option<u32>,
+    orders: &mut O,
+) -> Who
     requires kept { IfSome kept.now (λ y. AreIn (O.down_first orders.old) (O.right_first orders.old) y.marks) }
     requires new { AreIn (O.down_first orders.old) (O.right_first orders.old) x.now.marks }
     ensures later { (down right : PlainNodeId → ℕ)
         → IfSome kept.now (AgreeOn (O.down_first orders.old) (O.right_first orders.old) down right x.now)
+        → IfSome kept.now (λ y. AgreeOnKnown joined down right x.now.node y.node)
         → result.node ≡ later right (node_of kept.now) x.now.node }
     ensures either { IsEither kept.now x.now result }
     ensures down { KeepsOrder (O.down_first orders.old) (O.down_first orders.new) }
@@ -175,6 +224,9 @@ fn later_in_right<O: Orders>(kept: &Option<Who>, x: &Who, orders: &mut O) -> Who
 {
     match kept {
         Some(y) => {
+            if is_known_before(joined, x.node, y.node) {
+                return *x;
+            }
             if orders.right_before(&y.marks, &x.marks) {
                 *x
             } else {
@@ -213,11 +265,12 @@ impl History {
     }
 
     // Keeps an access of `who`.
-    fn keep<O: Orders>(&mut self, who: Who, kind: AccessKind, orders: &mut O)
+    fn keep<O: Orders>(&mut self, who: Who, joined: Option<u32>, kind: AccessKind, orders: &mut O)
         requires kept { KeptAreIn (O.down_first orders.old) (O.right_first orders.old) self.old }
         requires new { AreIn (O.down_first orders.old) (O.right_first orders.old) who.marks }
         ensures kept { (down right : PlainNodeId → ℕ)
             → AgreeOnKept (O.down_first orders.old) (O.right_first orders.old) down right who self.old
+            → AgreeOnKnownKept joined down right who.node self.old
             → kept_of self.new ≡ updated_history down right (kept_of self.old) who.node kind }
         ensures report { self.new.report ≡ self.old.report }
         ensures each { KeepsAmong self.old who self.new }
@@ -227,13 +280,55 @@ impl History {
     {
         match kind {
             AccessKind::Read => {
-                let rightmost = later_in_down(&self.rightmost, &who, orders);
-                let downmost = later_in_right(&self.downmost, &who, orders);
+                let rightmost = later_in_down(&self.rightmost, &who, joined, orders);
+                let downmost = later_in_right(&self.downmost, &who, joined, orders);
                 self.rightmost = Some(rightmost);
                 self.downmost = Some(downmost);
             }
             AccessKind::Write => self.writer = Some(who),
         }
+    }
+
+    /// Does what `note` does, with fewer questions to the lists: a kept instance above `who` in its
+    /// column, or in the column to the left at an index of at most `joined`, if that is given, counts
+    /// as before `who`. In a run that is so, if `joined` is the last index of the left column that
+    /// precedes `who`. The clauses hold for orders in which it is so. Does not allocate.
+    pub fn note_joined<O: Orders>(
+        &mut self,
+        who: Who,
+        joined: Option<u32>,
+        kind: AccessKind,
+        orders: &mut O,
+    ) -> Verdict
+        requires kept { KeptAreIn (O.down_first orders.old) (O.right_first orders.old) self.old }
+        requires new { AreIn (O.down_first orders.old) (O.right_first orders.old) who.marks }
+        ensures race { (down right : PlainNodeId → ℕ)
+            → AgreeOnKept (O.down_first orders.old) (O.right_first orders.old) down right who self.old
+            → AgreeOnKnownKept joined down right who.node self.old
+            → earlier_access result ≡ check_access down right (kept_of self.old) who.node kind }
+        ensures kept { (down right : PlainNodeId → ℕ)
+            → AgreeOnKept (O.down_first orders.old) (O.right_first orders.old) down right who self.old
+            → AgreeOnKnownKept joined down right who.node self.old
+            → kept_of self.new ≡ updated_history down right (kept_of self.old) who.node kind }
+        ensures report { self.new.report ≡ report_after self.old.report who.node kind result }
+        ensures each { KeepsAmong self.old who self.new }
+
+        // One step of the fold over the accesses, by any two orders that agree with the lists.
+        ensures step { (down right : PlainNodeId → ℕ)
+            → AgreeOnKept (O.down_first orders.old) (O.right_first orders.old) down right who self.old
+            → AgreeOnKnownKept joined down right who.node self.old
+            → (accesses : List NotedAccess) → IsHistoryAfter down right accesses self.old
+            → IsHistoryAfter down right (accesses ++ noted_access who.node kind ∷ []) self.new }
+
+        ensures in_lists { KeptAreIn (O.down_first orders.new) (O.right_first orders.new) self.new }
+        ensures down { KeepsOrder (O.down_first orders.old) (O.down_first orders.new) }
+        ensures right { KeepsOrder (O.right_first orders.old) (O.right_first orders.new) }
+        ensures same { O.identity orders.new ≡ O.identity orders.old }
+    {
+        let verdict = check(self, &who, joined, kind, orders);
+        self.keep(who, joined, kind, orders);
+        self.report_first(who, kind, verdict);
+        verdict
     }
 
     /// Compares an access with the kept ones, and then keeps it. A write is compared with the last
@@ -263,9 +358,6 @@ impl History {
         ensures right { KeepsOrder (O.right_first orders.old) (O.right_first orders.new) }
         ensures same { O.identity orders.new ≡ O.identity orders.old }
     {
-        let verdict = check(self, &who, kind, orders);
-        self.keep(who, kind, orders);
-        self.report_first(who, kind, verdict);
-        verdict
+        self.note_joined(who, None, kind, orders)
     }
 }

@@ -4,3 +4,4 @@ pub mod MarkedHistories
 pub mod NotedCells
 pub mod ReplayedRuns
 pub mod RunReports
+pub mod KnownPaths

@@ -1,11 +1,14 @@
 -- The history of a cell whose kept instances have the marks of a run.
-use Rattle.std.proofs.Common.{◌≡◌, ℕ, Bool, true, false, List, Option, Some, None, IfSome, inl, inr, refl, arith, [], ◌∷◌, ◌++◌, if◌then◌else◌}
+use Rattle.std.proofs.Common.{ap, ◌≡◌, ℕ, Bool, true, false, List, Option, Some, None, IfSome, inl, inr, refl, arith, [], ◌∷◌, ◌++◌, if◌then◌else◌}
 use Rattle.access_history.specs.declared.history.Found.{Found}
 use Rattle.access_history.specs.declared.history.History.{History}
 use Rattle.access_history.specs.declared.history.Verdict.{Verdict}
 use Rattle.access_history.specs.declared.history.Verdict.TheVariants.{Clean, Race}
 use Rattle.access_history.specs.declared.history.Who.{Who}
+use Rattle.access_history.specs.KnownOrder.{AgreeOnKnownKept}
 use Rattle.access_history.specs.KeptInstances.{AgreeOn, AgreeOnKept, AllKept, IsEither, IsHistoryAfter, KeepsAmong, earlier_access, kept_of, node_of, report_after}
+use Rattle.order_2d.specs.declared.started.StartedNode.{StartedNode}
+use Rattle.order_2d.specs.StartedNodes.{started_node}
 use Rattle.pipe_model.specs.declared.access.AccessKind.{AccessKind}
 use Rattle.pipe_model.specs.declared.access.AccessKind.TheVariants.{Read, Write}
 use Rattle.pipe_model.specs.declared.node.Node.{Node}
@@ -107,23 +110,26 @@ report_inside columns starts down right h x kind verdict new kept old inside rac
 
 -- ---- one more access to a cell
 
-pub marked_as : (columns : List (List Node)) (starts : List NodeId) (x : NodeId) (w : Who) → IsNodeOf columns x
-    → w ≡ record { node = x; marks = instance_marks columns starts x.iteration x.index } → IsMarked columns starts w
-marked_as columns starts x w inside is = rw is (record { inside = inside; marks = refl })
+-- an instance with the marks of its start
+pub marked_as : (columns : List (List Node)) (starts : List NodeId) (x : NodeId) (s : StartedNode) → IsNodeOf columns x
+    → s ≡ started_node columns starts x.iteration x.index → IsMarked columns starts (record { node = x; marks = s.marks })
+marked_as columns starts x s inside is = record { inside = inside; marks = ap (λ n. n.marks) is }
 
 pub noted_again : (columns : List (List Node)) (starts : List NodeId) (d r : List ℕ) → d ≡ list_of_log (down_first_log starts)
     → r ≡ list_of_log (right_first_log columns starts) → (x : Who) (kind : AccessKind) (h h' : History) (verdict : Verdict) (accesses : List NotedAccess)
     → IsMarked columns starts x → HasNoted columns starts accesses h
-    → ((down right : NodeId → ℕ) → AgreeOnKept d r down right x h → (before : List NotedAccess) → IsHistoryAfter down right before h
-    → IsHistoryAfter down right (before ++ noted_access x.node kind ∷ []) h')
-    → ((down right : NodeId → ℕ) → AgreeOnKept d r down right x h → earlier_access verdict ≡ check_access down right (kept_of h) x.node kind)
+    → (joined : Option ℕ) → AgreeOnKnownKept joined (down_place starts) (right_place columns starts) x.node h
+    → ((down right : NodeId → ℕ) → AgreeOnKept d r down right x h → AgreeOnKnownKept joined down right x.node h → (before : List NotedAccess)
+    → IsHistoryAfter down right before h → IsHistoryAfter down right (before ++ noted_access x.node kind ∷ []) h')
+    → ((down right : NodeId → ℕ) → AgreeOnKept d r down right x h → AgreeOnKnownKept joined down right x.node h
+    → earlier_access verdict ≡ check_access down right (kept_of h) x.node kind)
     → KeepsAmong h x h' → h'.report ≡ report_after h.report x.node kind verdict
     → HasNoted columns starts (accesses ++ noted_access x.node kind ∷ []) h'
-noted_again columns starts d r same_down same_right x kind h h' verdict accesses marked before step race each report =
+noted_again columns starts d r same_down same_right x kind h h' verdict accesses marked before joined known step race each report =
     let agrees = agree_on_kept columns starts d r same_down same_right x h marked before.kept in
     record {
-      after = step (down_place starts) (right_place columns starts) agrees accesses before.after;
+      after = step (down_place starts) (right_place columns starts) agrees known accesses before.after;
       kept = still_kept (IsMarked columns starts) h h' x before.kept marked each;
       report = report_inside columns starts (down_place starts) (right_place columns starts) h x.node kind verdict h'.report before.kept before.report
-          marked.inside (race (down_place starts) (right_place columns starts) agrees) report;
+          marked.inside (race (down_place starts) (right_place columns starts) agrees known) report;
     }

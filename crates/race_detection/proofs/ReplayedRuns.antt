@@ -13,7 +13,8 @@ use Rattle.pipe_model.specs.declared.node.NodeId.{NodeId}
 use Rattle.pipe_model.specs.Orders.GrowingLists.{AreIn}
 use Rattle.pipe_model.specs.Orders.OrderList.{list_of_log}
 use Rattle.pipe_model.specs.Orders.OrderMarks.{instance_marks}
-use Rattle.pipe_model.specs.Orders.Starts.{IsStarted, start_at, start_number}
+use Rattle.order_2d.proofs.OwnLogs.{own_starts}
+use Rattle.pipe_model.specs.Orders.Starts.{AreStarts, IsStarted, start_at, start_number}
 use Rattle.pipe_model.specs.Orders.TwoOrders.{down_first_log, right_first_log}
 use Rattle.pipe_model.specs.Races.Columns.{IsNodeOf, at}
 use Rattle.race_detection.specs.NotedRuns.{IsReplayOf}
@@ -65,6 +66,8 @@ is_replay log r own nodes down right marks rows placed instances =
       down = down ∙ ap down_first_log (sym nodes);
       right = right ∙ ap (right_first_log columns) (sym nodes);
       started = λ x inside. (instances x).1 inside;
+      columns_ok = (own_starts log.events own.control).columns;
+      starts_ok = subst (AreStarts columns) (sym nodes) (own_starts log.events own.control).ordered;
       rows = subst (λ ss. HasStarted columns ss (length ss) r.rows.items) (sym nodes) rows;
       placed = λ x inside. placed_instance columns r.nodes r.marks.items _ _
           (subst (λ ss. r.marks.items ≡ marks_of_starts columns ss ss) (sym nodes) marks) placed x ((instances x).1 inside);

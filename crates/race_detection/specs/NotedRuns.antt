@@ -13,10 +13,10 @@ use Rattle.pipe_model.specs.declared.node.NodeId.{NodeId}
 use Rattle.pipe_model.specs.Orders.GrowingLists.{AreIn}
 use Rattle.pipe_model.specs.Orders.OrderList.{list_of_log}
 use Rattle.pipe_model.specs.Orders.OrderMarks.{instance_marks}
-use Rattle.pipe_model.specs.Orders.Starts.{IsStarted}
+use Rattle.pipe_model.specs.Orders.Starts.{AreStarts, IsStarted}
 use Rattle.pipe_model.specs.Orders.TwoOrders.{down_first_log, down_place, right_first_log, right_place}
 use Rattle.pipe_model.specs.Races.CellRaces.{NotedAccess, accesses_to}
-use Rattle.pipe_model.specs.Races.Columns.{IsNodeOf}
+use Rattle.pipe_model.specs.Races.Columns.{AreColumns, IsNodeOf}
 use Rattle.race_report.specs.FoundReports.{IsFoundIn}
 
 -- the lists and the marks are those of a run with these columns
@@ -24,6 +24,8 @@ pub record IsReplayOf (columns : List (List Node)) (r : Replayed) : Type 0 where
   pub down : r.orders.down.log ≡ down_first_log r.nodes
   pub right : r.orders.right.log ≡ right_first_log columns r.nodes
   pub started : (x : NodeId) → IsNodeOf columns x → IsStarted r.nodes x
+  pub columns_ok : AreColumns columns
+  pub starts_ok : AreStarts columns r.nodes
   pub rows : HasStarted columns r.nodes (length r.nodes) r.rows.items
   pub placed : (x : NodeId) → IsNodeOf columns x
       → AreIn (list_of_log r.orders.down.log) (list_of_log r.orders.right.log) (instance_marks columns r.nodes x.iteration x.index)

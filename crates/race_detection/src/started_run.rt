@@ -2,13 +2,14 @@
 
 ghost use Rattle.std.specs.Prelude.{◌≡◌, ◌<◌, ◌++◌, ◌∷◌, [], ℕ, List};
 ghost use Rattle.order_2d.specs.LogStarts.{nodes_of_columns};
-ghost use Rattle.pipe_model.specs.Orders.OrderMarks.{instance_marks};
+ghost use Rattle.order_2d.specs.StartedNodes.{started_node};
 ghost use Rattle.pipe_model.specs.Races.CellRaces.{NotedAccess, noted_access};
 ghost use Rattle.pipe_model.specs.Races.Columns.{IsNodeOf};
 ghost use Rattle.race_detection.specs.NotedRuns.{HasNoted, IsReplayOf};
 
 use access_history::history::{History, Who};
 use order_2d::replay::Replayed;
+use order_2d::started::StartedNode;
 use pipe_model::access::NodeAccess;
 use pipe_model::column::Columns;
 use pipe_model::node::NodeId;
@@ -22,17 +23,14 @@ pub(crate) struct StartedRun<'a> {
     pub replayed: Replayed,
 }
 
-// An instance with its marks.
-fn who(run: &StartedRun<'_>, node: NodeId) -> Who
+// What is known of an instance that has started.
+fn started_node(run: &StartedRun<'_>, node: NodeId) -> StartedNode
     requires run { IsReplayOf (nodes_of_columns run.now.columns.now) run.now.replayed }
     requires inside { IsNodeOf (nodes_of_columns run.now.columns.now) node }
-    ensures { result ≡ record { node = node; marks = instance_marks (nodes_of_columns run.now.columns.now) run.now.replayed.nodes node.iteration node.index } }
+    ensures { result ≡ started_node (nodes_of_columns run.now.columns.now) run.now.replayed.nodes node.iteration node.index }
 {
     let row = run.replayed.rows[node.iteration as usize].as_slice();
-    Who {
-        node,
-        marks: row[node.index as usize].marks,
-    }
+    row[node.index as usize]
 }
 
 /// Notes an access in the history of its cell.
@@ -43,9 +41,13 @@ pub(crate) fn note(run: &StartedRun<'_>, history: History, access: NodeAccess) -
     ensures { (accesses : List NotedAccess) → HasNoted (nodes_of_columns run.now.columns.now) run.now.replayed.nodes accesses history
         → HasNoted (nodes_of_columns run.now.columns.now) run.now.replayed.nodes (accesses ++ noted_access access.node access.access.kind ∷ []) result }
 {
-    let who = who(run, access.node);
+    let started = started_node(run, access.node);
+    let who = Who {
+        node: access.node,
+        marks: started.marks,
+    };
     let mut orders = run.replayed.orders.view();
     let mut history = history;
-    history.note(who, access.access.kind, &mut orders);
+    history.note_joined(who, Some(started.joined), access.access.kind, &mut orders);
     history
 }

@@ -8,12 +8,12 @@ use Rattle.pipe_model.specs.Orders.AccessHistory.{check_access, race_with}
 use Rattle.access_history.proofs.history.check.Goals as goal
 
 pub returns-in-Clean-Write-clause-race : goal.returns-in-Clean-Write-clause-race
-returns-in-Clean-Write-clause-race g c = λ down right a.
+returns-in-Clean-Write-clause-race g c = λ down right a known.
     let x = c.args.x.now in
     let h = c.args.history.now in
     let grown = agree_on_kept _ _ _ _ down right x h c.compare.ensures.down c.compare.ensures.right c.requires.new c.requires.kept a in
     let clean : None ≡ race_with down right x.node Write (node_of h.writer) None =
-    sym (ap earlier_access c.in-Clean-Write.is-0) ∙ c.compare.ensures.race down right a.writer in
-    c.compare_readers.ensures.race down right grown
+    sym (ap earlier_access c.in-Clean-Write.is-0) ∙ c.compare.ensures.race down right a.writer known.writer in
+    c.compare_readers.ensures.race down right grown known
     ∙ sym (no_race_with down right x.node Write (node_of h.writer) _ clean)
     ∙ ap (check_access down right (kept_of h) x.node) (sym c.in-Clean-Write.is-1)

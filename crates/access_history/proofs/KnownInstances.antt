@@ -1,0 +1,18 @@
+-- Orders of which nothing is known, and what is known of them.
+use Rattle.std.proofs.Common.{◌≡◌, ◌<◌, ℕ, Bool, true, false, Option, Some, None, IfSome, arith, refl}
+use Rattle.std.proofs.lemmas.Bool.{false≢true}
+use Rattle.access_history.specs.declared.history.History.{History}
+use Rattle.access_history.specs.declared.history.Who.{Who}
+use Rattle.access_history.specs.KnownOrder.{AgreeOnKnown, AgreeOnKnownKept}
+use Rattle.pipe_model.specs.declared.node.NodeId.{NodeId}
+
+nothing_known_of : (down right : NodeId → ℕ) (x : NodeId) (kept : Option Who) → IfSome kept (λ y. AgreeOnKnown None down right x y.node)
+nothing_known_of down right x None = tt
+nothing_known_of down right x (Some y) = λ e. absurd (false≢true e)
+
+pub nothing_known : (down right : NodeId → ℕ) (x : NodeId) (h : History) → AgreeOnKnownKept None down right x h
+nothing_known down right x h = record {
+  writer = nothing_known_of down right x h.writer;
+  rightmost = nothing_known_of down right x h.rightmost;
+  downmost = nothing_known_of down right x h.downmost;
+}

@@ -1,0 +1,19 @@
+-- The order of instances that is known without a question to the lists.
+use Rattle.std.specs.Prelude.{◌≡◌, ◌<◌, ℕ, suc, Bool, true, false, Option, Some, None, ◌==◌, ◌&&◌, ◌||◌, nat_lt, nat_le}
+use Rattle.access_history.specs.declared.history.History.{History}
+use Rattle.access_history.specs.KeptInstances.{AllKept}
+use Rattle.pipe_model.specs.declared.node.NodeId.{NodeId}
+
+-- y is above x in its column, or in the column to its left at an index of at most the joined one, if that is given
+abbrev pub is_known_before : Option ℕ → NodeId → NodeId → Bool
+is_known_before None x y = false
+is_known_before (Some joined) x y =
+    ((y.iteration == x.iteration) && nat_lt y.index x.index) || ((suc y.iteration == x.iteration) && nat_le y.index joined)
+
+-- if y is known to be before x, it is before x in both orders
+abbrev pub AgreeOnKnown : Option ℕ → (NodeId → ℕ) → (NodeId → ℕ) → NodeId → NodeId → Type 0
+AgreeOnKnown joined down right x y = is_known_before joined x y ≡ true → (down y < down x) × (right y < right x)
+
+-- this holds of each kept instance
+abbrev pub AgreeOnKnownKept : Option ℕ → (NodeId → ℕ) → (NodeId → ℕ) → NodeId → History → Type 0
+AgreeOnKnownKept joined down right x h = AllKept (λ y. AgreeOnKnown joined down right x y.node) h
