@@ -30,6 +30,9 @@ const DOWN_FIRST: [u32; 8] = [0, 1, 2, 3, 4, 5, 6, 7];
 // The heads, then the instances 1, then the others from right to left.
 const RIGHT_FIRST: [u32; 8] = [0, 3, 6, 1, 4, 7, 5, 2];
 
+// For each instance the last index of the column to its left that precedes it; 0 in column 0.
+const JOINED: [u32; 8] = [0, 0, 0, 0, 1, 1, 0, 1];
+
 // Accesses by the number of the instance.
 type Accesses = &'static [(u32, AccessKind)];
 
@@ -95,9 +98,12 @@ fn who(number: u32) -> Who {
     }
 }
 
-// Notes the accesses. Returns the history, and the number of the first access that races, with the
-// earlier access.
-fn noted(accesses: Accesses) -> Result<(History, Option<(usize, NodeId, AccessKind)>), Fail> {
+// Notes the accesses, with the joined indices if they are known. Returns the history, and the number
+// of the first access that races, with the earlier access.
+fn noted(
+    accesses: Accesses,
+    known: bool,
+) -> Result<(History, Option<(usize, NodeId, AccessKind)>), Fail> {
     let mut orders = ListedOrders {
         down: &DOWN_FIRST,
         right: &RIGHT_FIRST,
@@ -109,29 +115,42 @@ fn noted(accesses: Accesses) -> Result<(History, Option<(usize, NodeId, AccessKi
         if !orders.has(&new.marks) {
             return Err(Fail::new(format_args!("no such instance")));
         }
-        if let (None, Verdict::Race(x, earlier)) = (first, history.note(new, *kind, &mut orders)) {
+        let verdict = if known {
+            let joined = JOINED.get(*number as usize).copied();
+            history.note_joined(new, joined, *kind, &mut orders)
+        } else {
+            history.note(new, *kind, &mut orders)
+        };
+        if let (None, Verdict::Race(x, earlier)) = (first, verdict) {
             first = Some((n, x, earlier));
         }
     }
     Ok((history, first))
 }
 
+// The report of a race among the accesses.
+fn report_of(accesses: Accesses, race: Race) -> Result<Found, Fail> {
+    let (racing, number, earlier_kind) = race;
+    let Some((later, later_kind)) = accesses.get(racing) else {
+        return Err(Fail::new(format_args!("no such access")));
+    };
+    Ok(Found {
+        earlier: name(number),
+        earlier_kind,
+        later: name(*later),
+        later_kind: *later_kind,
+    })
+}
+
 #[test]
 fn first_races_are_found(rt: HostRuntime) -> Result<(), Fail> {
-    for (accesses, (racing, number, earlier_kind)) in RACES {
-        let (history, first) = noted(accesses)?;
-        let earlier = name(number);
-        assert_eq!(rt; first, Some((racing, earlier, earlier_kind)));
-        let Some((later, later_kind)) = accesses.get(racing) else {
-            return Err(Fail::new(format_args!("no such access")));
-        };
-        let wanted = Found {
-            earlier,
-            earlier_kind,
-            later: name(*later),
-            later_kind: *later_kind,
-        };
-        assert_eq!(rt; history.report, Some(wanted));
+    for (accesses, race) in RACES {
+        for known in [false, true] {
+            let (history, first) = noted(accesses, known)?;
+            let (racing, number, kind) = race;
+            assert_eq!(rt; first, Some((racing, name(number), kind)));
+            assert_eq!(rt; history.report, Some(report_of(accesses, race)?));
+        }
     }
     Ok(())
 }
@@ -139,9 +158,11 @@ fn first_races_are_found(rt: HostRuntime) -> Result<(), Fail> {
 #[test]
 fn ordered_accesses_do_not_race(rt: HostRuntime) -> Result<(), Fail> {
     for accesses in NO_RACES {
-        let (history, first) = noted(accesses)?;
-        assert_eq!(rt; first, None);
-        assert_eq!(rt; history.report, None);
+        for known in [false, true] {
+            let (history, first) = noted(accesses, known)?;
+            assert_eq!(rt; first, None);
+            assert_eq!(rt; history.report, None);
+        }
     }
     Ok(())
 }
