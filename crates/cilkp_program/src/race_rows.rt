@@ -85,7 +85,7 @@ fn other_accesses(alloc: Global) -> Result<(), Fail> {
     Ok(())
 }
 
-// A thousand items through six stages.
+// A thousand items through six stages, and the greatest generated workload.
 fn long_runs(alloc: Global) -> Result<(), Fail> {
     let source = source(alloc, [1000, 6, 100, 1], PIPELINE)?;
     let mut input = String::new(alloc);
@@ -107,14 +107,14 @@ fn long_runs(alloc: Global) -> Result<(), Fail> {
     };
     run.check(alloc, "run", 0, "1337337000\n")?;
     let bench = Case {
-        words: &["bench", "--seed", "1", "--size", "1000"],
+        words: &["bench", "--seed", "1", "--size", "40000"],
         ..Case::of(b"")
     };
     bench.check(
         alloc,
         "bench",
         0,
-        "items 1000\ninstances 6001\nworkers 1 last 459974\nworkers 8 last 459974\n",
+        "items 40000\ninstances 240001\nworkers 1 last 18348055\nworkers 8 last 18348055\n",
     )
 }
 

@@ -1,4 +1,2 @@
 pub mod Insertions
 pub mod LinkedLists
-pub mod Relabelling
-pub mod RisingLabels

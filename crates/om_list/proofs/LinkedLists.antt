@@ -1,11 +1,11 @@
 -- Lists that are kept as links, and an insertion of an element with a label between two others.
-use Rattle.std.proofs.Common.{◌≡◌, ◌≢◌, ℕ, zero, suc, ◌+◌, ◌<◌, List, [], ◌∷◌, length, get_or, true, refl, sym, ap, ◌∙◌, subst, arith, eq-eqb, ne_eqb, ◌⊎◌, inl, inr}
+use Rattle.std.proofs.Common.{◌≡◌, ◌≢◌, ℕ, zero, suc, ◌+◌, ◌<◌, List, [], ◌∷◌, length, true, refl, sym, ap, ◌∙◌, subst, arith, eq-eqb, ne_eqb, ◌⊎◌, inl, inr}
 use Rattle.std.proofs.lemmas.Bool.{cases_eq}
 use Rattle.pipe_model.specs.Orders.OrderList.{has, insert_after}
-use Rattle.om_list.specs.declared.links.TheConstants.{END}
-use Rattle.om_list.specs.Labels.{LabelsRise}
-use Rattle.om_list.specs.Links.{AreLinked, first_of, followed, label_or}
-use Rattle.om_list.proofs.RisingLabels.{has_head, has_later, head_once}
+use Rattle.om_relabel.specs.declared.links.TheConstants.{END}
+use Rattle.om_relabel.specs.Labels.{LabelsRise}
+use Rattle.om_relabel.specs.Links.{AreLinked, AreLinkedBack, first_of, followed, label_or}
+use Rattle.om_relabel.proofs.RisingLabels.{has_head, has_later, head_once}
 
 -- following the links gives the list
 pub followed_is : (next : ℕ → ℕ) (xs : List ℕ) (n : ℕ) → n ≡ length xs → AreLinked next xs
@@ -15,21 +15,6 @@ followed_is next [] (suc n) e c = absurd (omega (arith, e))
 followed_is next (x ∷ xs) zero e c = absurd (omega (arith, e))
 followed_is next (x ∷ xs) (suc n) e c =
     ap (λ l. x ∷ l) (ap (λ y. followed next y n) c.0 ∙ followed_is next xs n (omega (arith, e)) c.1)
-
-pub length_followed : (next : ℕ → ℕ) (x n : ℕ) → length (followed next x n) ≡ n
-length_followed next x zero = refl
-length_followed next x (suc n) = let rest = length_followed next (next x) n in omega (arith, rest)
-
-first_at : (xs : List ℕ) → get_or xs 0 END ≡ first_of xs
-first_at [] = refl
-first_at (x ∷ xs) = refl
-
--- the link of the element at an index is the element at the next index
-pub linked_at : (next : ℕ → ℕ) (xs : List ℕ) (k d : ℕ) → AreLinked next xs → k < length xs
-    → next (get_or xs k d) ≡ get_or xs (suc k) END
-linked_at next [] k d c l = absurd (omega (arith, l))
-linked_at next (x ∷ xs) zero d c l = c.0 ∙ sym (first_at xs)
-linked_at next (x ∷ xs) (suc k) d c l = linked_at next xs k d c.1 (omega (arith, l))
 
 -- a link leads to an element, or is END
 pub link_within : (next : ℕ → ℕ) (xs : List ℕ) (x : ℕ) → AreLinked next xs → has x xs ≡ true
@@ -46,22 +31,6 @@ link_within next (z ∷ zs) x c h = elim (cases_eq z x) [
     first : (ys : List ℕ) → next z ≡ first_of ys → (next z ≡ END) ⊎ (has (next z) (z ∷ ys) ≡ true)
     first [] e = inl e
     first (w ∷ ws) e = inr (subst (λ u. has u (z ∷ (w ∷ ws)) ≡ true) (sym e) (has_later z (w ∷ ws) w (has_head w ws)))
-
--- an element is at some index
-pub index_of : (xs : List ℕ) (x : ℕ) → has x xs ≡ true → (k : ℕ) × (k < length xs) × (get_or xs k 0 ≡ x)
-index_of [] x h = cc
-index_of (z ∷ zs) x h = elim (cases_eq z x) [
-  | inl same ↦ (0, omega arith, same)
-  | inr apart ↦ (
-      let later = index_of zs x (rw (ne_eqb z x apart) at h) in
-      (suc later.0, (let l = later.1 in omega (arith, l)), later.2))
-]
-
--- the element at an index is in the list
-pub has_at : (xs : List ℕ) (k d : ℕ) → k < length xs → has (get_or xs k d) xs ≡ true
-has_at [] k d l = absurd (omega (arith, l))
-has_at (x ∷ xs) zero d l = has_head x xs
-has_at (x ∷ xs) (suc k) d l = has_later x xs (get_or xs k d) (has_at xs k d (omega (arith, l)))
 
 -- how the links change if element e is inserted after x
 pub record LinksAfter (next next' : ℕ → ℕ) (x e : ℕ) : Type 0 where
@@ -141,3 +110,58 @@ rises_inserted next label low top (z ∷ zs) x e ends r c above below = elim (ca
     rest (w ∷ ws) no_end rises less =
         let less' : label e < label w = rw (ne_eqb w END (no_end w (has_head w ws))) at less in
         (omega (arith, less'), rises.1)
+
+-- how the links back change if element e is inserted between x and `after`
+pub record BackAfter (prev prev' : ℕ → ℕ) (x e after : ℕ) : Type 0 where
+  pub new : prev' e ≡ x
+  pub next : after ≢ END → prev' after ≡ e
+  pub other : (y : ℕ) → y < e → y ≢ after → prev' y ≡ prev y
+
+back_same : (prev prev' : ℕ → ℕ) (before : ℕ) (xs : List ℕ) → ((y : ℕ) → has y xs ≡ true → prev' y ≡ prev y)
+    → AreLinkedBack prev before xs → AreLinkedBack prev' before xs
+back_same prev prev' before [] same b = tt
+back_same prev prev' before (x ∷ xs) same b =
+    (same x (has_head x xs) ∙ b.0, back_same prev prev' x xs (λ y h. same y (has_later x xs y h)) b.1)
+
+-- after the new element
+back_rest : (prev prev' label : ℕ → ℕ) (low top : ℕ) (xs : List ℕ) (x e : ℕ) → LabelsRise label low top xs
+    → ((y : ℕ) → has y xs ≡ true → (y < e) × (y ≢ END)) → BackAfter prev prev' x e (first_of xs) → AreLinkedBack prev x xs
+    → AreLinkedBack prev' e xs
+back_rest prev prev' label low top [] x e r below changed b = tt
+back_rest prev prev' label low top (w ∷ ws) x e r below changed b = (
+  changed.next (below w (has_head w ws)).1,
+  back_same prev prev' w ws (λ y h. changed.other y (below y (has_later w ws y h)).0 (head_once label low top w ws r y h)) b.1,
+)
+
+-- the links back after an insertion are those of the list with the new element
+pub back_inserted : (next prev prev' label : ℕ → ℕ) (low top before : ℕ) (xs : List ℕ) (x e : ℕ) → LabelsRise label low top xs
+    → ((y : ℕ) → has y xs ≡ true → (y < e) × (y ≢ END)) → AreLinked next xs → has x xs ≡ true
+    → BackAfter prev prev' x e (next x) → AreLinkedBack prev before xs → AreLinkedBack prev' before (insert_after x e xs)
+back_inserted next prev prev' label low top before [] x e r below c h changed b = tt
+back_inserted next prev prev' label low top before (z ∷ zs) x e r below c h changed b = elim (cases_eq z x) [
+  | inl same ↦ (
+      let after : next x ≡ first_of zs = ap next (sym same) ∙ c.0 in
+      let apart : z ≢ next x = λ q. first_apart zs (λ y m. head_once label low top z zs r y m) (λ m. (below z (has_head z zs)).1 m) (q ∙ after) in
+      rw (eq-eqb z x same) (
+        changed.other z (below z (has_head z zs)).0 apart ∙ b.0,
+        (
+          changed.new ∙ sym same,
+          back_rest prev prev' label (label z + 1) top zs x e r.1 (λ y m. below y (has_later z zs y m))
+              (subst (BackAfter prev prev' x e) after changed) (subst (λ y. AreLinkedBack prev y zs) same b.1),
+        ),
+      ))
+  | inr apart ↦ (
+      let there : has x zs ≡ true = rw (ne_eqb z x apart) at h in
+      let other : z ≢ next x = λ q. elim (link_within next zs x c.1 there) [
+        | inl end ↦ (below z (has_head z zs)).1 (q ∙ end)
+        | inr later ↦ head_once label low top z zs r (next x) later (sym q)
+      ] in
+      rw (ne_eqb z x apart) (
+        changed.other z (below z (has_head z zs)).0 other ∙ b.0,
+        back_inserted next prev prev' label (label z + 1) top z zs x e r.1 (λ y m. below y (has_later z zs y m)) c.1 there changed b.1,
+      ))
+]
+  where
+    first_apart : (ys : List ℕ) → ((y : ℕ) → has y ys ≡ true → y ≢ z) → z ≢ END → z ≢ first_of ys
+    first_apart [] other end = end
+    first_apart (w ∷ ws) other end = λ q. other w (has_head w ws) (sym q)

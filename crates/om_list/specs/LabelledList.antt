@@ -1,7 +1,7 @@
 -- What contracts see of an order-maintenance list (Bender et al. 2002).
 use Rattle.std.specs.Prelude.{ℕ, ◌^◌, List, slice_index}
 use Rattle.pipe_model.specs.Orders.OrderList.{list_of_log}
-use Rattle.om_list.specs.Labels.{LabelsRise}
+use Rattle.om_relabel.specs.Labels.{LabelsRise}
 
 -- the log of the insertions, for how many elements there is room, and the label of each element
 pub record LabelledList : Type 0 where

@@ -3,7 +3,6 @@
 //! ones, and the order of any two is decided by comparing two labels.
 #![tactic(auto)]
 
-pub mod error;
+mod insertion;
 mod labels;
-mod links;
 pub mod om_list;

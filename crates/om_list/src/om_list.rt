@@ -4,23 +4,17 @@ ghost use Rattle.std.specs.Prelude.{◌≡◌, ◌<◌, ◌≤◌, ◌+◌, ◌+
 ghost use Rattle.om_list.specs.LabelledList.{HasRisingLabels};
 ghost use Rattle.pipe_model.specs.Orders.OrderList.{StandsBefore, list_of_log};
 
-use crate::error::OutOfMemory;
-use crate::labels::{free_label_after, next_label};
-use crate::links::{END, link_after};
+use crate::insertion::insert_element;
+use om_relabel::error::OutOfMemory;
+use om_relabel::links::{END, Links, MOST_ELEMENTS};
 use std::alloc::Global;
 use std::marker::Model;
-
-/// The greatest capacity of a list.
-pub const MOST_ELEMENTS: u32 = 1 << 21;
 
 /// A list of elements, which are numbered from 0 in the order in which they were inserted. Contracts
 /// see the log of the insertions, the capacity, and the label of each element.
 #[derive(Drop)]
 pub struct OmList {
-    // For each element the next one in the list, or `END`.
-    next: Vec<u32>,
-    // For each element its label.
-    labels: Vec<u64>,
+    links: Links,
     // For each element but the first, the element after which it was inserted.
     log: Vec<u32>,
     capacity: u32,
@@ -34,10 +28,10 @@ impl Model for OmList {
 
     ghost use Rattle.om_list.specs.KeptLists.{HasRoom, IsKept};
 
-    ghost view = { λ l. record { log = l.log.items; capacity = l.capacity; labels = l.labels.items } };
+    ghost view = { λ l. record { log = l.log.items; capacity = l.capacity; labels = l.links.label.items } };
 
-    ghost invariant = { λ l. IsKept l.next.items l.labels.items l.log.items
-        × HasRoom l.capacity (length l.log.items) (vec_capacity l.next) (vec_capacity l.labels) (vec_capacity l.log) };
+    ghost invariant = { λ l. IsKept l.links l.log.items
+        × HasRoom l.capacity (length l.log.items) (vec_capacity l.links.next) (vec_capacity l.links.prev) (vec_capacity l.links.label) (vec_capacity l.log) };
 }
 
 impl OmList {
@@ -51,13 +45,14 @@ impl OmList {
         ensures labels { IfOk result HasRisingLabels }
     {
         let mut next = Vec::with_capacity(alloc, capacity as usize)?;
-        let mut labels = Vec::with_capacity(alloc, capacity as usize)?;
+        let mut prev = Vec::with_capacity(alloc, capacity as usize)?;
+        let mut label = Vec::with_capacity(alloc, capacity as usize)?;
         let log = Vec::with_capacity(alloc, capacity as usize)?;
         next.push_reserved(END);
-        labels.push_reserved(0);
+        prev.push_reserved(END);
+        label.push_reserved(0);
         Ok(OmList {
-            next,
-            labels,
+            links: Links { next, prev, label },
             log,
             capacity,
         })
@@ -76,7 +71,7 @@ impl OmList {
         ensures label { result ≡ slice_index self.now.labels x }
         ensures labels { HasRisingLabels self.now }
     {
-        self.labels[x as usize]
+        self.links.label[x as usize]
     }
 
     /// Returns whether `x` is strictly before `y` in the list. Constant time.
@@ -85,12 +80,12 @@ impl OmList {
         requires second { y ≤ length self.now.log }
         ensures { IsTrue result ↔ StandsBefore (list_of_log self.now.log) x y }
     {
-        self.labels[x as usize] < self.labels[y as usize]
+        self.links.label[x as usize] < self.links.label[y as usize]
     }
 
     /// Inserts a new element right after `x`, and returns its number, which is the old length.
-    /// Constant time, unless no label is free between `x` and the next element: then the whole list
-    /// gets new labels.
+    /// Constant time, unless no label is free between `x` and the next element: then the elements of
+    /// the smallest sparse range of labels around `x` get new labels.
     pub fn insert_after(&mut self, x: u32) -> u32
         requires there { x ≤ length self.old.log }
         requires room { length self.old.log + 1 < self.old.capacity }
@@ -99,12 +94,8 @@ impl OmList {
         ensures capacity { self.new.capacity ≡ self.old.capacity }
         ensures labels { HasRisingLabels self.new }
     {
-        let element = self.labels.len() as u32;
-        free_label_after(&self.next, &mut self.labels, x);
-        let low = self.labels[x as usize];
-        let high = next_label(&self.next, &self.labels, x);
-        self.labels.push_reserved(low + (high - low) / 2);
-        link_after(&mut self.next, x);
+        let element = self.len();
+        insert_element(&mut self.links, x);
         self.log.push_reserved(x);
         element
     }

@@ -46,6 +46,8 @@ fn logs_make_their_lists(rt: HostRuntime) -> Result<(), Fail> {
 
 const LAST: u32 = 100_000;
 
+// The first 62 elements halve the labels that are free. The next one has element 0 and the last three
+// labelled anew, in the range of the labels 0 to 7.
 #[test]
 fn elements_are_inserted_after_the_first(rt: HostRuntime) -> Result<(), Fail> {
     let mut list = OmList::new(rt.alloc(), LAST + 1)?;
@@ -53,6 +55,14 @@ fn elements_are_inserted_after_the_first(rt: HostRuntime) -> Result<(), Fail> {
         let element = list.insert_after(0);
         if k < 62 {
             assert_eq!(rt; list.label(element), (1 << 61) >> k);
+        }
+        if k == 62 {
+            assert_eq!(rt; list.label(0), 0);
+            assert_eq!(rt; list.label(element), 1);
+            assert_eq!(rt; list.label(62), 2);
+            assert_eq!(rt; list.label(61), 4);
+            assert_eq!(rt; list.label(60), 6);
+            assert_eq!(rt; list.label(59), 8);
         }
     }
     assert!(rt; list.before(0, 1) && list.before(LAST, 1) && !list.before(1, LAST));

@@ -13,6 +13,6 @@ returns c =
     let same = ap (λ (l : LabelledList). length l.log) c.self.view_is in
     let first : c.args.x ≤ length i.log.items = omega (arith, c.requires.first, same) in
     let second : c.args.y ≤ length i.log.items = omega (arith, c.requires.second, same) in
-    rw (← c.self.view_is) (before_is i.next.items i.labels.items i.log.items kept c.args.x c.args.y _ _ first second
-    (c.index.ensures ∙ get_or_default_zero i.labels.items c.args.x c.index.result.now (omega (arith, first, count)))
-    (c.index-2.ensures ∙ get_or_default_zero i.labels.items c.args.y c.index-2.result.now (omega (arith, second, count))))
+    rw (← c.self.view_is) (before_is i.links i.log.items kept c.args.x c.args.y _ _ first second
+    (c.index.ensures ∙ get_or_default_zero i.links.label.items c.args.x c.index.result.now (omega (arith, first, count)))
+    (c.index-2.ensures ∙ get_or_default_zero i.links.label.items c.args.y c.index-2.result.now (omega (arith, second, count))))

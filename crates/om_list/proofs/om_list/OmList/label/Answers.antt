@@ -5,4 +5,4 @@ use Rattle.om_list.proofs.Insertions.{kept_rises}
 use Rattle.om_list.proofs.om_list.OmList.label.Goals as goal
 
 pub returns-clause-labels : goal.returns-clause-labels
-returns-clause-labels c = subst HasRisingLabels c.self.view_is (kept_rises _ _ _ c.self.invariant.0)
+returns-clause-labels c = subst HasRisingLabels c.self.view_is (kept_rises _ _ c.self.invariant.0)

@@ -2,7 +2,7 @@
 use Rattle.std.proofs.Common.{◌≡◌, ◌≢◌, ℕ, zero, suc, ◌+◌, ◌<◌, ◌≤◌, ◌↔◌, List, [], ◌∷◌, length, get_or, true, refl, sym, ap, ◌∙◌, subst, arith, eq-eqb, ne_eqb, inl, inr}
 use Rattle.std.proofs.lemmas.Bool.{cases_eq}
 use Rattle.pipe_model.specs.Orders.OrderList.{has, StandsBefore}
-use Rattle.om_list.specs.Labels.{LabelsRise}
+use Rattle.om_relabel.specs.Labels.{LabelsRise}
 
 -- the head of a list is in it
 pub has_head : (x : ℕ) (xs : List ℕ) → has x (x ∷ xs) ≡ true
@@ -15,7 +15,7 @@ has_later x xs y h = elim (cases_eq x y) [
   | inr apart ↦ rw (ne_eqb x y apart) h
 ]
 
-low_at_most_top : (label : ℕ → ℕ) (low top : ℕ) (xs : List ℕ) → LabelsRise label low top xs → low ≤ top
+pub low_at_most_top : (label : ℕ → ℕ) (low top : ℕ) (xs : List ℕ) → LabelsRise label low top xs → low ≤ top
 low_at_most_top label low top [] r = r
 low_at_most_top label low top (x ∷ xs) r =
     let rest = low_at_most_top label (label x + 1) top xs r.1 in

@@ -1,7 +1,6 @@
 -- A list as links from each element to the next. The link of the last element is END.
 use Rattle.std.specs.Prelude.{◌≡◌, ℕ, zero, suc, List, [], ◌∷◌, ◌==◌, if◌then◌else◌, length, slice_index}
-use Rattle.om_list.specs.declared.links.TheConstants.{END}
-use Rattle.om_list.specs.declared.labels.TheConstants.{TOP}
+use Rattle.om_relabel.specs.declared.links.TheConstants.{END, TOP}
 
 -- the first element; END if there is none
 abbrev pub first_of : List ℕ → ℕ
@@ -12,6 +11,11 @@ first_of (x ∷ xs) = x
 abbrev pub AreLinked : (ℕ → ℕ) → List ℕ → Type 0
 AreLinked next [] = Unit {0}
 AreLinked next (x ∷ xs) = (next x ≡ first_of xs) × AreLinked next xs
+
+-- each element's link is the element before; that of the first is `before`
+abbrev pub AreLinkedBack : (ℕ → ℕ) → ℕ → List ℕ → Type 0
+AreLinkedBack prev before [] = Unit {0}
+AreLinkedBack prev before (x ∷ xs) = (prev x ≡ before) × AreLinkedBack prev x xs
 
 -- n elements from x on, by their links
 abbrev pub followed : (ℕ → ℕ) → ℕ → ℕ → List ℕ

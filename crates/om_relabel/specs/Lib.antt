@@ -1,0 +1,5 @@
+pub mod LabelledLinks
+pub mod Labels
+pub mod Links
+pub mod Ranges
+pub mod Stretches
