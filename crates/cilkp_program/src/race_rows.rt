@@ -107,15 +107,18 @@ fn long_runs(alloc: Global) -> Result<(), Fail> {
     };
     run.check(alloc, "run", 0, "1337337000\n")?;
     let bench = Case {
-        words: &["bench", "--seed", "1", "--size", "40000"],
+        words: &["bench", "--seed", "1", "--size", "1000"],
         ..Case::of(b"")
     };
-    bench.check(
-        alloc,
-        "bench",
-        0,
-        "items 40000\ninstances 240001\nworkers 1 last 18348055\nworkers 8 last 18348055\n",
-    )
+    let summary = "items 1000\ninstances 6001\nworkers 1 last 459974\nworkers 8 last 459974\n";
+    bench.check(alloc, "bench", 0, summary)?;
+    let greatest = Case {
+        words: &["bench", "--seed", "1", "--size", "40000"],
+        ..bench
+    };
+    let summary =
+        "items 40000\ninstances 240001\nworkers 1 last 18348055\nworkers 8 last 18348055\n";
+    greatest.check(alloc, "greatest bench", 0, summary)
 }
 
 #[test]
