@@ -5,6 +5,8 @@
 #[cfg(test)]
 mod list_rows;
 #[cfg(test)]
+mod many_rows;
+#[cfg(test)]
 mod parent_rows;
 #[cfg(test)]
 mod plays;
