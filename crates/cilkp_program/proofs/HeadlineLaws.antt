@@ -100,7 +100,8 @@ accepted_row tree numbers limit a s i (Runs source input workers throttle log ot
     let same : other ≡ tree = one_source other tree o.program (rw (← s) a.program) in
     let also : others ≡ numbers = one_input others numbers o.read (rw (← i) a.read) in
     let bound : throttle ≡ a.throttle = one_limit w a.command in
-    record { log = log; logged = refl; meets = meets_more (rw (← bound) a.within) (rw (← same, ← also) m) }
+    let within = a.within in
+    record { log = log; logged = refl; meets = meets_more throttle limit (omega (arith, bound, within)) (rw (← same, ← also) m) }
 accepted_row tree numbers limit a s i (RunsSerially source input other others w o r) = absurd (run_is_not_serial a.command w)
 
 -- the result of a call that runs an accepted program, if no read failed

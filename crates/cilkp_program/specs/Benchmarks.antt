@@ -22,12 +22,15 @@ number_or_zero (Some number) = number
 abbrev pub last_or_zero : List ℤ → ℤ
 last_or_zero numbers = number_or_zero (slice_get numbers (length numbers - 1))
 
--- the four lines of a summary: the items, the stage instances, and the workers and the last number of each of two runs
+-- the line of a run: its workers, and the last number of its output
+abbrev pub run_line : (workers : ℕ) (last : ℤ) → List ℕ
+run_line workers last = codes "workers " ++ (decimal workers ++ (codes " last " ++ (signed_decimal last ++ codes "\n")))
+
+-- the four lines of a summary: the items, the stage instances, and the lines of two runs
 abbrev pub summary_text : (items instances workers : ℕ) (last : ℤ) (other_workers : ℕ) (other_last : ℤ) → List ℕ
 summary_text items instances workers last other_workers other_last =
-    codes "items " ++ (decimal items ++ (codes "\ninstances " ++ (decimal instances
-    ++ (codes "\nworkers " ++ (decimal workers ++ (codes " last " ++ (signed_decimal last
-    ++ (codes "\nworkers " ++ (decimal other_workers ++ (codes " last " ++ (signed_decimal other_last ++ codes "\n")))))))))))
+    (codes "items " ++ (decimal items ++ (codes "\ninstances " ++ (decimal instances ++ codes "\n"))) ++ run_line workers last)
+    ++ run_line other_workers other_last
 
 -- the summary of a program and its input: its items, the stage instances of its serial elision, and the last number of the elision's output, or 0, for
 -- a run with 1 worker and one with 8

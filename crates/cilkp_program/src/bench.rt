@@ -1,10 +1,10 @@
 //! The measured runs of a generated workload.
 
-ghost use Rattle.std.specs.Prelude.{◌≡◌, ◌≤◌, ℕ, ℤ, List, IfOk};
+ghost use Rattle.std.specs.Prelude.{◌≡◌, ◌≤◌, ◌++◌, ℕ, ℤ, List, IfOk, OnOk};
 ghost use Rattle.pipe_gen.specs.declared.choices.TheConstants as choices;
 ghost use Rattle.pipe_gen.specs.declared.workload.TheConstants as workloads;
 ghost use Rattle.pipe_model.specs.Language.SyntaxTree.{SyntaxTree, tree_of};
-ghost use Rattle.cilkp_program.specs.Benchmarks.{IsGenerated, elision_summary, last_or_zero, summary_text};
+ghost use Rattle.cilkp_program.specs.Benchmarks.{IsGenerated, elision_summary, last_or_zero, run_line, summary_text};
 
 use crate::load::{Input, Source, input_of, source_of};
 use crate::program_run::{FinishedRun, instance_count, run_program};
@@ -12,7 +12,7 @@ use pipe_check::checked::Checked;
 use pipe_gen::workload::generate;
 use pipe_model::list::{Bytes, Numbers};
 use pipe_model::memory::NoMemory;
-use std::alloc::Global;
+use std::alloc::{AllocError, Global};
 
 // The program and the input numbers of the generated texts, which are read as any other source and
 // input.
@@ -41,6 +41,15 @@ fn last_number(numbers: &Numbers) -> i64
     }
 }
 
+// Appends the line of a run.
+fn push_run(text: &mut Vec<u8>, alloc: Global, run: &FinishedRun) -> Result<(), AllocError>
+    ensures { OnOk result (text.new.items ≡ text.old.items ++ run_line run.now.workers (last_or_zero run.now.output)) }
+{
+    let (workers, last) = (run.workers, last_number(&run.output));
+    let line = format!(in alloc; "workers {workers} last {last}\n")?;
+    text.extend_from_slice(line.as_bytes())
+}
+
 // The lines of a summary, by the workers and the outputs of both runs.
 fn summary_text(
     alloc: Global,
@@ -52,12 +61,11 @@ fn summary_text(
     ensures { IfOk result (λ text. text ≡ summary_text items instances run.now.workers (last_or_zero run.now.output)
         other.now.workers (last_or_zero other.now.output)) }
 {
-    let (workers, last) = (run.workers, last_number(&run.output));
-    let (more, other_last) = (other.workers, last_number(&other.output));
-    let text = format!(in alloc;
-        "items {items}\ninstances {instances}\nworkers {workers} last {last}\nworkers {more} last {other_last}\n"
-    )?;
-    Ok(Bytes::from_vec(text.into_bytes()))
+    let counts = format!(in alloc; "items {items}\ninstances {instances}\n")?;
+    let mut text = counts.into_bytes();
+    push_run(&mut text, alloc, run)?;
+    push_run(&mut text, alloc, other)?;
+    Ok(Bytes::from_vec(text))
 }
 
 /// Runs the generated program on the generated input of this seed and size, once as with 1 worker
