@@ -1,0 +1,2 @@
+pub mod LogExamples
+pub mod LogLines
