@@ -16,7 +16,8 @@ fn push_number(text: &mut String, number: i64) -> Result<(), AllocError>
     writeln!(text, "{number}")
 }
 
-fn name_of(trap: Trap) -> &'static str
+/// Returns the name of a trap, as printed lines have it.
+pub fn name_of(trap: Trap) -> &'static str
     ensures { result.now ≡ trap_name trap }
 {
     match trap {

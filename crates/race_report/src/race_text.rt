@@ -62,8 +62,9 @@ fn push_declared(
     Ok(())
 }
 
-// Appends the name of a cell.
-fn push_cell(
+/// Appends the name of a cell, as the lines of races and of run logs print it. Returns an error only
+/// if memory runs out.
+pub fn push_cell(
     text: &mut Vec<u8>,
     alloc: Global,
     cells: &[Declaration],
@@ -78,7 +79,8 @@ fn push_cell(
     }
 }
 
-fn word_of(kind: AccessKind) -> &'static str
+/// Returns the word for a kind of access, as the lines of races and of run logs print it.
+pub fn word_of(kind: AccessKind) -> &'static str
     ensures { result.now ≡ kind_text kind }
 {
     match kind {

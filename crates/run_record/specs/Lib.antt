@@ -1,0 +1,4 @@
+pub mod LogExamples
+pub mod LogLines
+pub mod MergedLogs
+pub mod OwnColumns

@@ -1,0 +1,9 @@
+//! Run logs: the merge of the logs that a run writes, and the text of a run log, one line for each
+//! event.
+#![tactic(auto)]
+
+pub mod examples;
+pub mod law;
+pub mod log_text;
+pub mod merge;
+mod own_columns;
