@@ -1,0 +1,9 @@
+pub mod TokenFields
+pub mod Ties
+pub mod Replies
+pub mod StageEndCases
+pub mod LeftCounters
+pub mod RunningTokens
+pub mod CallResults
+pub mod ResultTokens
+pub mod HallViews
