@@ -102,17 +102,18 @@ no_access_if true t (Accessed a) rest h r = absurd (let q : a ∷ [] ≡ [] = h 
 no_access_if true t (Staged k n) rest h r = r
 no_access_if true t (Ended e) rest h r = r
 
+no_access_in : (i : ℕ) (e : Event) (t : ℕ) (rest : List TimedAction) → accesses_in (actions_of rest) ≡ []
+    → accesses_in (actions_of (end_action i e t ++ rest)) ≡ []
+no_access_in i (Begin j) t rest r = r
+no_access_in i (Enter j) t rest r = r
+no_access_in i (Access j a) t rest r = r
+no_access_in i (Advance j k n) t rest r = no_access_if (j == i) t (Staged k n) rest refl r
+no_access_in i (Finish j x) t rest r = no_access_if (j == i) t (Ended x) rest refl r
+no_access_in i Stop t rest r = r
+
 no_access : (i : ℕ) (log : List BookEntry) → accesses_in (actions_of (end_actions i log)) ≡ []
 no_access i [] = refl
-no_access i (b ∷ bs) = by b.event
-  where
-    by : (e : Event) → accesses_in (actions_of (end_action i e b.ticket ++ end_actions i bs)) ≡ []
-    by (Begin j) = no_access i bs
-    by (Enter j) = no_access i bs
-    by (Access j a) = no_access i bs
-    by (Advance j k n) = no_access_if (j == i) b.ticket (Staged k n) (end_actions i bs) refl (no_access i bs)
-    by (Finish j x) = no_access_if (j == i) b.ticket (Ended x) (end_actions i bs) refl (no_access i bs)
-    by Stop = no_access i bs
+no_access i (b ∷ bs) = no_access_in i b.event b.ticket (end_actions i bs) (no_access i bs)
 
 -- ---- an iteration that has not ended
 

@@ -90,7 +90,13 @@ module _ (s : State) (starts : List NodeId) (t : TokenFields) (sound : IsStartSo
       acted (next_state s (Finish j e)) j r.frame (Ended e) (Completed e) refl r.is
       (moves_completed s.frames j r.frame (Ended e) e r.runs) o
   stays limit (Access j a) may quiet o = absurd (let q : true ≡ false = quiet in cc)
-  stays limit Stop may quiet o = rw append-nil (record { running = h.running; index = h.index; marks = h.marks; joined = h.joined; folded = h.folded })
+  stays limit Stop may quiet o = rw append-nil (record {
+    running = record { frame = h.running.frame; is = h.running.is; runs = h.running.runs };
+    index = h.index;
+    marks = h.marks;
+    joined = h.joined;
+    folded = h.folded;
+  })
 
 pub tokens_stay_until_their_ends : TokensStayUntilTheirEnds
 tokens_stay_until_their_ends limit events e t run may quiet o h =

@@ -73,9 +73,7 @@ left_place-left-requires-clause-left g c =
     let held : r.token ≡ Some c.in-Some.token = sym c.take_token.ensures.token ∙ c.in-Some.is in
     let st : Pending c.in-Pending.kind c.in-Pending.number ≡ may.frame.status = sym c.in-Pending.is ∙ (c.status.ensures ∙ (ap (λ (z : Row _). z.status) c.take_token.ensures.row ∙ (row_matches g.M.Stands.whole g.M.Stands.stands g.M.Stands.tie (tables_of c.self.inside) c.self.invariant c.args.iteration going may r at).status)) in
     let m = may_as s c.args.iteration may c.in-Pending.kind c.in-Pending.number (sym st) in
-    let fits : SFits w64 c.in-Pending.number = search rules in
-    let num = to_z-of_z w64 c.in-Pending.number fits in
-    rw (c.as_slice.ensures.value, c.take_token.ensures.row, num) (searchable g.M.Stands.whole g.M.Stands.stands g.M.Stands.tie (tables_of c.self.inside) c.self.invariant c.args.iteration going m r at)
+    rw (c.as_slice.ensures.value, c.take_token.ensures.row) (searchable g.M.Stands.whole g.M.Stands.stands g.M.Stands.tie (tables_of c.self.inside) c.self.invariant c.args.iteration going m r at)
 
 pub start_below-marks-requires-clause-up : goal.start_below-marks-requires-clause-up
 start_below-marks-requires-clause-up g c =
