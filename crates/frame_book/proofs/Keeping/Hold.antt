@@ -72,8 +72,8 @@ module _ {M : Type 0} (Whole : SyntaxTree → M → Type 0) (Stands : SyntaxTree
   abbrev pub row : Row M
   row = record r { traces = r.traces ++ trace ∷ []; status = Running; token = Some t }
 
-  abbrev pub with_held : Tables M
-  with_held = record b { rows = set b.rows t.iteration row }
+  abbrev pub tables_held : Tables M
+  tables_held = record b { rows = set b.rows t.iteration row }
 
   none : r.token ≡ None
   none = out_row b.rows t.iteration r at out.out
@@ -122,7 +122,7 @@ module _ {M : Type 0} (Whole : SyntaxTree → M → Type 0) (Stands : SyntaxTree
       let fits = row_matches.fits in
       omega (arith, old, fits)
 
-  pub hold_keeps : IsBook Whole Stands tie with_held
+  pub hold_keeps : IsBook Whole Stands tie tables_held
   hold_keeps = record {
     sized = sized_set _ b.rows b.spare t.iteration r row _ _ _ at refl h.sized;
     logged = h.logged;
@@ -182,7 +182,7 @@ module _ {M : Type 0} (Whole : SyntaxTree → M → Type 0) (Stands : SyntaxTree
   }
 
   -- what contracts see
-  pub hold_view : book_state with_held ≡ with_held (book_state b) (fields_of t) trace
+  pub hold_view : book_state tables_held ≡ with_held (book_state b) (fields_of t) trace
   hold_view =
       let places : map token_state_of (set b.rows t.iteration row) ≡ set (map token_state_of b.rows) t.iteration (Kept (fields_of t)) = map-set token_state_of b.rows t.iteration row in
       rw (traces_are, places) refl
