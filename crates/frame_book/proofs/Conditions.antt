@@ -1,0 +1,6 @@
+-- The conditions of calls, by the rows and by the state.
+pub mod MayEnter
+pub mod EnteredRows
+pub mod KeptCounters
+pub mod AdvancedStates
+pub mod Rescue

@@ -1,0 +1,23 @@
+use Rattle.std.proofs.Common.{◌≡◌, sym, subst, ◌∙◌, false, not}
+use Rattle.pipe_model.specs.Runs.Allowed.{MayEnter}
+use Rattle.frame_book.specs.BookStates.{state_of}
+use Rattle.frame_book.specs.BookTables.{tables_of}
+use Rattle.frame_book.specs.RowsOfFrames.{AreRows}
+use Rattle.frame_book.specs.Tables.{book_state}
+use Rattle.frame_book.proofs.Conditions.MayEnter.{free_is_may}
+use Rattle.frame_book.proofs.book.Book.enter.Goals as goal
+
+pub enter_named-requires-clause-may : goal.enter_named-requires-clause-may
+enter_named-requires-clause-may g c =
+    let s = state_of (book_state (tables_of c.self.inside)) in
+    let rows = subst (AreRows (not s.stopped) s.frames) (sym c.as_slice.ensures.value) c.self.invariant.rows.each in
+    let may = (free_is_may s c.args.iteration).0 ((c.may_enter.ensures (not s.stopped) s.frames rows).0 c.if-not-may_enter.false) in
+    subst (λ v. MayEnter (state_of v) c.args.iteration) c.self.view_is may
+
+pub returns-clause-answer : goal.returns-clause-answer
+returns-clause-answer g c =
+    let s = state_of (book_state (tables_of c.self.inside)) in
+    let rows = subst (AreRows (not s.stopped) s.frames) (sym c.as_slice.ensures.value) c.self.invariant.rows.each in
+    let may = (free_is_may s c.args.iteration).0 ((c.may_enter.ensures (not s.stopped) s.frames rows).0 c.if-not-may_enter.false) in
+    let going = subst (λ v. (state_of v).stopped ≡ false) c.self.view_is (sym c.self.invariant.stopped ∙ c.if-self.false) in
+    (going, subst (λ v. MayEnter (state_of v) c.args.iteration) c.self.view_is may, c.enter_named.ensures.instance.0, c.enter_named.ensures.instance.1)

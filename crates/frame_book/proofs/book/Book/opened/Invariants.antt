@@ -1,0 +1,7 @@
+use Rattle.std.proofs.Common.{◌≡◌, ◌∷◌, ◌+◌, replicate}
+use Rattle.std.specs.Prelude.{vec_capacity}
+use Rattle.frame_book.specs.IterationRows.{empty_row}
+use Rattle.frame_book.proofs.book.Book.opened.Given as goal
+
+abbrev pub invariant-loop : goal.invariant-loop
+invariant-loop g l = (l.spare.items ≡ empty_row 1 ∷ replicate l.counter (empty_row l.stages)) × (vec_capacity l.spare ≡ l.iterations + 1)

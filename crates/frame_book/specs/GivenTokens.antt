@@ -1,0 +1,27 @@
+-- Tokens that are passed to a book, and those that it returns.
+use Rattle.std.specs.Prelude.{ℕ, ℤ, List, ◌+◌, ◌^◌, ◌≤◌, length}
+use Rattle.pipe_model.specs.Language.SyntaxTree.{SyntaxTree, tree_of}
+use Rattle.pipe_frame.specs.RunningTokens.{IsTokenOf}
+use Rattle.pipe_frame.specs.Ties.{Tie, BelongsTo, KnowsMarks}
+use Rattle.pipe_frame.specs.TokenFields.{TokenFields, fields_of}
+use Rattle.pipe_frame.specs.declared.token.FrameToken.{FrameToken}
+use Rattle.frame_book.specs.BookStates.{BookState, IsOut, events_of, replies_at}
+
+-- the fields are those of the token of a running instance that is out, and its ticket is in bounds
+pub record IsOutOf (v : BookState) (t : TokenFields) : Type 0 where
+  pub out : IsOut v t.iteration
+  pub token : IsTokenOf (events_of v.log) t
+  pub now : t.now ≤ 2 ^ 62 + length v.log
+
+-- a payload that belongs to the book's lists, and stands for its program and input at the instance of iteration i after these replies
+pub record IsPayloadOf {M : Type 0} (Stands : SyntaxTree → List ℤ → M → ℕ → List (List ℤ) → Type 0) (tie : M → Tie) (v : BookState)
+    (i : ℕ) (replies : List (List ℤ)) (m : M) : Type 0 where
+  pub belongs : BelongsTo (tie m) v.lists
+  pub stands : Stands (tree_of v.program) v.input m i replies
+
+-- a token that the book returns
+pub record IsGivenBy {M : Type 0} (Stands : SyntaxTree → List ℤ → M → ℕ → List (List ℤ) → Type 0) (tie : M → Tie) (v : BookState)
+    (t : FrameToken M) : Type 0 where
+  pub out : IsOutOf v (fields_of t)
+  pub payload : IsPayloadOf Stands tie v t.iteration (replies_at v t.iteration) t.payload
+  pub knows : KnowsMarks (tie t.payload) t.marks

@@ -1,0 +1,13 @@
+pub mod TicketLog
+pub mod IterationRows
+pub mod BookStates
+pub mod CallEffects
+pub mod GivenTokens
+pub mod Tables
+pub mod Rooms
+pub mod RowsOfFrames
+pub mod KeptTokens
+pub mod Invariant
+pub mod NewBooks
+pub mod BookTables
+pub mod TokenLaws

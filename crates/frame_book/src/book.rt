@@ -1,0 +1,505 @@
+//! The book, and its calls.
+
+ghost use Rattle.std.specs.Prelude.{◌≡◌, ◌≢◌, ◌↔◌, ◌+◌, ◌-◌, ◌*◌, ◌<◌, ◌≤◌, ◌^◌, [], ◌∷◌, ◌++◌, true, false, IsTrue, None, cond, ◌||◌, length, All, IfOk, IfSome, ℕ};
+ghost use Rattle.pipe_model.specs.Runs.Allowed.{MayBegin, MayEnter};
+ghost use Rattle.pipe_model.specs.Pipelines.Behaviour.{Performs, Staged, Ended, closes_at_once};
+ghost use Rattle.pipe_model.specs.Races.Columns.{nodes_at};
+ghost use Rattle.pipe_model.specs.Runs.ControlRun.{ControlRun};
+ghost use Rattle.pipe_model.specs.Runs.RunLogs.{columns_after};
+ghost use Rattle.pipe_model.specs.Orders.Starts.{starts_of};
+ghost use Rattle.pipe_model.specs.Orders.TwoOrders.{down_first_log, right_first_log};
+ghost use Rattle.pipe_model.specs.Runs.State.{own_columns};
+ghost use Rattle.pipe_model.specs.Language.SyntaxTree.{tree_of};
+ghost use Rattle.pipe_model.specs.declared.event.Event.TheVariants as events;
+ghost use Rattle.pipe_frame.specs.CallResults.{BeginReturns, AdvanceReturns, NameReturns, EnterReturns, RescueReturns, CanGoOn};
+ghost use Rattle.pipe_frame.specs.StageEndCases.{NamesNextStage};
+ghost use Rattle.pipe_frame.specs.Ties.{KnowsMarks, BelongsTo};
+ghost use Rattle.pipe_frame.specs.TokenFields.{fields_of};
+ghost use Rattle.pipe_frame.specs.ResultTokens.{IfStarted, IfGo, IfToken};
+ghost use Rattle.frame_book.specs.BookStates.{HasRisingTickets, actions_at, events_of, state_of, with_events, with_last_raised, left_of, pipeline_in, replies_at, item_or, Spent};
+ghost use Rattle.pipe_frame.specs.Replies.{IsPerformed, accessed, replies_of};
+ghost use Rattle.frame_book.specs.NewBooks.{IsPlannedProgram, most_instances, new_book};
+ghost use Rattle.frame_book.specs.CallEffects.{identities_of_orders, after_stop, after_begin, with_named, with_finished, with_held, with_entered, after_enter, after_advance, folded_after, after_name_next, after_rescue, with_resumed, after_leave_ready, IsReady, kept_folded, stage_end};
+ghost use Rattle.frame_book.specs.GivenTokens.{IsGivenBy, IsOutOf, IsPayloadOf};
+
+use crate::folding::{count_of, fold_left, lets_enter, needs_left};
+use crate::ledger::Tickets;
+use crate::payload::Payload;
+use crate::row::Iteration;
+use crate::rows::{first_to_go_on, last_has_ended_first, may_enter};
+use crate::start::{left_place, start_below, start_head};
+use dep_fold::folded::Folded;
+use order_2d::list_writer::ListWriter;
+use order_2d::two_orders::TwoOrders;
+use pipe_frame::results::{Begun, Named, Next, Rescue};
+use pipe_frame::token::FrameToken;
+use pipe_model::column::ColumnEnd;
+use pipe_model::event::Event;
+use pipe_model::list::Numbers;
+use pipe_model::memory::NoMemory;
+use pipe_model::node::Kind;
+use pipe_model::stage::StageEnd;
+use pipe_model::status::Status;
+use pipe_model::ticket::{BookLog, Trace};
+use pipe_model::tree::Program;
+use std::alloc::Global;
+use std::marker::Model;
+use throttle::pool::Pool;
+
+/// The scheduler's state in a run of a program. Contracts see the program, the input and the
+/// throttling limit, the identities of the order lists, the log of its events, for each iteration the
+/// traces of the instances that have ended and where its token is, and how often a left counter was
+/// read. Only `new` allocates.
+#[derive(Drop)]
+pub struct Book<M: Payload<L>, L: ListWriter + Drop> {
+    program: Program,
+    input: Numbers,
+    throttle: u32,
+    rows: Vec<Iteration<M>>,
+    spare: Vec<Iteration<M>>,
+    pool: Pool<M>,
+    orders: TwoOrders<L>,
+    ledger: Tickets,
+    closed: bool,
+    stopped: bool,
+    reads: u64,
+}
+
+impl<M: Payload<L>, L: ListWriter + Drop> Model for Book<M, L> {
+    ghost use Rattle.pipe_model.specs.contracts.tree.Expr as expr;
+    ghost use Rattle.pipe_model.specs.contracts.tree.Stmt as stmt;
+    ghost use Rattle.std.specs.Coded.{codes};
+    ghost use Rattle.frame_book.specs.BookStates.{BookState};
+
+    ghost Value = { BookState };
+
+    ghost coded = { Prim.hlevel (codes, expr.the_row.coded, stmt.the_row.coded) };
+
+    ghost use Rattle.frame_book.specs.Tables.{book_state};
+    ghost use Rattle.frame_book.specs.BookTables.{tables_of};
+    ghost use Rattle.frame_book.specs.Invariant.{IsBook};
+
+    ghost view = { λ b. book_state (tables_of b) };
+
+    ghost invariant = { λ b. IsBook M.whole M.stands M.tie (tables_of b) };
+}
+
+impl<M: Payload<L>, L: ListWriter + Drop> Book<M, L> {
+    // A book of this program and input.
+    pub fn opened(
+        alloc: Global,
+        program: Program,
+        input: Numbers,
+        throttle: u32,
+        payloads: Vec<M>,
+        orders: TwoOrders<L>,
+    ) -> Result<Book<M, L>, NoMemory>
+        requires planned { IsPlannedProgram program input }
+        requires throttle { 0 < throttle }
+        requires payloads { length payloads.items ≡ throttle }
+        requires whole { All (λ m. M.whole (tree_of program) m × BelongsTo (M.tie m) (identities_of_orders orders)) payloads.items }
+        requires started { (orders.down.log ≡ []) × (orders.right.log ≡ []) }
+        requires room { (2 * most_instances (tree_of program) < orders.down.capacity) × (2 * most_instances (tree_of program) < orders.right.capacity) }
+        ensures { IfOk result (λ book. book ≡ new_book program input throttle (identities_of_orders orders)) }
+    {
+        let stages = program.limits.stages as usize;
+        let iterations = program.limits.iterations as usize;
+        let instances = iterations * stages + 1;
+        let mut spare = Vec::with_capacity(alloc, iterations + 1)?;
+        spare.push_reserved(Iteration::new(alloc, 1)?);
+        for _ in 0..iterations {
+            spare.push_reserved(Iteration::new(alloc, stages)?);
+        }
+        Ok(Book {
+            program,
+            input,
+            throttle,
+            rows: Vec::with_capacity(alloc, iterations + 1)?,
+            spare,
+            pool: Pool::new(payloads),
+            orders,
+            ledger: Tickets::new(alloc, 2 * instances + 1)?,
+            closed: false,
+            stopped: false,
+            reads: 0,
+        })
+    }
+
+    /// Returns whether the run was stopped.
+    pub fn is_stopped(&self) -> bool
+        ensures { result ≡ (state_of self.now).stopped }
+    {
+        self.stopped
+    }
+
+    /// Returns how often `advance` has read the stage counter of a left neighbour.
+    pub fn reads(&self) -> u64
+        ensures { result ≡ self.now.reads }
+    {
+        self.reads
+    }
+
+    /// Returns the two order lists, which are those of the starts in the log.
+    pub fn orders(&self) -> &TwoOrders<L>
+        ensures down { result.now.down.log ≡ down_first_log (starts_of (events_of self.now.log)) }
+        ensures right { result.now.right.log ≡ right_first_log (columns_after (events_of self.now.log)) (starts_of (events_of self.now.log)) }
+        ensures lists { identities_of_orders result.now ≡ self.now.lists }
+    {
+        &self.orders
+    }
+
+    /// Returns the log. Its events are a run of the control part, its tickets rise, and each iteration
+    /// has done what its program does.
+    pub fn into_log(self) -> BookLog
+        ensures log { result ≡ self.log }
+        ensures rise { HasRisingTickets result }
+        ensures control { ControlRun self.limit (events_of self.log) (state_of self) }
+        ensures performs { (i : ℕ) → Performs ((pipeline_in self).behaviour i) (actions_at self i) }
+    {
+        self.ledger.into_log()
+    }
+
+    /// Stops the run: the event `Stop`, if it was not stopped before.
+    pub fn stop(&mut self)
+        ensures { self.new ≡ after_stop self.old }
+    {
+        if !self.stopped {
+            self.ledger.stamp(0, Event::Stop);
+            self.stopped = true;
+        }
+    }
+
+    /// Begins the next iteration: the event `Begin` and the token of its instance 0. Otherwise returns
+    /// the first that holds: the run was stopped; the loop is closed; instance 0 of the last iteration
+    /// has not ended; as many iterations are alive as the throttling limit allows.
+    pub fn begin(&mut self) -> Begun<M>
+        ensures answer { BeginReturns self.old.limit (state_of self.old) result }
+        ensures book { self.new ≡ after_begin self.old result }
+        ensures token { IfStarted result (IsGivenBy M.stands M.tie self.new) }
+    {
+        if self.stopped {
+            return Begun::Stopped;
+        }
+        if self.closed {
+            return Begun::Closed;
+        }
+        if !last_has_ended_first(self.rows.as_slice()) {
+            return Begun::NotYet;
+        }
+        let Some(mut payload) = self.pool.take() else {
+            return Begun::Throttled;
+        };
+        let iteration = self.rows.len() as u32;
+        let marks = start_head(self.rows.as_slice(), &mut self.orders);
+        payload.begin(iteration);
+        payload.started(&mut self.orders);
+        let now = self.ledger.stamp(0, Event::Begin(iteration));
+        let Some(mut row) = self.spare.pop() else {
+            unreachable!()
+        };
+        row.enter(0, marks);
+        self.rows.push_reserved(row);
+        Begun::Started(FrameToken {
+            iteration,
+            index: 0,
+            now,
+            joined: 0,
+            folded: Folded::new(),
+            marks,
+            payload,
+        })
+    }
+
+    // The event `Advance` of the token's instance; keeps the token.
+    fn name(&mut self, mut token: FrameToken<M>, kind: Kind, number: i64, trace: Trace)
+        requires going { (state_of self.old).stopped ≡ false }
+        requires out { IsOutOf self.old (fields_of token) }
+        requires performs { Performs (left_of self.old token.iteration) (accessed trace ++ Staged kind number ∷ []) }
+        requires payload { IsPayloadOf M.stands M.tie self.old token.iteration (replies_at self.old token.iteration ++ replies_of trace ∷ []) token.payload }
+        ensures { self.new ≡ with_named self.old (fields_of token) (events.Advance token.iteration kind number) trace }
+    {
+        let iteration = token.iteration;
+        token.now = self
+            .ledger
+            .stamp(token.now, Event::Advance(iteration, kind, number));
+        let row = &mut self.rows[iteration as usize];
+        row.suspend(trace, kind, number, token);
+    }
+
+    // The event `Finish` of the token's instance; puts the payload into the pool.
+    fn finish(&mut self, token: FrameToken<M>, end: ColumnEnd, trace: Trace)
+        requires going { (state_of self.old).stopped ≡ false }
+        requires out { IsOutOf self.old (fields_of token) }
+        requires performs { Performs (left_of self.old token.iteration) (accessed trace ++ Ended end ∷ []) }
+        requires whole { M.whole (tree_of self.old.program) token.payload }
+        requires belongs { BelongsTo (M.tie token.payload) self.old.lists }
+        ensures { self.new ≡ with_finished self.old (fields_of token) (events.Finish token.iteration end) trace }
+    {
+        let iteration = token.iteration;
+        let shut = closes(end, token.index);
+        self.ledger.stamp(token.now, Event::Finish(iteration, end));
+        let row = &mut self.rows[iteration as usize];
+        row.end(trace, Status::Completed(end));
+        self.closed = either(self.closed, shut);
+        self.pool.give(token.payload);
+    }
+
+    // Keeps the token and the trace of an instance that was stopped.
+    fn hold(&mut self, token: FrameToken<M>, trace: Trace)
+        requires stopped { (state_of self.old).stopped ≡ true }
+        requires out { IsOutOf self.old (fields_of token) }
+        requires performs { Performs (left_of self.old token.iteration) (accessed trace) }
+        ensures { self.new ≡ with_held self.old (fields_of token) trace }
+    {
+        let row = &mut self.rows[token.iteration as usize];
+        row.end(trace, Status::Running);
+        row.keep(token);
+    }
+
+    // The event `Enter` of an iteration that may enter the stage that it has named, and its token.
+    fn enter_named(&mut self, iteration: u32) -> FrameToken<M>
+        requires going { (state_of self.old).stopped ≡ false }
+        requires may { MayEnter (state_of self.old) iteration }
+        ensures book { self.new ≡ with_entered self.old iteration }
+        ensures instance { (result.iteration ≡ iteration) × (result.index ≡ length (nodes_at (own_columns (state_of self.old)) iteration)) }
+        ensures folded { result.folded ≡ kept_folded (item_or Spent self.old.tokens iteration) }
+        ensures token { IsGivenBy M.stands M.tie self.new result }
+    {
+        let row = &mut self.rows[iteration as usize];
+        let Some(mut token) = row.take_token() else {
+            unreachable!()
+        };
+        let Status::Pending(kind, number) = row.status() else {
+            unreachable!()
+        };
+        let left = left_place(self.rows.as_slice(), iteration, kind, number, token.joined);
+        let marks = start_below(
+            self.rows.as_slice(),
+            &mut self.orders,
+            iteration,
+            token.index,
+            left,
+        );
+        token.payload.started(&mut self.orders);
+        token.now = self.ledger.stamp(token.now, Event::Enter(iteration));
+        token.index += 1;
+        token.joined = left.unwrap_or(token.joined);
+        token.marks = marks;
+        let row = &mut self.rows[iteration as usize];
+        row.enter(number, marks);
+        token
+    }
+
+    /// Ends the token's instance, which has made the accesses of `trace` and ended with `end`: the
+    /// event `Advance` or `Finish`. If the iteration names a stage that it may enter at once, the event
+    /// `Enter` follows, and the token of the next instance is returned; otherwise the book keeps the
+    /// token until the left neighbour has passed the stage. The left neighbour's counter is read only
+    /// if the token's kept one does not let the iteration go on. A stopped book makes no event, and
+    /// keeps the token and the trace.
+    pub fn advance(&mut self, token: FrameToken<M>, end: StageEnd, trace: Trace) -> Next<M>
+        requires out { IsOutOf self.old (fields_of token) }
+        requires whole { M.whole (tree_of self.old.program) token.payload }
+        requires belongs { BelongsTo (M.tie token.payload) self.old.lists }
+        requires performs { IsPerformed (pipeline_in self.old) token.iteration (replies_at self.old token.iteration) trace end }
+        requires stands { NamesNextStage end → M.stands (tree_of self.old.program) self.old.input token.payload token.iteration (replies_at self.old token.iteration ++ replies_of trace ∷ []) }
+        requires stopped { end ≡ StageEnd.Stopped → (state_of self.old).stopped ≡ true }
+        ensures answer { AdvanceReturns (state_of self.old) token.iteration token.index end result }
+        ensures book { self.new ≡ after_advance self.old (fields_of token) end trace result }
+        ensures token { IfGo result (λ t. IsGivenBy M.stands M.tie self.new t × (t.folded ≡ folded_after self.old (fields_of token) end)) }
+    {
+        if self.stopped {
+            self.hold(token, trace);
+            return Next::Stopped;
+        }
+        match end {
+            StageEnd::Wait(number) => self.go_on(token, Kind::Wait, number, trace),
+            StageEnd::Continue(number) => self.go_on(token, Kind::Continue, number, trace),
+            StageEnd::End => {
+                self.finish(token, ColumnEnd::End, trace);
+                Next::Ended
+            }
+            StageEnd::Closed => {
+                self.finish(token, ColumnEnd::Closed, trace);
+                Next::Ended
+            }
+            StageEnd::Trap(trap) => {
+                self.finish(token, ColumnEnd::Trapped(trap), trace);
+                Next::Ended
+            }
+            StageEnd::Stopped => unreachable!(),
+        }
+    }
+
+    // Ends the token's instance, whose iteration names this stage.
+    fn go_on(&mut self, mut token: FrameToken<M>, kind: Kind, number: i64, trace: Trace) -> Next<M>
+        requires going { (state_of self.old).stopped ≡ false }
+        requires out { IsOutOf self.old (fields_of token) }
+        requires kind { kind ≢ Kind.Zero }
+        requires performs { Performs (left_of self.old token.iteration) (accessed trace ++ Staged kind number ∷ []) }
+        requires payload { IsPayloadOf M.stands M.tie self.old token.iteration (replies_at self.old token.iteration ++ replies_of trace ∷ []) token.payload }
+        ensures answer { AdvanceReturns (state_of self.old) token.iteration token.index (stage_end kind number) result }
+        ensures book { self.new ≡ after_advance self.old (fields_of token) (stage_end kind number) trace result }
+        ensures token { IfGo result (λ t. IsGivenBy M.stands M.tie self.new t × (t.folded ≡ folded_after self.old (fields_of token) (stage_end kind number))) }
+    {
+        let iteration = token.iteration;
+        let read = needs_left(&token.folded, kind, iteration, number);
+        fold_left(self.rows.as_slice(), iteration, read, &mut token.folded);
+        let enters = lets_enter(&token.folded, kind, iteration, number);
+        self.name(token, kind, number, trace);
+        self.reads += count_of(read);
+        if enters {
+            Next::Go(self.enter_named(iteration))
+        } else {
+            Next::Suspended
+        }
+    }
+
+    /// Does the first half of `advance`: the event `Advance` or `Finish`. The book keeps the token of
+    /// an iteration that goes on. It reads no counter.
+    pub fn name_next(&mut self, token: FrameToken<M>, end: StageEnd, trace: Trace) -> Named
+        requires out { IsOutOf self.old (fields_of token) }
+        requires whole { M.whole (tree_of self.old.program) token.payload }
+        requires belongs { BelongsTo (M.tie token.payload) self.old.lists }
+        requires performs { IsPerformed (pipeline_in self.old) token.iteration (replies_at self.old token.iteration) trace end }
+        requires stands { NamesNextStage end → M.stands (tree_of self.old.program) self.old.input token.payload token.iteration (replies_at self.old token.iteration ++ replies_of trace ∷ []) }
+        requires stopped { end ≡ StageEnd.Stopped → (state_of self.old).stopped ≡ true }
+        ensures answer { NameReturns (state_of self.old) end result }
+        ensures book { self.new ≡ after_name_next self.old (fields_of token) end trace result }
+    {
+        if self.stopped {
+            self.hold(token, trace);
+            return Named::Stopped;
+        }
+        match end {
+            StageEnd::Wait(number) => {
+                self.name(token, Kind::Wait, number, trace);
+                Named::Waits
+            }
+            StageEnd::Continue(number) => {
+                self.name(token, Kind::Continue, number, trace);
+                Named::Waits
+            }
+            StageEnd::End => {
+                self.finish(token, ColumnEnd::End, trace);
+                Named::Ended
+            }
+            StageEnd::Closed => {
+                self.finish(token, ColumnEnd::Closed, trace);
+                Named::Ended
+            }
+            StageEnd::Trap(trap) => {
+                self.finish(token, ColumnEnd::Trapped(trap), trace);
+                Named::Ended
+            }
+            StageEnd::Stopped => unreachable!(),
+        }
+    }
+
+    /// Starts the instance that an iteration has named, if it may start: the event `Enter` and its
+    /// token. Returns `None` if the iteration has named none, or must wait, or the run was stopped.
+    pub fn enter(&mut self, iteration: u32) -> Option<FrameToken<M>>
+        ensures answer { EnterReturns (state_of self.old) iteration result }
+        ensures book { self.new ≡ after_enter self.old result }
+        ensures token { IfSome result (IsGivenBy M.stands M.tie self.new) }
+    {
+        if self.stopped {
+            return None;
+        }
+        if !may_enter(self.rows.as_slice(), iteration) {
+            return None;
+        }
+        Some(self.enter_named(iteration))
+    }
+
+    /// Does `enter` for the right neighbour of an iteration.
+    pub fn check_right(&mut self, iteration: u32) -> Option<FrameToken<M>>
+        ensures answer { EnterReturns (state_of self.old) (iteration + 1) result }
+        ensures book { self.new ≡ after_enter self.old result }
+        ensures token { IfSome result (IsGivenBy M.stands M.tie self.new) }
+    {
+        if iteration as usize + 1 >= self.rows.len() {
+            return None;
+        }
+        self.enter(iteration + 1)
+    }
+
+    /// Returns the first that holds: the run was stopped; it is finished; the token of the least
+    /// iteration that was left ready, or that may enter the stage that it has named, after its event
+    /// `Enter`; the next iteration may begin; nothing. Looks at the iterations in order.
+    pub fn rescue(&mut self) -> Rescue<M>
+        ensures answer { RescueReturns self.old.limit (state_of self.old) (IsReady self.old) result }
+        ensures book { self.new ≡ after_rescue self.old result }
+        ensures token { IfToken result (IsGivenBy M.stands M.tie self.new) }
+    {
+        if self.stopped {
+            return Rescue::Stopped;
+        }
+        if self.closed && self.pool.is_full() {
+            return Rescue::Finished;
+        }
+        if let Some(iteration) = first_to_go_on(self.rows.as_slice()) {
+            return Rescue::Token(self.resume(iteration));
+        }
+        if !self.closed && !self.pool.is_empty() && last_has_ended_first(self.rows.as_slice()) {
+            return Rescue::MayBegin;
+        }
+        Rescue::Nothing
+    }
+
+    // The token of an iteration that was left ready, or may enter the stage that it has named.
+    fn resume(&mut self, iteration: u32) -> FrameToken<M>
+        requires going { (state_of self.old).stopped ≡ false }
+        requires can { CanGoOn (IsReady self.old) (state_of self.old) iteration }
+        ensures iteration { result.iteration ≡ iteration }
+        ensures book { self.new ≡ with_resumed self.old iteration }
+        ensures token { IsGivenBy M.stands M.tie self.new result }
+    {
+        let row = &mut self.rows[iteration as usize];
+        match row.status() {
+            Status::Running => match row.take_token() {
+                Some(token) => token,
+                None => unreachable!(),
+            },
+            Status::Pending(_, _) => self.enter_named(iteration),
+            Status::Completed(_) => unreachable!(),
+        }
+    }
+
+    /// Keeps the token of an instance that has started and made no access, for `rescue`.
+    pub fn leave_ready(&mut self, token: FrameToken<M>)
+        requires out { IsOutOf self.old (fields_of token) }
+        requires payload { IsPayloadOf M.stands M.tie self.old token.iteration (replies_at self.old token.iteration) token.payload }
+        requires knows { KnowsMarks (M.tie token.payload) token.marks }
+        ensures { self.new ≡ after_leave_ready self.old (fields_of token) }
+    {
+        let row = &mut self.rows[token.iteration as usize];
+        row.keep(token);
+    }
+
+    /// Raises the ticket of `Stop`, the last event of a stopped run, to at least `least`.
+    pub fn raise_stop(&mut self, least: u64)
+        requires stopped { (state_of self.old).stopped ≡ true }
+        requires least { least ≤ 2 ^ 62 + length self.old.log }
+        ensures { self.new ≡ record self.old { log = with_last_raised self.old.log least } }
+    {
+        self.ledger.raise_last(least);
+    }
+}
+
+// Returns whether an iteration that ends so in its instance `index` closes the loop.
+fn closes(end: ColumnEnd, index: u32) -> bool
+    ensures { IsTrue result ↔ (closes_at_once end ≡ true) × (index ≡ 0) }
+{
+    match end {
+        ColumnEnd::End => false,
+        ColumnEnd::Closed => index == 0,
+        ColumnEnd::Trapped(_) => index == 0,
+    }
+}
+
+// Returns whether one of the two holds.
+fn either(a: bool, b: bool) -> bool
+    ensures { result ≡ (a || b) }
+{
+    a || b
+}

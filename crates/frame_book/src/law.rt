@@ -1,0 +1,8 @@
+//! Laws about tokens.
+
+ghost use Rattle.frame_book.specs.TokenLaws.{TokensStayUntilTheirEnds};
+
+/// A token of a running instance stays one while other instances start and end.
+pub fn tokens_stay_until_their_ends()
+    ensures { TokensStayUntilTheirEnds }
+{}
