@@ -1,5 +1,5 @@
 -- What contracts see of the table of one iteration.
-use Rattle.std.specs.Prelude.{◌≡◌, ℕ, zero, suc, ℤ, pos, List, [], ◌∷◌, ◌++◌, ◌-◌, ◌<◌, ◌^◌, ◌≤ℤ◌, length, Option, Some, None, slice_index_or}
+use Rattle.std.specs.Prelude.{◌≡◌, ℕ, zero, suc, ℤ, pos, List, [], ◌∷◌, ◌++◌, ◌-◌, ◌<◌, ◌^◌, length, Option, Some, None, slice_index_or}
 use Rattle.pipe_model.specs.declared.node.Kind.{Kind}
 use Rattle.pipe_model.specs.declared.node.Kind.TheVariants as kinds
 use Rattle.left_parent.specs.LastNumber.{AreRising}

@@ -1,5 +1,5 @@
 -- Stages of a well-formed pipeline, as they are performed.
-use Rattle.std.proofs.Common.{◌≡◌, ◌≢◌, ℤ, suc, ◌<ℤ◌, ◌-◌, List, [], ◌∷◌, ◌++◌, Bool, true, false, length, append_assoc, refl, ap, sym, ◌∙◌, subst, arith, Some, None}
+use Rattle.std.proofs.Common.{◌≡◌, ◌≢◌, ℤ, suc, ◌<ℤ◌, ◌-◌, List, [], ◌∷◌, ◌++◌, Bool, true, false, length, refl, ap, sym, ◌∙◌, subst, arith, Some, None}
 use Rattle.pipe_model.specs.declared.column.ColumnEnd.{ColumnEnd}
 use Rattle.pipe_model.specs.declared.column.ColumnEnd.TheVariants as ends
 use Rattle.pipe_model.specs.declared.node.Kind.{Kind}

@@ -1,7 +1,6 @@
 -- What an iteration has left to do, by its actions and by its replies.
 use Rattle.std.proofs.Common.{◌≡◌, ◌∙◌, ℕ, ℤ, suc, ◌+◌, List, [], ◌∷◌, ◌++◌, Bool, true, false, length, map, get_or, refl, ap, ap₂, sym, subst, arith, append_assoc, Some, None, ◌==◌}
 use Rattle.std.proofs.lemmas.List.{map-append}
-use Rattle.pipe_model.specs.declared.access.AccessKind.TheVariants.{Read, Write}
 use Rattle.pipe_model.specs.declared.access.Access.{Access as Cell_access}
 use Rattle.pipe_model.specs.declared.event.Event.{Event}
 use Rattle.pipe_model.specs.declared.event.Event.TheVariants.{Begin, Advance, Enter, Finish, Stop, Access}

@@ -36,8 +36,8 @@ use Rattle.run_laws.proofs.RunStates.LaterEdges.{columns_of_frames}
 use Rattle.frame_book.specs.BookStates.{BookState, events_of, last_ticket, with_events, replies_at, timed_access, made, Out, state_of}
 use Rattle.pipe_frame.specs.Replies.{replies_of}
 use Rattle.frame_book.specs.Rooms.{IsPlanned, rooms_of, IsFresh, total, room_in}
-use Rattle.frame_book.specs.Invariant.{IsBook, IsBookAt, HasActions, MatchesFrame, actions_in}
-use Rattle.frame_book.specs.RowsOfFrames.{IsRowOf, AreRows, IsUnheld, token_at, no_marks}
+use Rattle.frame_book.specs.Invariant.{IsBook, HasActions, MatchesFrame, actions_in}
+use Rattle.frame_book.specs.RowsOfFrames.{IsRowOf, AreRows, token_at, no_marks}
 use Rattle.frame_book.specs.KeptTokens.{IsKeptToken, IsAtHome}
 use Rattle.pipe_model.specs.Runs.Schedules.{running_in_frames}
 use Rattle.frame_book.specs.IterationRows.{Row, row_at, head_marks, with_instance}

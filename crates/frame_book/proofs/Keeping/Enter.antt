@@ -23,7 +23,7 @@ use Rattle.pipe_model.specs.Runs.RunLogs.{state_after}
 use Rattle.pipe_model.specs.Orders.OrderMarks.{instance_marks}
 use Rattle.pipe_model.specs.Orders.Starts.{starts_of, start_number}
 use Rattle.pipe_model.specs.Runs.State.{State, Frame, frame_at, update_frame, enter_pending, next_state, own_columns, alive_one}
-use Rattle.pipe_model.specs.declared.status.Status.TheVariants.{Running, Pending}
+use Rattle.pipe_model.specs.declared.status.Status.TheVariants.{Pending}
 use Rattle.pipe_model.specs.Language.SyntaxTree.{SyntaxTree, tree_of}
 use Rattle.pipe_model.specs.Runs.TicketLogs.{end_actions, laid_traces, TimedAction}
 use Rattle.pipe_model.specs.Orders.TwoOrders.{down_first_taken, right_first_taken}

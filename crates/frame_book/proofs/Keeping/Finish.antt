@@ -17,8 +17,7 @@ use Rattle.pipe_model.specs.Runs.RunLogs.{state_after}
 use Rattle.pipe_model.specs.Orders.OrderMarks.{instance_marks}
 use Rattle.pipe_model.specs.Orders.Starts.{starts_of}
 use Rattle.pipe_model.specs.Runs.State.{State, Frame, frame_at, update_frame, with_action, next_state, own_columns, alive_in, alive_one}
-use Rattle.pipe_model.specs.declared.status.Status.{Status}
-use Rattle.pipe_model.specs.declared.status.Status.TheVariants.{Running, Pending, Completed}
+use Rattle.pipe_model.specs.declared.status.Status.TheVariants.{Completed}
 use Rattle.pipe_model.specs.Language.SyntaxTree.{SyntaxTree, tree_of}
 use Rattle.pipe_model.specs.Orders.TwoOrders.{right_first_log}
 use Rattle.pipe_frame.specs.RunningTokens.{left_joined}

@@ -1,5 +1,5 @@
 -- A token of a running instance stays one while other instances start and end.
-use Rattle.std.proofs.Common.{◌≡◌, ◌≢◌, ◌∙◌, ◌<◌, ℕ, ℤ, suc, List, [], ◌∷◌, ◌++◌, length, Some, false, true, refl, ap, sym, subst, arith, append-nil}
+use Rattle.std.proofs.Common.{◌≡◌, ◌≢◌, ◌∙◌, ◌<◌, ℕ, ℤ, List, [], ◌∷◌, ◌++◌, length, Some, false, true, refl, ap, sym, subst, arith, append-nil}
 use Rattle.pipe_model.specs.declared.event.Event.{Event}
 use Rattle.pipe_model.specs.declared.event.Event.TheVariants.{Begin, Advance, Enter, Finish, Stop, Access}
 use Rattle.pipe_model.specs.declared.node.NodeId.{NodeId}
@@ -13,7 +13,7 @@ use Rattle.pipe_model.specs.Runs.Allowed.{ControlAllows, LeftHasPassed}
 use Rattle.pipe_model.specs.Runs.ControlRun.{is_access}
 use Rattle.pipe_model.specs.Runs.RunLogs.{state_after}
 use Rattle.pipe_model.specs.Runs.State.{Frame, State, enter_pending, frame_at, fresh_frame, next_state, own_columns, update_frame, with_action}
-use Rattle.pipe_frame.specs.RunningTokens.{IsTokenOf, left_joined}
+use Rattle.pipe_frame.specs.RunningTokens.{left_joined}
 use Rattle.pipe_frame.specs.TokenFields.{TokenFields}
 use Rattle.run_laws.proofs.ListOrders.SoundStarts.{control_starts_sound}
 use Rattle.run_laws.proofs.ListOrders.StartsOfRuns.{Grew, IsStartSound, grew_begin, grew_enter}

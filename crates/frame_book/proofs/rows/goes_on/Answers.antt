@@ -1,4 +1,4 @@
-use Rattle.std.proofs.Common.{◌≡◌, sym, subst, ap, ◌∙◌, Some, inl, inr, IsSome}
+use Rattle.std.proofs.Common.{◌≡◌, sym, subst, ◌∙◌, Some, inl, inr, IsSome}
 use Rattle.frame_book.specs.RowsOfFrames.{IsFreeIn, IsFreeBy}
 use Rattle.frame_book.specs.IterationRows.{Row}
 use Rattle.frame_book.proofs.Iterations.FrameRows.{frame_of_row}

@@ -1,4 +1,4 @@
-use Rattle.std.proofs.Common.{◌≡◌, ◌++◌, sym, subst, true}
+use Rattle.std.proofs.Common.{◌≡◌, sym, subst, true}
 use Rattle.pipe_frame.specs.TokenFields.{fields_of}
 use Rattle.pipe_model.specs.Pipelines.Behaviour.{Performs}
 use Rattle.frame_book.specs.BookStates.{state_of, left_of}
