@@ -1,0 +1,115 @@
+//! The merge of a book and two shards, with the same tickets in several logs.
+
+ghost use Rattle.std.specs.Prelude.{◌≡◌, IfOk};
+ghost use Rattle.run_record.specs.MergedLogs.{BookRises, ShardRises};
+
+use pipe_model::access::{Access, AccessKind, CellId};
+use pipe_model::column::ColumnEnd;
+use pipe_model::event::Event;
+use pipe_model::event::Event::{Advance, Begin, Enter, Finish};
+use pipe_model::list::ListOf;
+use pipe_model::node::{Kind, Node, NodeId};
+use pipe_model::ticket::{BookEntry, BookLog, ShardEntry, ShardLog};
+use run_record::merge::merge;
+use std::alloc::{AllocError, Global};
+use std::test::Fail;
+
+fn write(cell: u32, value: i64) -> Access {
+    Access {
+        cell: CellId(cell),
+        kind: AccessKind::Write,
+        value,
+    }
+}
+
+fn in_book(ticket: u64, event: Event) -> BookEntry
+    ensures { result.ticket ≡ ticket }
+{
+    BookEntry { ticket, event }
+}
+
+// A write by an instance of an iteration.
+fn in_shard(ticket: u64, iteration: u32, index: u32, access: Access) -> ShardEntry
+    ensures { result.ticket ≡ ticket }
+{
+    let node = NodeId { iteration, index };
+    ShardEntry {
+        ticket,
+        node,
+        access,
+    }
+}
+
+// Iteration 0 goes on in stage 4 while iteration 1 begins, which closes the loop.
+fn book(alloc: Global) -> Result<BookLog, AllocError>
+    ensures { IfOk result BookRises }
+{
+    let entries = [
+        in_book(1, Begin(0)),
+        in_book(3, Advance(0, Kind::Continue, 4)),
+        in_book(4, Begin(1)),
+        in_book(5, Enter(0)),
+        in_book(7, Finish(0, ColumnEnd::End)),
+        in_book(8, Finish(1, ColumnEnd::Closed)),
+    ];
+    Ok(ListOf::from_vec(Vec::from_array(alloc, entries)?))
+}
+
+fn first_shard(alloc: Global) -> Result<ShardLog, AllocError>
+    ensures { IfOk result ShardRises }
+{
+    let entries = [
+        in_shard(2, 0, 0, write(2, 20)),
+        in_shard(5, 1, 0, write(4, 21)),
+        in_shard(6, 0, 1, write(2, 22)),
+    ];
+    Ok(ListOf::from_vec(Vec::from_array(alloc, entries)?))
+}
+
+fn second_shard(alloc: Global) -> Result<ShardLog, AllocError>
+    ensures { IfOk result ShardRises }
+{
+    let entries = [
+        in_shard(5, 1, 0, write(3, 31)),
+        in_shard(6, 1, 0, write(5, 32)),
+    ];
+    Ok(ListOf::from_vec(Vec::from_array(alloc, entries)?))
+}
+
+#[test]
+fn equal_tickets_keep_the_order_of_logs(rt: HostRuntime) -> Result<(), Fail> {
+    let alloc = rt.alloc();
+    let mut shards = Vec::new(alloc);
+    shards.push(first_shard(alloc)?)?;
+    shards.push(second_shard(alloc)?)?;
+    let log = merge(alloc, book(alloc)?, shards)?;
+    let wanted = [
+        Begin(0),
+        Event::Access(0, write(2, 20)),
+        Advance(0, Kind::Continue, 4),
+        Begin(1),
+        Enter(0),
+        Event::Access(1, write(4, 21)),
+        Event::Access(1, write(3, 31)),
+        Event::Access(0, write(2, 22)),
+        Event::Access(1, write(5, 32)),
+        Finish(0, ColumnEnd::End),
+        Finish(1, ColumnEnd::Closed),
+    ];
+    assert_eq!(rt; log.events.as_slice(), &wanted[..]);
+    let head = Node {
+        number: 0,
+        kind: Kind::Zero,
+    };
+    let second = Node {
+        number: 4,
+        kind: Kind::Continue,
+    };
+    let columns = log.columns.as_slice();
+    assert_eq!(rt; columns.len(), 2);
+    assert_eq!(rt; columns[0].nodes.as_slice(), &[head, second][..]);
+    assert_eq!(rt; columns[0].end, Some(ColumnEnd::End));
+    assert_eq!(rt; columns[1].nodes.as_slice(), &[head][..]);
+    assert_eq!(rt; columns[1].end, Some(ColumnEnd::Closed));
+    Ok(())
+}

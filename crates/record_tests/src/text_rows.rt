@@ -1,0 +1,95 @@
+//! The text of a run log, with the names of a program's cells.
+
+use pipe_check::checked::Checked;
+use pipe_check::program::check;
+use pipe_lexer::scan::tokens;
+use pipe_model::access::{Access, AccessKind, CellId};
+use pipe_model::column::{ColumnEnd, Columns};
+use pipe_model::event::Event::{Advance, Begin, Enter, Finish, Stop};
+use pipe_model::event::{Event, RunLog};
+use pipe_model::list::ListOf;
+use pipe_model::node::Kind;
+use pipe_model::trap::Trap;
+use pipe_parser::parse::parse;
+use run_record::log_text::text;
+use std::alloc::Global;
+use std::test::Fail;
+
+const SOURCE: &str = "limits iterations 1, stages 2, steps 50, emits 1; \
+    cell n = 0; cell a[3] = 0; cell last = 0; pipe_while (n < 1) { n = 1; pipe_wait(1); emit n; }";
+
+fn refused() -> Fail {
+    Fail::new(format_args!("the source is refused"))
+}
+
+fn accepted(alloc: Global, source: &[u8]) -> Result<Checked, Fail> {
+    let Ok(tokens) = tokens(alloc, source) else {
+        return Err(refused());
+    };
+    let Ok(parsed) = parse(alloc, source, &tokens) else {
+        return Err(refused());
+    };
+    let Ok(checked) = check(alloc, parsed.program) else {
+        return Err(refused());
+    };
+    Ok(checked)
+}
+
+fn read(iteration: u32, cell: u32, value: i64) -> Event {
+    let access = Access {
+        cell: CellId(cell),
+        kind: AccessKind::Read,
+        value,
+    };
+    Event::Access(iteration, access)
+}
+
+fn write(iteration: u32, cell: u32, value: i64) -> Event {
+    let access = Access {
+        cell: CellId(cell),
+        kind: AccessKind::Write,
+        value,
+    };
+    Event::Access(iteration, access)
+}
+
+#[test]
+fn each_event_has_its_line(rt: HostRuntime) -> Result<(), Fail> {
+    let alloc = rt.alloc();
+    let cases: [(Event, &str); 17] = [
+        (Begin(0), "begin 0\n"),
+        (read(0, 2, 0), "read 0 n 0\n"),
+        (write(0, 2, 1), "write 0 n 1\n"),
+        (Advance(0, Kind::Wait, 1), "wait 0 1\n"),
+        (Enter(0), "enter 0\n"),
+        (read(0, 2, 1), "read 0 n 1\n"),
+        (read(0, 1, 0), "read 0 output 0\n"),
+        (write(0, 1, 1), "write 0 output 1\n"),
+        (Finish(0, ColumnEnd::End), "end 0\n"),
+        (Begin(1), "begin 1\n"),
+        (read(1, 2, 1), "read 1 n 1\n"),
+        (Finish(1, ColumnEnd::Closed), "closed 1\n"),
+        (read(12, 0, 7), "read 12 input 7\n"),
+        (write(12, 5, -34), "write 12 a[2] -34\n"),
+        (Advance(12, Kind::Continue, 900), "continue 12 900\n"),
+        (
+            Finish(12, ColumnEnd::Trapped(Trap::StageLimit)),
+            "trap 12 StageLimit\n",
+        ),
+        (Stop, "stop\n"),
+    ];
+    let mut events = ListOf::new(alloc);
+    let mut wanted = String::new(alloc);
+    for (event, line) in cases {
+        events.push(event)?;
+        wanted.push_str(line)?;
+    }
+    let run_log = RunLog {
+        columns: Columns::new(alloc),
+        events,
+    };
+    let checked = accepted(alloc, SOURCE.as_bytes())?;
+    let lines = text(alloc, &run_log, &checked)?;
+    assert_eq!(rt; lines.as_slice(), wanted.as_bytes());
+    Ok(())
+}
