@@ -291,8 +291,8 @@ impl History {
 
     /// Does what `note` does, with fewer questions to the lists: a kept instance above `who` in its
     /// column, or in the column to the left at an index of at most `joined`, if that is given, counts
-    /// as before `who`. In a run that is so, if `joined` is the last index of the left column that
-    /// precedes `who`. The clauses hold for orders in which it is so. Does not allocate.
+    /// as before `who`. That is right in a run if `joined` is the last index of the left column that
+    /// precedes `who`. The clauses hold for orders in which it is right. Does not allocate.
     pub fn note_joined<O: Orders>(
         &mut self,
         who: Who,

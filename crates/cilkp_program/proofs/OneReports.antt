@@ -18,7 +18,7 @@ one_later e l f m h g = elim (cases_lt l m) [
   | inr a ↦ elim (cases_lt m l) [ inl w ↦ absurd (h.first_later m w f g.race) | inr b ↦ omega (arith, a, b) ]
 ]
 
--- so is the earlier access
+-- the earlier access is one of them too
 one_earlier : {columns : List (List Node)} {accesses : List NotedAccess} (e f l : ℕ) → IsFirstRacingPair columns accesses e l
     → IsFirstRacingPair columns accesses f l → e ≡ f
 one_earlier e f l h g = elim (cases_lt e f) [

@@ -110,11 +110,11 @@ abbrev pub marks_of_row : {M : Type 0} → Option (Row M) → List Marks
 marks_of_row None = []
 marks_of_row (Some r) = r.marks
 
--- the marks of the instance of row i at place k
+-- the marks of instance k of row i
 abbrev pub marks_at : {M : Type 0} → List (Row M) → ℕ → ℕ → Marks
 marks_at rs i k = slice_index_or (marks_of_row (row_at rs i)) k (start_marks 0 0 0)
 
--- row i has marks at place k
+-- row i has marks for its instance k
 abbrev pub HasMarks : {M : Type 0} → List (Row M) → ℕ → ℕ → Type 0
 HasMarks rs i k = k < length (marks_of_row (row_at rs i))
 

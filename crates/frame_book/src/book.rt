@@ -486,7 +486,7 @@ impl<M: Payload<L>, L: ListWriter + Drop> Book<M, L> {
     }
 }
 
-// Returns whether an iteration that ends so in its instance `index` closes the loop.
+// Returns whether an iteration closes the loop if its instance `index` has this end.
 fn closes(end: ColumnEnd, index: u32) -> bool
     ensures { IsTrue result ↔ (closes_at_once end ≡ true) × (index ≡ 0) }
 {

@@ -6,7 +6,7 @@ ghost use Rattle.om_relabel.specs.Ranges.{count_within};
 
 use crate::links::{END, Links, TOP};
 
-/// The element at which a walk ended, and how many elements it went over.
+/// The last element of a walk, and how many elements it went over.
 #[derive(Clone, Copy)]
 pub(crate) struct Walk {
     pub(crate) element: u32,

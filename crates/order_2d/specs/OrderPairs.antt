@@ -2,7 +2,7 @@
 use Rattle.std.specs.Prelude.{ℕ, List, [], ◌∷◌, ◌++◌, ◌+◌, ◌<◌, ◌≤◌, length, Option, Some, None}
 use Rattle.pipe_model.specs.declared.marks.Marks.{Marks}
 
--- an order list: the log of its insertions, for how many elements it has room, and numbers that tell which list it is, if it
+-- an order list: the log of its insertions, how many elements it has room for, and numbers that identify the list, if it
 -- has an identity
 pub record OrderedList : Type 0 where
   pub log : List ℕ

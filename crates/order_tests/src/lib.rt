@@ -11,4 +11,6 @@ mod parent_rows;
 #[cfg(test)]
 mod plays;
 #[cfg(test)]
+mod range_rows;
+#[cfg(test)]
 mod replay_rows;

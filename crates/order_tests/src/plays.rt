@@ -165,7 +165,7 @@ fn enter(play: &mut Play, i: usize, kind: Kind, number: i64) -> Result<bool, NoM
     Ok(true)
 }
 
-// Whether an iteration with these instances may end so.
+// Whether an iteration with these instances may have this end.
 fn may_finish(nodes: &[Node], end: ColumnEnd) -> bool
     ensures { OnTrue result (end ≡ Closed → length nodes.now ≡ 1) }
 {
@@ -181,7 +181,7 @@ fn set_end(columns: &mut Vec<Column>, i: usize, end: ColumnEnd)
     columns[i].end = Some(end);
 }
 
-// Ends an iteration, if it may end so.
+// Ends an iteration, if it may have this end.
 fn finish(play: &mut Play, i: usize, end: ColumnEnd) -> Result<bool, NoMemory>
     requires played { IsPlayed MOST_ITERATIONS play.old.events play.old.columns.items play.old.statuses.items }
     requires begun { i < length play.old.columns.items }

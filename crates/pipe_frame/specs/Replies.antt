@@ -29,7 +29,7 @@ abbrev pub after_instances : Behaviour → List (List ℤ) → Behaviour
 after_instances d [] = d
 after_instances d (r ∷ rs) = after_instances (after_instance d r) rs
 
--- after instances with these replies, the next one of iteration i makes these accesses and ends so; if it was stopped, these are its
--- first accesses
+-- after instances with these replies, the next one of iteration i makes these accesses and has this end; if it was stopped, these are
+-- its first accesses
 abbrev pub IsPerformed : Pipeline → ℕ → List (List ℤ) → List Entry → StageEnd → Type 0
 IsPerformed p i replies trace end = Performs (after_instances (p.behaviour i) replies) (accessed trace ++ stage_end_actions end)

@@ -1,4 +1,4 @@
--- To what a payload belongs, as plain data: two order lists, as far as it has seen them, and the seat of a hall.
+-- What a payload belongs to, as plain data: two order lists, as far as it has seen them, and the seat of a hall.
 use Rattle.std.specs.Prelude.{◌≡◌, ◌≤◌, ℕ, ℤ, List, [], ◌∷◌, length, Option, Some, None}
 use Rattle.pipe_model.specs.declared.marks.Marks.{Marks}
 use Rattle.pipe_model.specs.declared.ticket.Entry.{Entry}

@@ -1,7 +1,7 @@
 //! Payloads of tokens.
 
 /// What a payload is ready to run. It has no calls: contracts see for which programs a payload is
-/// whole, at the start of which instance it stands, and to which order lists and seat it belongs.
+/// whole, at the start of which instance it is, and which order lists and seat it belongs to.
 pub trait Stands {
     ghost use Rattle.std.specs.Prelude.{ℕ, ℤ, List};
     ghost use Rattle.pipe_model.specs.Language.SyntaxTree.{SyntaxTree};
@@ -10,11 +10,11 @@ pub trait Stands {
     /// Whether it can run the instances of a program.
     ghost whole: { SyntaxTree → Self → Type 0 };
 
-    /// Whether it stands, for a program and an input, at the start of the instance of an iteration
-    /// that comes after instances with these replies to their reads.
+    /// Whether it is, for a program and an input, at the start of the instance of an iteration that
+    /// comes after instances with these replies to their reads.
     ghost stands: { SyntaxTree → List ℤ → Self → ℕ → List (List ℤ) → Type 0 };
 
-    /// To what it belongs.
+    /// The order lists and the seat that it belongs to.
     ghost tie: { Self → Tie };
 
     /// A payload that stands for a program is whole for it.

@@ -100,7 +100,7 @@ reached bytes rest found r = record {
   narrow = r.narrow;
 }
 
--- what is wrong at the beginning of the rest is the fault of the input
+-- a flaw at the beginning of the rest is the fault of the input
 pub at_flaw : (bytes rest : List ℕ) (found : List ℤ) (flaw : Flaw) (place : ℕ) → Reaches bytes found rest → IsFlaw rest (length found) flaw
     → place ≡ length bytes - length rest
     → IsFaultOf bytes (fault_at flaw place)

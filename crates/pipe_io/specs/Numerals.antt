@@ -28,7 +28,7 @@ pub record IsNumeralOf (bytes : List ℕ) (numeral : Numeral) : Type 0 where
   pub ends : EndsNumber (drop numeral.length bytes)
   pub narrow : FitsI64 numeral.value
 
--- this is wrong at the beginning of the bytes, which `before` numbers precede
+-- why no number can be read at the beginning of the bytes, after `before` numbers
 pub data IsFlaw (bytes : List ℕ) (before : ℕ) : Flaw → Type 0 where
   StrayByte : BeginsNothing bytes → IsFlaw bytes before (flaws.BadByte 0)
   BareMinus : BeginsBareMinus bytes → IsFlaw bytes before (flaws.BadByte 1)

@@ -15,7 +15,7 @@ use Rattle.op_table.specs.Tables.{text_of, HasLongest, HasNoSymbol, StartsWith, 
 use Rattle.op_table.proofs.OperatorSymbols.{at_row, operator_row, row_symbol, IsOperator}
 use Rattle.pipe_lexer.specs.declared.piece.Flaw.TheVariants as flaws
 use Rattle.pipe_lexer.specs.declared.piece.Piece.TheVariants as pieces
-use Rattle.pipe_lexer.specs.Pieces.{operator_length, BeginsPunctuation, IsFlaw, IsPiece, AToken, NothingStands}
+use Rattle.pipe_lexer.specs.Pieces.{operator_length, BeginsPunctuation, IsFlaw, IsPiece, AToken, NoTokenBegins}
 use Rattle.pipe_lexer.proofs.Longest.{as_punctuation}
 
 -- ---- which texts are punctuation
@@ -179,7 +179,7 @@ sign_piece bytes first begins none sign =
 -- otherwise no token begins there
 pub nothing_stands : (bytes : List ℕ) (first : ℕ) → BeginsPunctuation first bytes → HasNoSymbol OPS.rows bytes → is_sign first ≡ false
     → IsFlaw bytes flaws.BadByte
-nothing_stands bytes first begins none sign = NothingStands (rw begins.parts (
+nothing_stands bytes first begins none sign = NoTokenBegins (rw begins.parts (
   begins.no_blank,
   rw begins.parts at begins.no_comment,
   λ text rest s e t.

@@ -7,7 +7,7 @@ use Rattle.pipe_model.specs.Language.Tokens.{kind_of, token_at, IsLexed, IsReach
 use Rattle.pipe_lexer.specs.declared.piece.Flaw.{Flaw}
 use Rattle.pipe_lexer.specs.declared.piece.Piece.{Piece}
 use Rattle.pipe_lexer.specs.Faults.{fault_at, IsFaultOf}
-use Rattle.pipe_lexer.specs.Pieces.{length_of, tokens_of, IsFlaw, IsPiece, ABlank, AComment, AToken, NothingStands, NumberIsWide, NameIsLong}
+use Rattle.pipe_lexer.specs.Pieces.{length_of, tokens_of, IsFlaw, IsPiece, ABlank, AComment, AToken, NoTokenBegins, NumberIsWide, NameIsLong}
 
 -- a piece has at least one byte, and at most all bytes
 pub piece_within : {bytes : List ℕ} {piece : Piece} → IsPiece bytes piece → (0 < length_of piece) × (length_of piece ≤ length bytes)
@@ -85,12 +85,12 @@ reached source found rest r = record {
   bounded = r.bounded;
 }
 
--- what is wrong at the beginning of the rest is the fault of the source
+-- a flaw at the beginning of the rest is the fault of the source
 pub at_flaw : (source : List ℕ) (found : List Token) (rest : List ℕ) (flaw : Flaw) (place : ℕ) → Reaches source found rest → IsFlaw rest flaw
     → place ≡ length source - length rest → IsFaultOf source (fault_at flaw place)
 at_flaw source found rest flaw place r f e = let same : place ≡ r.place = omega (arith, e, r.within) in rw same (by_flaw f)
   where
     by_flaw : {flaw : Flaw} → IsFlaw rest flaw → IsFaultOf source (fault_at flaw r.place)
-    by_flaw (NothingStands h) = HasBadByte r.place (reached source found rest r) (rw r.here h)
+    by_flaw (NoTokenBegins h) = HasBadByte r.place (reached source found rest r) (rw r.here h)
     by_flaw (NumberIsWide n h w) = HasWideNumber r.place n (reached source found rest r) (rw r.here h) w
     by_flaw (NameIsLong name h w) = HasLongName r.place name (reached source found rest r) (rw r.here h) w

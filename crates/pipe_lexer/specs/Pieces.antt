@@ -41,8 +41,8 @@ pub data IsPiece (bytes : List ℕ) : Piece → Type 0 where
   AToken : (s : Symbol) (n : ℕ) → 0 < n → n ≤ length bytes → IsToken (take n bytes) (drop n bytes) s → IsKindWithinBounds (kind_of s) n
       → IsPiece bytes (pieces.Taken (kind_of s) n)
 
--- this is wrong at the beginning of the bytes
+-- why no piece can be taken from the beginning of the bytes: no token begins here, or the number or the name is too long
 pub data IsFlaw (bytes : List ℕ) : Flaw → Type 0 where
-  NothingStands : BeginsNothing bytes → IsFlaw bytes flaws.BadByte
+  NoTokenBegins : BeginsNothing bytes → IsFlaw bytes flaws.BadByte
   NumberIsWide : (n : ℕ) → BeginsWith bytes (symbols.Number (pos n)) → 2 ^ 63 ≤ n → IsFlaw bytes flaws.TooWide
   NameIsLong : (name : List ℕ) → BeginsWith bytes (symbols.Name name) → LONGEST_NAME < length name → IsFlaw bytes flaws.NameTooLong

@@ -54,8 +54,8 @@ fn note_all(run: &StartedRun<'_>, accesses: &[NodeAccess], histories: &mut Vec<H
     ensures count { length histories.new.items ≡ length histories.old.items }
 {
     for access in accesses {
-        let cell = access.access.cell.0 as usize;
-        histories[cell] = note(run, histories[cell], *access);
+        let history = &mut histories[access.access.cell.0 as usize];
+        note(run, history, *access);
     }
 }
 

@@ -34,12 +34,12 @@ fn started_node(run: &StartedRun<'_>, node: NodeId) -> StartedNode
 }
 
 /// Notes an access in the history of its cell.
-pub(crate) fn note(run: &StartedRun<'_>, history: History, access: NodeAccess) -> History
+pub(crate) fn note(run: &StartedRun<'_>, history: &mut History, access: NodeAccess)
     requires run { IsReplayOf (nodes_of_columns run.now.columns.now) run.now.replayed }
     requires inside { IsNodeOf (nodes_of_columns run.now.columns.now) access.node }
-    requires noted { (accesses : List NotedAccess) × HasNoted (nodes_of_columns run.now.columns.now) run.now.replayed.nodes accesses history }
-    ensures { (accesses : List NotedAccess) → HasNoted (nodes_of_columns run.now.columns.now) run.now.replayed.nodes accesses history
-        → HasNoted (nodes_of_columns run.now.columns.now) run.now.replayed.nodes (accesses ++ noted_access access.node access.access.kind ∷ []) result }
+    requires noted { (accesses : List NotedAccess) × HasNoted (nodes_of_columns run.now.columns.now) run.now.replayed.nodes accesses history.old }
+    ensures { (accesses : List NotedAccess) → HasNoted (nodes_of_columns run.now.columns.now) run.now.replayed.nodes accesses history.old
+        → HasNoted (nodes_of_columns run.now.columns.now) run.now.replayed.nodes (accesses ++ noted_access access.node access.access.kind ∷ []) history.new }
 {
     let started = started_node(run, access.node);
     let who = Who {
@@ -47,7 +47,5 @@ pub(crate) fn note(run: &StartedRun<'_>, history: History, access: NodeAccess) -
         marks: started.marks,
     };
     let mut orders = run.replayed.orders.view();
-    let mut history = history;
     history.note_joined(who, Some(started.joined), access.access.kind, &mut orders);
-    history
 }

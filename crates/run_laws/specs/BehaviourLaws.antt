@@ -25,7 +25,7 @@ pub record PerformsByReplies (behaviour : Behaviour) : Type 0 where
   pub grows : (replies more : List ℤ)
       → (rest : List Action) × (actions_with behaviour (replies ++ more) ≡ actions_with behaviour replies ++ rest)
 
--- every behaviour does so
+-- every behaviour performs by replies
 abbrev pub BehavioursPerform : Type 0
 BehavioursPerform = (behaviour : Behaviour) → PerformsByReplies behaviour
 

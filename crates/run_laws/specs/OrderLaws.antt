@@ -105,6 +105,6 @@ pub record InsertsNext (log : List ℕ) (x : ℕ) : Type 0 where
   pub list : list_of_log (log ++ x ∷ []) ≡ insert_after x (1 + length log) (list_of_log log)
   pub names : IsLog 1 log → x < 1 + length log → IsLog 1 (log ++ x ∷ [])
 
--- each entry at the end of a log does so
+-- each entry at the end of a log inserts its element
 abbrev pub EntriesInsertElements : Type 0
 EntriesInsertElements = (log : List ℕ) (x : ℕ) → InsertsNext log x

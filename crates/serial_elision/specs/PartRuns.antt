@@ -2,6 +2,7 @@
 use Rattle.std.specs.Prelude.{◌≡◌, ◌≤◌, ◌++◌, ◌∷◌, ◌+◌, ◌-◌, ◌&&◌, ◌==◌, ℕ, List, length, Bool, false, Option, Some, None}
 use Rattle.cell_store.specs.ShardState.{IsStateAfter, ShardState}
 use Rattle.pipe_model.specs.declared.access.Access.{Access}
+use Rattle.pipe_model.specs.declared.bounds.TheConstants.{MOST_CELLS, MOST_STAGES}
 use Rattle.pipe_model.specs.declared.column.Column.{Column}
 use Rattle.pipe_model.specs.declared.column.ColumnEnd.{ColumnEnd}
 use Rattle.pipe_model.specs.declared.event.Event.TheVariants as events
@@ -9,6 +10,7 @@ use Rattle.pipe_model.specs.declared.trap.TrapAt.{TrapAt}
 use Rattle.pipe_model.specs.declared.trap.TrapPlace.{TrapPlace}
 use Rattle.pipe_model.specs.declared.trap.TrapPlace.TheVariants.{At}
 use Rattle.pipe_model.specs.Language.CheckingRules.{cell_total}
+use Rattle.pipe_model.specs.Language.Programs.{natural}
 use Rattle.pipe_model.specs.Language.SyntaxTree.{SyntaxTree}
 use Rattle.pipe_model.specs.Pipelines.Behaviour.{Action, accesses_in, closes_at_once, closes_loop}
 use Rattle.pipe_model.specs.Pipelines.ElisionResults.{ended_column}
@@ -23,7 +25,11 @@ use Rattle.serial_elision.specs.Recording.{IsWhole}
 pub record Serves (tree : SyntaxTree) (cells : ShardState) : Type 0 where
   pub whole : IsWhole cells
   pub count : cells.shard.cells ≡ cell_total tree.cells + 2
-  pub few : cells.shard.cells ≤ 65538
+  pub few : cells.shard.cells ≤ MOST_CELLS + 2
+
+-- the most instances of an iteration: instance 0, and one for each stage that it enters
+abbrev pub longest_column : ℕ
+longest_column = natural MOST_STAGES + 1
 
 -- the end closes the loop if it is that of instance 0
 abbrev pub end_closes : Option ColumnEnd → Bool

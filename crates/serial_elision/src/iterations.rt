@@ -2,6 +2,7 @@
 
 ghost use Rattle.std.specs.Prelude.{◌≡◌, ◌≤◌, ◌<◌, IfOk, length};
 ghost use Rattle.cell_store.specs.ShardState.{IsStateAfter};
+ghost use Rattle.pipe_model.specs.declared.bounds.TheConstants.{MOST_ITERATIONS};
 ghost use Rattle.pipe_model.specs.Language.Programs.{natural, store_of};
 ghost use Rattle.pipe_model.specs.Language.ProgramsOfTrees.{whole_of};
 ghost use Rattle.pipe_model.specs.Language.SyntaxTree.{tree_of};
@@ -54,7 +55,7 @@ fn column_closes(column: &Column) -> bool
     column.nodes.len() == 1 && end_closes(column.end)
 }
 
-// Returns the trap of a part that ended so, at this place.
+// Returns the trap of a part with this end, if it is a trap, with the place where it was raised.
 pub fn part_trap(place: TrapPlace, end: Option<ColumnEnd>) -> Option<TrapAt>
     ensures { result ≡ whole_programs.part_trap place end }
 {
@@ -69,7 +70,7 @@ pub fn part_trap(place: TrapPlace, end: Option<ColumnEnd>) -> Option<TrapAt>
 // Returns the place of the last instance of an iteration.
 fn last_place(iteration: u32, column: &Column) -> TrapPlace
     requires some { 0 < length column.now.nodes }
-    requires few { length column.now.nodes ≤ 4097 }
+    requires few { length column.now.nodes ≤ part_runs.longest_column }
     ensures { result ≡ part_runs.last_place iteration column.now }
 {
     let nodes = column.nodes.as_slice();
@@ -84,7 +85,7 @@ fn last_place(iteration: u32, column: &Column) -> TrapPlace
 // Returns the trap with which an iteration ended.
 fn column_trap(iteration: u32, column: &Column) -> Option<TrapAt>
     requires some { 0 < length column.now.nodes }
-    requires few { length column.now.nodes ≤ 4097 }
+    requires few { length column.now.nodes ≤ part_runs.longest_column }
     ensures { result ≡ part_runs.column_trap iteration column.now }
 {
     part_trap(last_place(iteration, column), column.end)
@@ -93,7 +94,7 @@ fn column_trap(iteration: u32, column: &Column) -> Option<TrapAt>
 // Returns the number of the iteration that closes the loop if none before it does.
 fn last_iteration(code: &Code) -> u32
     ensures limit { result ≡ natural code.now.limits.iterations }
-    ensures few { result ≤ 65536 }
+    ensures few { result ≤ natural MOST_ITERATIONS }
 {
     code.limits().iterations as u32
 }

@@ -11,7 +11,7 @@ ghost use Rattle.pipe_model.specs.Races.Columns.{at, no_node};
 ghost use Rattle.stage_code.specs.FlatCode.{FlatCode};
 ghost use Rattle.stage_interp.specs.MachineState.{IsMadeFor};
 ghost use Rattle.stage_interp.specs.Standing.{IsCodeOf, behaviour_in};
-ghost use Rattle.serial_elision.specs.PartRuns.{PartRan, Serves};
+ghost use Rattle.serial_elision.specs.PartRuns.{PartRan, Serves, longest_column};
 
 use crate::instance::{InstanceEnd, run_instance};
 use crate::log::Log;
@@ -67,7 +67,7 @@ fn finish(log: Log, iteration: u32, end: ColumnEnd) -> Result<Log, NoMemory>
 // Returns the name of the last instance of an iteration.
 fn last_node(iteration: u32, nodes: &Nodes) -> NodeId
     requires some { 0 < length nodes.now }
-    requires few { length nodes.now ≤ 4097 }
+    requires few { length nodes.now ≤ longest_column }
     ensures { result ≡ at iteration (length nodes.now - 1) }
 {
     NodeId {
@@ -94,7 +94,7 @@ pub fn run_part(
         (serial_trace (store_of (tree_of prepared.now.checked.now)) (behaviour_in (tree_of prepared.now.checked.now) prepared.now.input.now part iteration) before)
         iteration log r.0 r.1) }
     ensures some { IfOk result (λ r. 0 < length r.0.nodes) }
-    ensures few { IfOk result (λ r. length r.0.nodes ≤ 4097) }
+    ensures few { IfOk result (λ r. length r.0.nodes ≤ longest_column) }
     ensures made { IfOk result (λ r. (code : FlatCode) → IsMadeFor code machine.old → IsMadeFor code machine.new) }
     ensures serves { IfOk result (λ r. Serves (tree_of prepared.now.checked.now) r.1.cells) }
 {

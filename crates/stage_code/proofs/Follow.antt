@@ -23,7 +23,7 @@ bind-assoc (interactions.Stage k n d) f g = λ i. interactions.Stage k n (bind-a
 abbrev pub setting_with : CodeSetting → (List ℕ → Option CellRange) → ℕ → Setting
 setting_with p cells turns = record { cells = cells; turns = turns; world = p.world }
 
--- the machine at a place runs a tree, for n steps
+-- from this instruction on, the machine runs a tree for n steps
 abbrev pub FollowsAt : CodeSetting → ℕ → CodeState → Interaction ColumnEnd → Type 0
 FollowsAt p n c d = Follows p n (run_next p c) d
 
@@ -71,7 +71,7 @@ element_follows p n first size (pos i) g k h = by (nat_lt i size) (λ e. let t :
     by true f = f refl
     by false f = Raises _
 
--- the same place by another sum
+-- the same index, by another sum
 pub moved : (p : CodeSetting) (n : ℕ) (c : CodeState) (q r : ℕ) (stack : List ℤ) (d : Interaction ColumnEnd) → q ≡ r
     → FollowsAt p n (record c { place = q; stack = stack }) d → FollowsAt p n (record c { place = r; stack = stack }) d
 moved p n c q r stack d e f = subst (λ x. FollowsAt p n (record c { place = x; stack = stack }) d) e f

@@ -18,7 +18,7 @@ greater_second a b = grind arith
 pub greater-zero : (a : ℕ) → greater a 0 ≡ a
 greater-zero a = grind arith
 
--- from a place of a list on: the statement there, and the others
+-- the statement at an index of a list, and those after it
 pub height_from : (ss : List Stmt) (i : ℕ) (s : Stmt) → i < length ss → s ≡ get_or ss i s
     → height_of_statements (statements_of (drop i ss)) ≡ greater (height_of_statement (statement_of s)) (height_of_statements (statements_of (drop (i + 1) ss)))
 height_from ss i s h e =

@@ -13,7 +13,7 @@ use Rattle.stage_code.specs.Slots.{HasSlots, HaveSlots, locals_after, locals_at_
 use Rattle.stage_code.specs.declared.instr.Instr.{Instr}
 use Rattle.stage_code.specs.declared.instr.Instr.TheVariants as instrs
 
--- from a place of the list on there is one statement, and then the others
+-- from an index of the list on: one statement, and those after it
 statements_from : (ss : List Stmt) (i : ℕ) (s : Stmt) → i < length ss → s ≡ get_or ss i s
     → statements_of (drop i ss) ≡ Then (statement_of s) (statements_of (drop (i + 1) ss))
 statements_from ss i s h e = at_drop_more statements_of ss i s h ∙ ap (λ x. Then (statement_of x) (statements_of (drop (i + 1) ss))) (sym e)

@@ -70,7 +70,7 @@ impl Machine {
         })
     }
 
-    // Returns the place at which a part starts.
+    // Returns the index of the first instruction of a part.
     fn start(&self, part: Part) -> u32
         ensures { result ≡ start_in self.now part }
     {

@@ -23,7 +23,7 @@ use Rattle.frame_book.specs.GivenTokens.{IsOutOf}
 use Rattle.frame_book.proofs.Conditions.KeptCounters.{passed_beside, two_events}
 use Rattle.frame_book.proofs.BookLogs.LogEntries.{events_of_with, state_after-push}
 
--- whose token is out has begun
+-- an iteration whose token is out has begun
 pub out_inside : (xs : List TokenState) (i : ℕ) → get_or xs i Spent ≡ Out → i < length xs
 out_inside [] i e = absurd (let q : Spent ≡ Out = e in cc)
 out_inside (x ∷ xs) zero e = omega arith

@@ -1,4 +1,4 @@
--- What the rows, the pool and the closing say of what there is to do.
+-- Which action the rows, the pool and the closed flag allow next.
 use Rattle.std.proofs.Common.{◌≡◌, ◌↔◌, ℕ, zero, suc, ◌+◌, ◌<◌, List, [], ◌∷◌, length, refl, ap, sym, ◌∙◌, arith, subst, Bool, true, false, Option, Some, None, inl, inr, IsSome}
 use Rattle.std.proofs.lemmas.Bool.{cases_lt}
 use Rattle.pipe_model.specs.Runs.Allowed.{MayBegin, IsClosed, LastEndedFirstInstance}

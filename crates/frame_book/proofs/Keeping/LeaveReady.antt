@@ -24,7 +24,7 @@ use Rattle.frame_book.specs.GivenTokens.{IsOutOf, IsPayloadOf}
 use Rattle.frame_book.proofs.Iterations.FrameRows.{row_of_frame, row_at_within, row_at_read, token_of_row}
 use Rattle.frame_book.proofs.Iterations.ChangedRows.{rows_set_same, token_at_set, token_at_other, map_set_same, map_at, total_set_same, rooms_set}
 
--- a row whose token is out keeps none
+-- a row whose token is out has no kept token
 pub out_keeps_none : {M : Type 0} → (token : Option (FrameToken M)) (w : Status) → token_state_by token w ≡ Out → token ≡ None
 out_keeps_none None w e = refl
 out_keeps_none (Some t) w e = absurd (let q : Kept (fields_of t) ≡ Out = e in cc)

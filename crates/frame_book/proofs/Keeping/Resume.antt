@@ -65,7 +65,7 @@ can_not v i f x e s (inr m) = (
     let w : Completed x ≡ Pending m.kind m.number = sym s ∙ (ap (λ (g : Frame). g.status) z ∙ m.named) in
     absurd (cc))
 
--- a row with a kept place has its token
+-- a row whose token is kept
 pub kept_token : {M : Type 0} → (token : Option (FrameToken M)) (f : _) → token_state_by token Running ≡ Kept f → (t : FrameToken M) × (token ≡ Some t)
 kept_token None f e = absurd (let q : Out ≡ Kept f = e in cc)
 kept_token (Some t) f e = (t, refl)

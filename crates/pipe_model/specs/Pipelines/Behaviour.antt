@@ -86,13 +86,13 @@ nodes_in (Ended e ∷ is) = nodes_in is
 abbrev pub column_of : List Action → List Node
 column_of items = node_of Zero (pos 0) ∷ nodes_in items
 
--- the end closes the loop if instance 0 ends so: a false test of the loop, or a trap
+-- whether instance 0 closes the loop if it has this end, a false test of the loop or a trap
 abbrev pub closes_at_once : ColumnEnd → Bool
 closes_at_once ends.End = false
 closes_at_once ends.Closed = true
 closes_at_once (ends.Trapped t) = true
 
--- the trace closes the loop: it ends so in instance 0
+-- whether the trace closes the loop: its instance 0 has such an end
 abbrev pub closes_loop : List Action → Bool
 closes_loop [] = false
 closes_loop (Accessed a ∷ is) = closes_loop is

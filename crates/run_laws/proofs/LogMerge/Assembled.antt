@@ -22,7 +22,7 @@ pub record IsAssembled (p : Pipeline) (limit : ℕ) (events : List Event) (c : S
   pub replies : (front rest : List Event) (i : ℕ) (a : Cell_access) → events ≡ front ++ Access i a ∷ rest
       → HasReply p.store (p.preamble ++ accesses_among front) a
 
--- events of which the parts are so are a run
+-- events are a run if their parts are
 abbrev pub AssembledIsRun : Type 0
 AssembledIsRun =
     (p : Pipeline) (limit : ℕ) (events : List Event) (c : State) → IsAssembled p limit events c

@@ -22,7 +22,7 @@ StaysInFirst Running nodes d = (length nodes ≡ 1) × AlwaysClosesLoop d
 StaysInFirst (Pending k n) nodes d = ⊥
 StaysInFirst (Completed e) nodes d = (length nodes ≡ 1) × (closes_at_once e ≡ true)
 
--- the last iteration does so
+-- the last iteration stays in its first instance
 abbrev pub LastStays : Pipeline → List Frame → Type 0
 LastStays p fs =
     (f : Frame) → frame_at fs p.last_iteration ≡ Some f

@@ -1,4 +1,5 @@
 use Rattle.std.proofs.Common.{◌≡◌, ◌≤◌, ◌<◌, ◌+◌, ◌-◌, length}
+use Rattle.pipe_model.specs.declared.bounds.TheConstants.{MOST_STAGES}
 use Rattle.pipe_model.specs.Language.Programs.{natural, store_of}
 use Rattle.pipe_model.specs.Language.SyntaxTree.{tree_of}
 use Rattle.stage_code.specs.FlatCode.{FlatCode}
@@ -19,7 +20,7 @@ invariant-loop-nodes l =
       whole : IsWhole l.log.cells;
       some : 0 < length l.nodes;
       room : length l.nodes + (natural l.prepared.code.now.limits.stages - l.machine.run.state.stage.count) ≤ natural l.prepared.code.now.limits.stages + 1;
-      few : natural l.prepared.code.now.limits.stages ≤ 4096;
+      few : natural l.prepared.code.now.limits.stages ≤ natural MOST_STAGES;
     }
 
 abbrev pub decreases-loop-nodes : goal.decreases-loop-nodes
