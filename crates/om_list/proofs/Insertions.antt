@@ -1,5 +1,5 @@
 -- An insertion: links, labels and log with the new element.
-use Rattle.std.proofs.Common.{◌≡◌, ◌≢◌, ℕ, ◌+◌, ◌^◌, ◌<◌, ◌≤◌, ◌↔◌, List, [], ◌∷◌, ◌++◌, length, get_or, slice_index, slice_set, true, IsTrue, ltb, refl, sym, ap, ◌∙◌, subst, arith, eq-eqb, ne_eqb, inl, inr, length-set}
+use Rattle.std.proofs.Common.{◌≡◌, ◌≢◌, ℕ, ◌+◌, ◌^◌, ◌<◌, ◌≤◌, ◌↔◌, List, [], ◌∷◌, ◌++◌, length, slice_index, slice_set, true, IsTrue, ltb, refl, sym, ap, ◌∙◌, subst, arith, eq-eqb, ne_eqb, inl, inr, length-set}
 use Rattle.std.proofs.lemmas.Bool.{cases_eq, lt-ltb, ltb-true}
 use Rattle.std.proofs.lemmas.List.{get_or_append_left, get_or_push, get_or-set_other, get_or-set_same, length_push}
 use Rattle.pipe_model.specs.Orders.OrderList.{has, insert_after, list_of_log, StandsBefore}
@@ -10,7 +10,7 @@ use Rattle.om_relabel.specs.LabelledLinks.{AreLabelled, elements, label_of}
 use Rattle.om_relabel.specs.Labels.{LabelsRise}
 use Rattle.om_relabel.specs.Links.{AreLinked, AreLinkedBack, chain, first_of, followed, label_after, label_or}
 use Rattle.om_relabel.proofs.RisingLabels.{before_by_label, rises_same}
-use Rattle.om_relabel.proofs.Walks.{element_count, length_followed}
+use Rattle.om_relabel.proofs.Walks.{length_followed}
 use Rattle.om_list.specs.KeptLists.{IsKept, links_back, links_with}
 use Rattle.om_list.proofs.LinkedLists.{BackAfter, LinksAfter, back_inserted, first_inserted, followed_is, length_inserted, link_within, linked_inserted, rises_inserted}
 

@@ -1,5 +1,5 @@
 -- The first events of a log, without the accesses: their state, their starts, and how many instances each iteration has.
-use Rattle.std.proofs.Common.{◌≡◌, ◌∙◌, refl, sym, ap, subst, ℕ, ℤ, zero, suc, ◌+◌, ◌<◌, ◌≤◌, List, [], ◌∷◌, ◌++◌, length, map, get_or, set, slice_index, slice_set, take, drop, true, false, Bool, arith, append-nil, append_assoc, inl, inr, Some, cond}
+use Rattle.std.proofs.Common.{◌≡◌, ◌∙◌, refl, sym, ap, subst, ℕ, ℤ, zero, suc, ◌+◌, ◌<◌, ◌≤◌, List, [], ◌∷◌, ◌++◌, length, map, get_or, slice_index, slice_set, take, drop, true, false, Bool, arith, append-nil, append_assoc, inl, inr, Some, cond}
 use Rattle.std.proofs.lemmas.Bool.{cases_eq, cases_lt}
 use Rattle.std.proofs.lemmas.List.{length-map, length_push, length-append, take_all, take_more, take-append-drop, get_or_append_left, get_or_push, get_or_past, get_or-set_same, get_or-set_other, length-set}
 use Rattle.pipe_model.specs.declared.event.Event.{Event}

@@ -1,5 +1,5 @@
 -- The two lists of the first starts, and of one start more.
-use Rattle.std.proofs.Common.{◌≡◌, ◌∙◌, refl, sym, ap, ap₂, subst, ℕ, zero, suc, ◌+◌, ◌*◌, ◌<◌, ◌≤◌, ◌↔◌, List, [], ◌∷◌, ◌++◌, length, map, take, arith}
+use Rattle.std.proofs.Common.{◌≡◌, ◌∙◌, refl, sym, ap, ap₂, subst, ℕ, zero, suc, ◌+◌, ◌*◌, ◌<◌, ◌≤◌, ◌↔◌, List, [], ◌∷◌, ◌++◌, length, take, arith}
 use Rattle.std.proofs.lemmas.List.{length-take-le, map-append, take_more}
 use Rattle.order_2d.specs.OrderPairs.{HasRoom, OrderPair, marks_after, with_start}
 use Rattle.order_2d.specs.ReplayedOrders.{IsBeforeInLists, OrdersArePrecedes, marks_at, marks_of_starts}

@@ -1,11 +1,11 @@
 -- The instances that are known to be before another, in a run: paths lead from them to it.
-use Rattle.std.proofs.Common.{◌≡◌, ◌∙◌, ◌<◌, ◌≤◌, ◌==◌, ◌&&◌, ◌||◌, ℕ, zero, suc, Bool, true, false, nat_le, nat_lt, List, Option, Some, None, IfSome, inl, inr, ap, sym, refl, subst, arith}
+use Rattle.std.proofs.Common.{◌≡◌, ◌∙◌, ◌<◌, ◌≤◌, ◌==◌, ◌&&◌, ◌||◌, ℕ, suc, true, nat_le, nat_lt, List, Option, Some, None, IfSome, inl, inr, subst, arith}
 use Rattle.std.proofs.lemmas.Bool.{or_cases}
 use Rattle.std.proofs.lemmas.Bool.Decides.{nat_tests}
 use Rattle.access_history.specs.declared.history.History.{History}
 use Rattle.access_history.specs.declared.history.Who.{Who}
 use Rattle.access_history.specs.KeptInstances.{AllKept}
-use Rattle.access_history.specs.KnownOrder.{AgreeOnKnown, AgreeOnKnownKept, is_known_before}
+use Rattle.access_history.specs.KnownOrder.{AgreeOnKnown, AgreeOnKnownKept}
 use Rattle.order_2d.specs.StartedNodes.{left_joined}
 use Rattle.pipe_model.specs.declared.node.Node.{Node}
 use Rattle.pipe_model.specs.declared.node.NodeId.{NodeId}

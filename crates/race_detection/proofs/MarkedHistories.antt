@@ -1,5 +1,5 @@
 -- The history of a cell whose kept instances have the marks of a run.
-use Rattle.std.proofs.Common.{ap, ◌≡◌, ℕ, Bool, true, false, List, Option, Some, None, IfSome, inl, inr, refl, arith, [], ◌∷◌, ◌++◌, if◌then◌else◌}
+use Rattle.std.proofs.Common.{ap, ◌≡◌, ℕ, Bool, true, false, List, Option, Some, None, IfSome, inl, inr, arith, [], ◌∷◌, ◌++◌, if◌then◌else◌}
 use Rattle.access_history.specs.declared.history.Found.{Found}
 use Rattle.access_history.specs.declared.history.History.{History}
 use Rattle.access_history.specs.declared.history.Verdict.{Verdict}
@@ -15,7 +15,6 @@ use Rattle.pipe_model.specs.declared.node.Node.{Node}
 use Rattle.pipe_model.specs.declared.node.NodeId.{NodeId}
 use Rattle.pipe_model.specs.Orders.AccessHistory.{check_access, is_ordered, race_with}
 use Rattle.pipe_model.specs.Orders.OrderList.{list_of_log, place}
-use Rattle.pipe_model.specs.Orders.OrderMarks.{instance_marks}
 use Rattle.pipe_model.specs.Orders.TwoOrders.{down_first_log, down_place, right_first_log, right_place}
 use Rattle.pipe_model.specs.Races.CellRaces.{NotedAccess, noted_access}
 use Rattle.pipe_model.specs.Races.Columns.{IsNodeOf}

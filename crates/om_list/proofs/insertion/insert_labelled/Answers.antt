@@ -1,7 +1,7 @@
 -- The links both ways and the labels with the new element.
-use Rattle.std.proofs.Common.{◌≡◌, ◌∙◌, ap}
+use Rattle.std.proofs.Common.{◌∙◌, ap}
 use Rattle.om_list.specs.KeptLists.{links_back}
-use Rattle.om_list.proofs.Insertions.{IsInserted, labelled_inserted, list_inserted}
+use Rattle.om_list.proofs.Insertions.{labelled_inserted, list_inserted}
 use Rattle.om_list.proofs.insertion.insert_labelled.Goals as goal
 
 pub returns-clause-labelled : goal.returns-clause-labelled

@@ -1,5 +1,5 @@
 -- The element is in the chosen range, after each of whose elements a label is then free.
-use Rattle.std.proofs.Common.{◌≡◌, ◌+◌, ◌^◌, ◌<◌, ◌≤◌, arith}
+use Rattle.std.proofs.Common.{◌+◌, ◌^◌, arith}
 use Rattle.om_relabel.specs.LabelledLinks.{elements, label_of}
 use Rattle.om_relabel.proofs.ElementsWithin.{has_within}
 use Rattle.om_relabel.proofs.SparseRanges.{aligned_fits, aligned_high, aligned_low}

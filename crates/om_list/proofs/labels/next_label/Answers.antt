@@ -1,5 +1,5 @@
 -- A link that is not END leads to an element.
-use Rattle.std.proofs.Common.{◌≡◌, ◌≢◌, ◌<◌, length, slice_index, sym, ap, ◌∙◌, arith}
+use Rattle.std.proofs.Common.{◌≢◌, slice_index, sym, ap, ◌∙◌, arith}
 use Rattle.std.proofs.lemmas.Grind.{get_or_default_zero}
 use Rattle.om_relabel.specs.declared.links.TheConstants.{END}
 use Rattle.om_relabel.proofs.SpreadLabels.{label_of_link}

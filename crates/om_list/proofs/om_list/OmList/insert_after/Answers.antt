@@ -1,5 +1,5 @@
 -- Links, labels and log with the new element.
-use Rattle.std.proofs.Common.{◌≤◌, ◌<◌, ◌≡◌, ◌++◌, ◌∷◌, [], sym, ap, arith, length, subst}
+use Rattle.std.proofs.Common.{sym, ap, arith, length, subst}
 use Rattle.std.proofs.lemmas.List.{length_push}
 use Rattle.om_list.specs.KeptLists.{IsKept}
 use Rattle.om_list.specs.LabelledList.{LabelledList}
