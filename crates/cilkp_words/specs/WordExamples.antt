@@ -25,8 +25,8 @@ abbrev pub Asks : Text → Command → Type 0
 Asks line command = command_of (words_in line) ≡ Some command
 
 -- the words of the line are no command
-abbrev pub IsRefused : Text → Type 0
-IsRefused line = command_of (words_in line) ≡ None
+abbrev pub AsksNothing : Text → Type 0
+AsksNothing line = command_of (words_in line) ≡ None
 
 -- ---- the lines
 
@@ -47,35 +47,35 @@ SeparateAndJoinedValues =
 -- an option before the command, twice, without a value, abbreviated, or of another command is refused
 abbrev pub MisplacedOptions : Type 0
 MisplacedOptions =
-    IsRefused (codes "--workers 4 run a b")
-    × IsRefused (codes "run a b --workers 8 --workers 8")
-    × IsRefused (codes "run --workers=8 a b --workers 9")
-    × IsRefused (codes "run a b --workers")
-    × IsRefused (codes "run a b --workers --throttle 8")
-    × IsRefused (codes "run a b --workers -- 8")
-    × IsRefused (codes "run a b --worker 8")
-    × IsRefused (codes "run a b -w 8")
-    × IsRefused (codes "run a b --seed 1")
-    × IsRefused (codes "serial a b --workers 4")
+    AsksNothing (codes "--workers 4 run a b")
+    × AsksNothing (codes "run a b --workers 8 --workers 8")
+    × AsksNothing (codes "run --workers=8 a b --workers 9")
+    × AsksNothing (codes "run a b --workers")
+    × AsksNothing (codes "run a b --workers --throttle 8")
+    × AsksNothing (codes "run a b --workers -- 8")
+    × AsksNothing (codes "run a b --worker 8")
+    × AsksNothing (codes "run a b -w 8")
+    × AsksNothing (codes "run a b --seed 1")
+    × AsksNothing (codes "serial a b --workers 4")
 
 -- a number is plain decimal and within its range
 abbrev pub OptionNumbers : Type 0
 OptionNumbers =
     Asks (codes "run a b --workers 1") (Run (codes "a") (codes "b") 1 4)
     × Asks (codes "run a b --workers 64") (Run (codes "a") (codes "b") 64 256)
-    × IsRefused (codes "run a b --workers 0")
-    × IsRefused (codes "run a b --workers 65")
-    × IsRefused (codes "run a b --workers 08")
-    × IsRefused (codes "run a b --workers +8")
-    × IsRefused (codes "run a b --workers -5")
-    × IsRefused (codes "run a b --workers=-5")
-    × IsRefused (codes "run a b --workers=")
-    × IsRefused (codes "run a b --workers 8x")
+    × AsksNothing (codes "run a b --workers 0")
+    × AsksNothing (codes "run a b --workers 65")
+    × AsksNothing (codes "run a b --workers 08")
+    × AsksNothing (codes "run a b --workers +8")
+    × AsksNothing (codes "run a b --workers -5")
+    × AsksNothing (codes "run a b --workers=-5")
+    × AsksNothing (codes "run a b --workers=")
+    × AsksNothing (codes "run a b --workers 8x")
     × Asks (codes "run a b --throttle 1") (Run (codes "a") (codes "b") 4 1)
     × Asks (codes "run a b --throttle 1024") (Run (codes "a") (codes "b") 4 1024)
-    × IsRefused (codes "run a b --throttle 0")
-    × IsRefused (codes "run a b --throttle 1025")
-    × IsRefused (codes "run a b --throttle 18446744073709551620")
+    × AsksNothing (codes "run a b --throttle 0")
+    × AsksNothing (codes "run a b --throttle 1025")
+    × AsksNothing (codes "run a b --throttle 18446744073709551620")
 
 -- words after `--` are file names, and so are `-` and the empty word; another word with `-` first is not
 abbrev pub FileNames : Type 0
@@ -87,49 +87,49 @@ FileNames =
     × Asks (codes "run - b") (Run (codes "-") (codes "b") 4 16)
     × Asks (codes "run  b") (Run (codes "") (codes "b") 4 16)
     × Asks (codes "run a ") (Run (codes "a") (codes "") 4 16)
-    × IsRefused (codes "-- run a b")
-    × IsRefused (codes "run -x b")
-    × IsRefused (codes "run a b -x")
-    × IsRefused (codes "run")
-    × IsRefused (codes "run a")
-    × IsRefused (codes "run a b c")
+    × AsksNothing (codes "-- run a b")
+    × AsksNothing (codes "run -x b")
+    × AsksNothing (codes "run a b -x")
+    × AsksNothing (codes "run")
+    × AsksNothing (codes "run a")
+    × AsksNothing (codes "run a b c")
 
 -- no command, and a call for help or a version
 abbrev pub CallsForHelp : Type 0
 CallsForHelp =
     (command_of [] ≡ None)
-    × IsRefused (codes "")
-    × IsRefused (codes "a")
-    × IsRefused (codes "help")
-    × IsRefused (codes "--help")
-    × IsRefused (codes "-h")
-    × IsRefused (codes "--version")
-    × IsRefused (codes "-V")
-    × IsRefused (codes "run --help")
-    × IsRefused (codes "run a b -h")
-    × IsRefused (codes "help run")
+    × AsksNothing (codes "")
+    × AsksNothing (codes "a")
+    × AsksNothing (codes "help")
+    × AsksNothing (codes "--help")
+    × AsksNothing (codes "-h")
+    × AsksNothing (codes "--version")
+    × AsksNothing (codes "-V")
+    × AsksNothing (codes "run --help")
+    × AsksNothing (codes "run a b -h")
+    × AsksNothing (codes "help run")
 
 -- the commands `serial`, `format` and `bench`
 abbrev pub OtherCommands : Type 0
 OtherCommands =
     Asks (codes "serial a b") (Serial (codes "a") (codes "b"))
-    × IsRefused (codes "serial a")
+    × AsksNothing (codes "serial a")
     × Asks (codes "format a") (Format (codes "a"))
-    × IsRefused (codes "format")
-    × IsRefused (codes "format a b")
+    × AsksNothing (codes "format")
+    × AsksNothing (codes "format a b")
     × Asks (codes "bench") (Bench 1 1000)
     × Asks (codes "bench --seed 0 --size 1") (Bench 0 1)
     × Asks (codes "bench --size=40000 --seed=65535") (Bench 65535 40000)
-    × IsRefused (codes "bench --seed 65536")
-    × IsRefused (codes "bench --size 0")
-    × IsRefused (codes "bench --size 40001")
-    × IsRefused (codes "bench a")
+    × AsksNothing (codes "bench --seed 65536")
+    × AsksNothing (codes "bench --size 0")
+    × AsksNothing (codes "bench --size 40001")
+    × AsksNothing (codes "bench a")
 
 -- the command `play` and the flag `--record` do not exist yet
 abbrev pub LaterForms : Type 0
 LaterForms =
-    IsRefused (codes "play a b")
-    × IsRefused (codes "run a b --record")
-    × IsRefused (codes "run a b --record --record")
-    × IsRefused (codes "run a b --record=true")
-    × IsRefused (codes "run a b --record true")
+    AsksNothing (codes "play a b")
+    × AsksNothing (codes "run a b --record")
+    × AsksNothing (codes "run a b --record --record")
+    × AsksNothing (codes "run a b --record=true")
+    × AsksNothing (codes "run a b --record true")

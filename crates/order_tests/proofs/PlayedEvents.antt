@@ -203,11 +203,11 @@ module _ {limit : ℕ} {events : List Event} {columns : List Column} {before : L
         ∙ sym (statuses-action s.frames i (Staged kind number) (Pending kind number)))
         (omega (arith, stand, same))
 
-    pub finished : (end : ColumnEnd) (more : List Column) → get_or before i Running ≡ Running
+    pub iteration_ended : (end : ColumnEnd) (more : List Column) → get_or before i Running ≡ Running
         → (end ≡ Closed → length (nodes_at (nodes_of_columns columns) i) ≡ 1)
         → nodes_of_columns more ≡ nodes_of_columns columns → length more ≡ length columns
         → IsPlayed limit (events ++ Finish i end ∷ []) more (set before i (Completed end))
-    finished end more runs first nodes long =
+    iteration_ended end more runs first nodes long =
         let here = has_frame h i inside in
         let stand = length-set before i (Completed end) in
         let same = h.same_length in

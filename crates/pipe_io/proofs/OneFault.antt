@@ -9,7 +9,7 @@ use Rattle.pipe_io.specs.declared.input_fault.InputFault.TheVariants as faults
 use Rattle.pipe_io.specs.declared.numerals.Flaw.{Flaw}
 use Rattle.pipe_io.specs.declared.numerals.Flaw.TheVariants as flaws
 use Rattle.pipe_io.specs.declared.bounds.TheConstants.{LONGEST_INPUT, MOST_NUMBERS}
-use Rattle.pipe_io.specs.InputFile.{AreNumbersOf, HasFault, HasStrayByte, HasBareMinus, HasTooMany, HasWideNumber, HasCutNumber, IsTooLong, IsReached, BeginsBareMinus, BeginsNothing, BeginsNumber, FitsI64, EndsNumber, ListsNumbers, Number, Separator, Stops, begins_digit, digits_value, signed, value_of, minus}
+use Rattle.pipe_io.specs.InputFile.{AreNumbersOf, HasFault, HasStrayByte, HasBareMinus, HasTooMany, HasWideNumber, HasCutNumber, IsTooLong, IsReached, BeginsBareMinus, BeginsNothing, BeginsNumber, FitsI64, EndsNumber, ListsNumbers, Number, Separator, EndsHere, begins_digit, digits_value, signed, value_of, minus}
 use Rattle.pipe_io.specs.Numerals.{CutNumber, IsFlaw, OneMore, WideNumber, BareMinus, StrayByte, fault_at}
 use Rattle.pipe_io.proofs.OneReading.{Continues, one_continues, all_digits, mapped, no_digit_after, one_text, tail_digits}
 
@@ -102,7 +102,7 @@ flaw_no_blank b bs (CutNumber t x n c s w u) e = not_blank b bs t x n s.value (s
 pub no_more_numbers : {a rest end : List ℕ} {k : ℕ} {f : Flaw} {others : List ℤ} → IsFlaw rest k f → ListsNumbers a others end → a ≡ rest
     → k + length others ≤ MOST_NUMBERS → All FitsI64 others
     → (others ≡ []) × (rest ≡ end)
-no_more_numbers h (Stops r) e few narrow = (refl, sym e)
+no_more_numbers h (EndsHere r) e few narrow = (refl, sym e)
 no_more_numbers h (Separator b p d) e few narrow = let bad : true ≡ false = sym p ∙ flaw_no_blank b _ h (sym e) in cc (bad)
 no_more_numbers {rest = rest} (StrayByte h) (Number t n v s d) e few narrow = absurd (no_number_there rest t _ n h v (sym e))
 no_more_numbers {rest = rest} (BareMinus h) (Number t n v s d) e few narrow = absurd (no_number_at_minus rest t _ n h v (sym e))
@@ -199,7 +199,7 @@ byte_there (CutNumber t x n c s w u) e = no_text t x n s.value (sym e ∙ s.part
 
 -- nothing comes after the numbers of no bytes
 nothing_left : {a end : List ℕ} {ns : List ℤ} → ListsNumbers a ns end → a ≡ [] → end ≡ []
-nothing_left (Stops rest) e = e
+nothing_left (EndsHere rest) e = e
 nothing_left (Separator b p d) e = cc (e)
 nothing_left (Number [] n v s d) e = cc (v)
 nothing_left (Number (b ∷ bs) n v s d) e = cc (e)

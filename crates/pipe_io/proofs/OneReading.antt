@@ -4,7 +4,7 @@ use Rattle.std.specs.List.{list_all}
 use Rattle.std.proofs.lemmas.Bool.{and_parts}
 use Rattle.std.proofs.lemmas.Bool.Decides.{nat_tests}
 use Rattle.pipe_model.specs.Language.Lexis.{is_blank, is_digit, number_of}
-use Rattle.pipe_io.specs.InputFile.{AreNumbersOf, EndsNumber, ListsNumbers, Number, Separator, Stops, begins_digit, digits_value, signed, value_of, minus}
+use Rattle.pipe_io.specs.InputFile.{AreNumbersOf, EndsNumber, ListsNumbers, Number, Separator, EndsHere, begins_digit, digits_value, signed, value_of, minus}
 
 -- a text with a value in digits is all digits
 pub all_digits : (ds : List ℕ) (n : ℕ) → digits_value ds ≡ Some n → list_all is_digit ds ≡ true
@@ -82,8 +82,8 @@ blank_number b bs (c ∷ cs) bytes n blank v e =
 -- of two lists of numbers of the same bytes one continues the other
 pub one_continues : {a b rest end : List ℕ} {ns ms : List ℤ} → ListsNumbers a ns rest → ListsNumbers b ms end → a ≡ b
     → Continues rest end ns ms ⊎ Continues end rest ms ns
-one_continues {end = end} {ms = ms} (Stops rest) d e = inl (ms, refl, subst (λ x. ListsNumbers x ms end) (sym e) d)
-one_continues {rest = rest} {ns = ns} d (Stops end) e = inr (ns, refl, subst (λ x. ListsNumbers x ns rest) e d)
+one_continues {end = end} {ms = ms} (EndsHere rest) d e = inl (ms, refl, subst (λ x. ListsNumbers x ms end) (sym e) d)
+one_continues {rest = rest} {ns = ns} d (EndsHere end) e = inr (ns, refl, subst (λ x. ListsNumbers x ns rest) e d)
 one_continues (Separator b p d) (Separator c q f) e = one_continues d f (cc (e))
 one_continues (Separator b p d) (Number u m w s f) e = absurd (blank_number b _ u _ m p w e)
 one_continues (Number t n v r d) (Separator c q f) e = absurd (blank_number c _ t _ n q v (sym e))
@@ -101,7 +101,7 @@ one_continues (Number t n v r d) (Number u m w s f) e =
 
 -- no bytes are no numbers
 pub no_numbers : {a end : List ℕ} {ns : List ℤ} → ListsNumbers a ns end → a ≡ [] → ns ≡ []
-no_numbers (Stops rest) e = refl
+no_numbers (EndsHere rest) e = refl
 no_numbers (Separator b p d) e = cc (e)
 no_numbers (Number [] n v s d) e = cc (v)
 no_numbers (Number (b ∷ bs) n v s d) e = cc (e)

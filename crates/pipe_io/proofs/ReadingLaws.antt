@@ -7,7 +7,7 @@ use Rattle.pipe_io.specs.declared.numerals.Flaw.{Flaw}
 use Rattle.pipe_io.specs.declared.numerals.Flaw.TheVariants as flaws
 use Rattle.pipe_io.specs.declared.numerals.Numeral.{Numeral}
 use Rattle.pipe_io.specs.declared.bounds.TheConstants.{LONGEST_INPUT, MOST_NUMBERS}
-use Rattle.pipe_io.specs.InputFile.{AreNumbersOf, FitsI64, HasBareMinus, HasCutNumber, HasStrayByte, HasTooMany, HasWideNumber, IsFaultOf, IsReached, ListsNumbers, Number, Separator, Stops, value_of, EndsNumber}
+use Rattle.pipe_io.specs.InputFile.{AreNumbersOf, FitsI64, HasBareMinus, HasCutNumber, HasStrayByte, HasTooMany, HasWideNumber, IsFaultOf, IsReached, ListsNumbers, Number, Separator, EndsHere, value_of, EndsNumber}
 use Rattle.pipe_io.specs.Numerals.{CutNumber, IsFlaw, IsNumeralOf, OneMore, WideNumber, BareMinus, StrayByte, fault_at}
 
 -- `found` are the numbers before the rest, and numbers of the rest continue those of the input
@@ -85,7 +85,7 @@ past_number bytes rest found numeral r p few =
 pub at_end : (bytes : List ℕ) (found : List ℤ) → Reaches bytes found [] → AreNumbersOf bytes found
 at_end bytes found r = record {
   short = r.short;
-  listed = subst (λ x. ListsNumbers bytes x []) (append-nil found) (r.keeps [] [] (Stops []));
+  listed = subst (λ x. ListsNumbers bytes x []) (append-nil found) (r.keeps [] [] (EndsHere []));
   few = r.few;
   narrow = r.narrow;
 }
@@ -95,7 +95,7 @@ reached : (bytes rest : List ℕ) (found : List ℤ) → (r : Reaches bytes foun
 reached bytes rest found r = record {
   short = r.short;
   within = omega (arith, r.within);
-  listed = rw r.here (subst (λ x. ListsNumbers bytes x rest) (append-nil found) (r.keeps [] rest (Stops rest)));
+  listed = rw r.here (subst (λ x. ListsNumbers bytes x rest) (append-nil found) (r.keeps [] rest (EndsHere rest)));
   few = r.few;
   narrow = r.narrow;
 }

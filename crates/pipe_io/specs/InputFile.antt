@@ -35,7 +35,7 @@ EndsNumber (b ∷ bs) = is_blank b ≡ true
 
 -- the bytes are these numbers, among separators, and then `rest`
 pub data ListsNumbers : List ℕ → List ℤ → List ℕ → Type 0 where
-  Stops : (rest : List ℕ) → ListsNumbers rest [] rest
+  EndsHere : (rest : List ℕ) → ListsNumbers rest [] rest
   Separator : {bytes rest : List ℕ} {numbers : List ℤ} (b : ℕ) → is_blank b ≡ true → ListsNumbers bytes numbers rest → ListsNumbers (b ∷ bytes) numbers rest
   Number : {bytes rest : List ℕ} {numbers : List ℤ} (text : List ℕ) (n : ℤ) → value_of text ≡ Some n → EndsNumber bytes
       → ListsNumbers bytes numbers rest → ListsNumbers (text ++ bytes) (n ∷ numbers) rest

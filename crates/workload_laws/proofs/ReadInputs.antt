@@ -6,7 +6,7 @@ use Rattle.std.proofs.lemmas.Int.{ints}
 use Rattle.std.proofs.lemmas.Fmt.{length-decimal-le}
 use Rattle.pipe_gen.specs.Choices.{choice}
 use Rattle.pipe_gen.specs.Workload.{input_text, item, number_line}
-use Rattle.pipe_io.specs.InputFile.{AreNumbersOf, FitsI64, ListsNumbers, Number, Separator, Stops}
+use Rattle.pipe_io.specs.InputFile.{AreNumbersOf, FitsI64, ListsNumbers, Number, Separator, EndsHere}
 use Rattle.workload_laws.specs.GeneratedNumbers.{items_from}
 
 -- an item is below 1000
@@ -39,7 +39,7 @@ lines_are seed (suc n) =
 
 -- the lines list their items
 lines_listed : (seed j n : ℕ) → ListsNumbers (lines_from seed j n) (items_from seed j n) []
-lines_listed seed j zero = Stops []
+lines_listed seed j zero = EndsHere []
 lines_listed seed j (suc n) =
     let small = item_small seed j in
     subst (λ x. ListsNumbers x (items_from seed j (suc n)) []) (sym (append_assoc (decimal (item seed j)) (codes "\n") (lines_from seed (suc j) n)))
