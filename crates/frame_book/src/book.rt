@@ -40,7 +40,7 @@ use pipe_model::memory::NoMemory;
 use pipe_model::node::Kind;
 use pipe_model::stage::StageEnd;
 use pipe_model::status::Status;
-use pipe_model::ticket::{BookLog, Trace};
+use pipe_model::ticket::{BookEntry, BookLog, Trace};
 use pipe_model::tree::Program;
 use std::alloc::Global;
 use std::marker::Model;
@@ -148,8 +148,18 @@ impl<M: Payload<L>, L: ListWriter + Drop> Book<M, L> {
         &self.orders
     }
 
-    /// Returns the log. Its events are a run of the control part, its tickets rise, and each iteration
-    /// has done what its program does.
+    /// Returns the log so far. Its events are a run of the control part, its tickets rise, and each
+    /// iteration has done what its program does.
+    pub fn entries(&self) -> &[BookEntry]
+        ensures log { result.now ≡ self.now.log }
+        ensures rise { HasRisingTickets result.now }
+        ensures control { ControlRun self.now.limit (events_of self.now.log) (state_of self.now) }
+        ensures performs { (i : ℕ) → Performs ((pipeline_in self.now).behaviour i) (actions_at self.now i) }
+    {
+        self.ledger.entries()
+    }
+
+    /// Returns the log, with the facts of `entries`.
     pub fn into_log(self) -> BookLog
         ensures log { result ≡ self.log }
         ensures rise { HasRisingTickets result }
