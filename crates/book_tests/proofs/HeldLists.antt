@@ -1,5 +1,5 @@
 -- Lists of tokens that are out.
-use Rattle.std.proofs.Common.{◌≡◌, ◌≢◌, ℕ, zero, suc, List, [], ◌∷◌, ◌<◌, ◌≤◌, ◌⊎◌, refl, sym, subst, arith, length, Option, Some, None, set, inl, inr}
+use Rattle.std.proofs.Common.{◌≡◌, ◌≢◌, ℕ, zero, suc, List, [], ◌∷◌, ◌++◌, ◌<◌, ◌≤◌, ◌⊎◌, refl, sym, subst, arith, length, Option, Some, None, set, inl, inr}
 use Rattle.std.proofs.lemmas.Bool.{cases_eq}
 use Rattle.std.proofs.lemmas.List.{get_or-set_same, get_or-set_other, get_or_past}
 use Rattle.pipe_model.specs.Runs.ControlRun.{ControlRun}
@@ -11,13 +11,15 @@ use Rattle.book_tests.specs.HeldTokens.{AreHeld, AreHeldBut, IsGiven, IsHeldAt, 
 use Rattle.book_tests.proofs.StayingTokens.{Changes, still_given}
 
 -- no token is held
-pub none_held : (v : BookState) → AreHeld v (None ∷ None ∷ None ∷ None ∷ None ∷ [])
-none_held v zero = tt
-none_held v (suc zero) = tt
-none_held v (suc (suc zero)) = tt
-none_held v (suc (suc (suc zero))) = tt
-none_held v (suc (suc (suc (suc zero)))) = tt
-none_held v (suc (suc (suc (suc (suc i))))) = tt
+pub none_held : (v : BookState) (tokens : List (Option (FrameToken Plan))) → ((i : ℕ) → token_of tokens i ≡ None) → AreHeld v tokens
+none_held v tokens none i = rw (none i) tt
+
+-- one place more, without a token
+pub none_more : (tokens : List (Option (FrameToken Plan))) → ((i : ℕ) → token_of tokens i ≡ None) → (i : ℕ) → token_of (tokens ++ None ∷ []) i ≡ None
+none_more [] none zero = refl
+none_more [] none (suc i) = refl
+none_more (t ∷ ts) none zero = none zero
+none_more (t ∷ ts) none (suc i) = none_more ts (λ j. none (suc j)) i
 
 -- one token more
 pub held_with : (v : BookState) (tokens : List (Option (FrameToken Plan))) (t : FrameToken Plan) → t.iteration < length tokens → IsGiven v t

@@ -9,11 +9,10 @@ use Rattle.std.proofs.lemmas.Nat.{mul-le}
 use Rattle.std.proofs.lemmas.Int.{ints}
 use Rattle.pipe_model.specs.declared.node.Kind.TheVariants.{Wait}
 use Rattle.pipe_model.specs.declared.column.ColumnEnd.TheVariants.{End}
-use Rattle.pipe_model.specs.declared.tree.Program.{Program}
 use Rattle.pipe_model.specs.Language.Evaluation.{Setting, Environment, execute_all}
 use Rattle.pipe_model.specs.Language.Interaction.{Return, bind, with_budget}
 use Rattle.pipe_model.specs.Language.Programs.{natural, pipeline_of, setting_of}
-use Rattle.pipe_model.specs.Language.SyntaxTree.{SyntaxTree, tree_of}
+use Rattle.pipe_model.specs.Language.SyntaxTree.{SyntaxTree}
 use Rattle.pipe_model.specs.Pipelines.Behaviour.{Behaviour, Staging}
 use Rattle.pipe_model.specs.Pipelines.Pipeline.{AlwaysClosesLoop, HasLegalStages}
 use Rattle.frame_book.specs.NewBooks.{IsPlannedProgram, most_instances}
@@ -120,11 +119,11 @@ planned s small input = record {
           subst (λ d. NamesAtMost 0 d) (sym (iterations_are_known s small input i)) (rw (past) tt),
         )
 
-pub sources_are_planned : (s : Source) → IsSmall s → (p : Program) → tree_of p ≡ tree_of_source s → (input : List ℤ) → IsPlannedProgram p input
-sources_are_planned s small p same input =
-    let iterations : p.limits.iterations ≡ pos s.iterations = ap (λ (t : SyntaxTree). t.limits.iterations) same in
-    let stages : p.limits.stages ≡ pos s.stages = ap (λ (t : SyntaxTree). t.limits.stages) same in
-    let all = mul-le s.iterations s.stages 4 4 small.iterations small.stages in
+pub sources_are_planned : (s : Source) → IsSmall s → (tree : SyntaxTree) → tree ≡ tree_of_source s → (input : List ℤ) → IsPlannedProgram tree input
+sources_are_planned s small tree same input =
+    let iterations : tree.limits.iterations ≡ pos s.iterations = ap (λ (t : SyntaxTree). t.limits.iterations) same in
+    let stages : tree.limits.stages ≡ pos s.stages = ap (λ (t : SyntaxTree). t.limits.stages) same in
+    let all = mul-le s.iterations s.stages 65536 4 small.iterations small.stages in
     record {
       planned = subst (λ (t : SyntaxTree). IsPlanned (pipeline_of t input) (replicate (natural t.limits.iterations) (natural t.limits.stages) ++ 1 ∷ [])) (sym same) (planned s small input);
       few = subst (λ (t : SyntaxTree). most_instances t ≤ 262145) (sym same) (omega (arith, all));

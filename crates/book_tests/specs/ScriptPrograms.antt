@@ -23,9 +23,9 @@ tree_of_source s = record {
   last = Empty;
 }
 
--- a script's program is small, and its loop is closed before the limit on iterations
+-- a book has room for the program, and its loop is closed before the limit on iterations
 pub record IsSmall (s : Source) : Type 0 where
   pub turns : s.turns ≤ s.iterations
-  pub iterations : s.iterations ≤ 4
+  pub iterations : s.iterations ≤ 65536
   pub stage : 0 < s.stages
   pub stages : s.stages ≤ 4

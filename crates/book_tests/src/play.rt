@@ -1,6 +1,7 @@
 //! A book, and the tokens that it has given out.
 
-ghost use Rattle.std.specs.Prelude.{◌≡◌, ◌<◌, [], IfOk, IfSome, None};
+ghost use Rattle.std.specs.Prelude.{◌≡◌, ◌<◌, ◌≤◌, [], IfOk, IfSome, None, ℕ};
+ghost use Rattle.om_relabel.specs.declared.links.TheConstants.{MOST_ELEMENTS};
 ghost use Rattle.pipe_model.specs.Runs.ControlRun.{ControlRun};
 ghost use Rattle.frame_book.specs.BookStates.{events_of, state_of};
 ghost use Rattle.book_tests.specs.HeldTokens.{AreHeld, AreHeldBut, IsGiven, token_of};
@@ -65,11 +66,23 @@ pub struct Play {
     ticket: u64,
 }
 
-// A list for the starts of a program with at most four iterations of at most four stages.
-fn list(alloc: Global) -> Result<OmList, NoMemory>
-    ensures { IfOk result (λ l. (l.log ≡ []) × (l.capacity ≡ 64)) }
+fn list(alloc: Global, capacity: u32) -> Result<OmList, NoMemory>
+    requires some { 0 < capacity }
+    requires few { capacity ≤ MOST_ELEMENTS }
+    ensures { IfOk result (λ l. (l.log ≡ []) × (l.capacity ≡ capacity)) }
 {
-    Ok(OmList::new(alloc, 64)?)
+    Ok(OmList::new(alloc, capacity)?)
+}
+
+// Places for the tokens of some iterations, none of which is held.
+fn places(alloc: Global, count: u32) -> Result<Vec<Option<FrameToken<Plan>>>, NoMemory>
+    ensures { IfOk result (λ places. (i : ℕ) → token_of places.items i ≡ None) }
+{
+    let mut places = Vec::new(alloc);
+    for _ in 0..count {
+        places.push(None)?;
+    }
+    Ok(places)
 }
 
 // The ticket of the last event.
@@ -91,20 +104,15 @@ impl Play {
     {
         let plan = Plan::new(source.turns, source.waits(), source.stages);
         let payloads = vec![in alloc; plan; throttle as usize]?;
-        let orders = TwoOrders::new(list(alloc)?, list(alloc)?);
+        let capacity = source.capacity();
+        let orders = TwoOrders::new(list(alloc, capacity)?, list(alloc, capacity)?);
+        let program = program(alloc, source)?;
         let input = Numbers::new(alloc);
-        let book = Book::opened(
-            alloc,
-            program(alloc, source)?,
-            input,
-            throttle,
-            payloads,
-            orders,
-        )?;
+        let book = Book::new(alloc, &program, &input, throttle, payloads, orders)?;
         Ok(Play {
             alloc,
             book,
-            tokens: Vec::from_array(alloc, [None, None, None, None, None])?,
+            tokens: places(alloc, source.iterations + 1)?,
             ticket: 0,
         })
     }

@@ -1,10 +1,12 @@
 //! Programs whose iterations only name stages.
 
-ghost use Rattle.std.specs.Prelude.{◌≡◌, IfOk, pos};
+ghost use Rattle.std.specs.Prelude.{◌≡◌, ◌<◌, ◌≤◌, ◌*◌, IfOk, pos};
 ghost use Rattle.std.specs.Bool.{OnTrue};
 ghost use Rattle.pipe_model.specs.declared.operator_codes.TheConstants as operator_codes;
 ghost use Rattle.pipe_model.specs.declared.tree.StageKind.TheVariants as kinds;
 ghost use Rattle.pipe_model.specs.Language.SyntaxTree.{Stage, Number, Binary, Iter, statement_of, statements_of, expression_of, tree_of};
+ghost use Rattle.frame_book.specs.NewBooks.{most_instances};
+ghost use Rattle.om_relabel.specs.declared.links.TheConstants.{MOST_ELEMENTS};
 ghost use Rattle.book_tests.specs.ScriptPrograms.{IsSmall, tree_of_source, waits_after, waits_of};
 
 use pipe_model::memory::NoMemory;
@@ -30,11 +32,24 @@ impl Source {
         if self.three { 3 } else { 1 }
     }
 
-    /// Returns whether the program is small, and its loop is closed before the limit on iterations.
+    /// Returns whether a book has room for the program, and its loop is closed before the limit on
+    /// iterations.
     pub fn is_small(&self) -> bool
         ensures { OnTrue result (IsSmall self.now) }
     {
-        self.turns <= self.iterations && self.iterations <= 4 && 0 < self.stages && self.stages <= 4
+        self.turns <= self.iterations
+            && self.iterations <= 65_536
+            && 0 < self.stages
+            && self.stages <= 4
+    }
+
+    /// Returns the capacity of a list with room for the starts of all instances.
+    pub fn capacity(&self) -> u32
+        requires { IsSmall self.now }
+        ensures room { 2 * most_instances (tree_of_source self.now) < result }
+        ensures few { result ≤ MOST_ELEMENTS }
+    {
+        2 * (self.iterations * self.stages + 1) + 1
     }
 }
 

@@ -9,13 +9,13 @@ use Rattle.book_tests.proofs.PlanSteps.{plan_of_source}
 use Rattle.book_tests.proofs.ScriptBehaviours.{sources_are_planned}
 use Rattle.book_tests.proofs.play.Play.new.Goals as goal
 
-pub opened-requires-clause-planned : goal.opened-requires-clause-planned
-opened-requires-clause-planned c = sources_are_planned c.args.source c.requires.small c.in_ok-program.field-0 c.in_ok-program.ensures c.new-input.result
+pub new-requires-clause-planned : goal.new-requires-clause-planned
+new-requires-clause-planned c = sources_are_planned c.args.source c.requires.small (tree_of c.in_ok-program.program) c.in_ok-program.ensures c.new-input.result
 
-pub opened-requires-clause-whole : goal.opened-requires-clause-whole
-opened-requires-clause-whole c =
+pub new-requires-clause-whole : goal.new-requires-clause-whole
+new-requires-clause-whole c =
     let plan = c.new-plan.result in
-    let tree = tree_of c.in_ok-program.field-0 in
+    let tree = tree_of c.in_ok-program.program in
     let same = c.new-plan.ensures in
     let whole = plan_of_source c.args.source c.requires.small tree c.in_ok-program.ensures plan (same.0, same.1 ∙ c.waits.ensures, same.2) in
     let belongs = subst (λ o. BelongsTo (plan_tie plan) (identities_of_orders o)) (sym c.new-orders.ensures) tt in
