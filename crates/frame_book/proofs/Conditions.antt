@@ -4,3 +4,4 @@ pub mod EnteredRows
 pub mod KeptCounters
 pub mod AdvancedStates
 pub mod Rescue
+pub mod WaitingForTokens

@@ -4,3 +4,4 @@ pub mod StartedInstances
 pub mod Actions
 pub mod Conditions
 pub mod Keeping
+mod CopiedStatements

@@ -2,7 +2,7 @@
 use Rattle.std.specs.Prelude.{ℕ, ℤ, List, [], ◌∷◌, ◌+◌, ◌*◌, ◌≤◌, replicate, ◌++◌, pos, ◌≤ℤ◌}
 use Rattle.pipe_model.specs.declared.tree.Program.{Program}
 use Rattle.pipe_model.specs.Language.Programs.{natural, pipeline_of}
-use Rattle.pipe_model.specs.Language.SyntaxTree.{SyntaxTree, tree_of}
+use Rattle.pipe_model.specs.Language.SyntaxTree.{SyntaxTree}
 use Rattle.pipe_frame.specs.Ties.{ListIdentities}
 use Rattle.frame_book.specs.BookStates.{BookState}
 use Rattle.frame_book.specs.Rooms.{IsPlanned}
@@ -12,11 +12,11 @@ abbrev pub most_instances : SyntaxTree → ℕ
 most_instances tree = natural tree.limits.iterations * natural tree.limits.stages + 1
 
 -- the limits are in their ranges, and the iterations keep to them
-pub record IsPlannedProgram (p : Program) (input : List ℤ) : Type 0 where
-  pub planned : IsPlanned (pipeline_of (tree_of p) input) (replicate (natural p.limits.iterations) (natural p.limits.stages) ++ 1 ∷ [])
-  pub few : most_instances (tree_of p) ≤ 262145
-  pub some_iterations : pos 0 ≤ℤ p.limits.iterations
-  pub some_stages : pos 0 ≤ℤ p.limits.stages
+pub record IsPlannedProgram (tree : SyntaxTree) (input : List ℤ) : Type 0 where
+  pub planned : IsPlanned (pipeline_of tree input) (replicate (natural tree.limits.iterations) (natural tree.limits.stages) ++ 1 ∷ [])
+  pub few : most_instances tree ≤ 262145
+  pub some_iterations : pos 0 ≤ℤ tree.limits.iterations
+  pub some_stages : pos 0 ≤ℤ tree.limits.stages
 
 abbrev pub new_book : Program → List ℤ → ℕ → ListIdentities → BookState
 new_book p input limit lists = record { program = p; input = input; limit = limit; lists = lists; log = []; traces = []; tokens = []; reads = 0 }

@@ -15,13 +15,14 @@ ghost use Rattle.pipe_frame.specs.CallResults.{BeginReturns, AdvanceReturns, Nam
 ghost use Rattle.pipe_frame.specs.StageEndCases.{NamesNextStage};
 ghost use Rattle.pipe_frame.specs.Ties.{KnowsMarks, BelongsTo};
 ghost use Rattle.pipe_frame.specs.TokenFields.{fields_of};
-ghost use Rattle.pipe_frame.specs.ResultTokens.{IfStarted, IfGo, IfToken};
-ghost use Rattle.frame_book.specs.BookStates.{HasRisingTickets, actions_at, events_of, state_of, with_events, with_last_raised, left_of, pipeline_in, replies_at, item_or, Spent};
+ghost use Rattle.pipe_frame.specs.ResultTokens.{IfStarted, IfGo, IfNothing, IfToken};
+ghost use Rattle.frame_book.specs.BookStates.{HasRisingTickets, actions_at, events_of, state_of, with_events, with_last_raised, left_of, pipeline_in, replies_at, item_or, IsOut, Spent};
 ghost use Rattle.pipe_frame.specs.Replies.{IsPerformed, accessed, replies_of};
 ghost use Rattle.frame_book.specs.NewBooks.{IsPlannedProgram, most_instances, new_book};
 ghost use Rattle.frame_book.specs.CallEffects.{identities_of_orders, after_stop, after_begin, with_named, with_finished, with_held, with_entered, after_enter, after_advance, folded_after, after_name_next, after_rescue, with_resumed, after_leave_ready, IsReady, kept_folded, stage_end};
 ghost use Rattle.frame_book.specs.GivenTokens.{IsGivenBy, IsOutOf, IsPayloadOf};
 
+use crate::copy::{copy_numbers, copy_program};
 use crate::folding::{count_of, fold_left, lets_enter, needs_left};
 use crate::ledger::Tickets;
 use crate::payload::Payload;
@@ -40,7 +41,7 @@ use pipe_model::memory::NoMemory;
 use pipe_model::node::Kind;
 use pipe_model::stage::StageEnd;
 use pipe_model::status::Status;
-use pipe_model::ticket::{BookLog, Trace};
+use pipe_model::ticket::{BookEntry, BookLog, Trace};
 use pipe_model::tree::Program;
 use std::alloc::Global;
 use std::marker::Model;
@@ -85,8 +86,34 @@ impl<M: Payload<L>, L: ListWriter + Drop> Model for Book<M, L> {
 }
 
 impl<M: Payload<L>, L: ListWriter + Drop> Book<M, L> {
-    // A book of this program and input.
-    pub fn opened(
+    /// Returns a book without events of a program and its input, of which it keeps copies. At most
+    /// `throttle` iterations may be alive, each with one of the payloads. There must be room for every
+    /// instance of the program in the two lists, which must be empty. Returns an error only if memory
+    /// runs out.
+    pub fn new(
+        alloc: Global,
+        program: &Program,
+        input: &Numbers,
+        throttle: u32,
+        payloads: Vec<M>,
+        orders: TwoOrders<L>,
+    ) -> Result<Book<M, L>, NoMemory>
+        requires planned { IsPlannedProgram (tree_of program.now) input.now }
+        requires throttle { 0 < throttle }
+        requires payloads { length payloads.items ≡ throttle }
+        requires whole { All (λ m. M.whole (tree_of program.now) m × BelongsTo (M.tie m) (identities_of_orders orders)) payloads.items }
+        requires started { (orders.down.log ≡ []) × (orders.right.log ≡ []) }
+        requires room { (2 * most_instances (tree_of program.now) < orders.down.capacity) × (2 * most_instances (tree_of program.now) < orders.right.capacity) }
+        ensures tree { IfOk result (λ book. tree_of book.program ≡ tree_of program.now) }
+        ensures book { IfOk result (λ book. book ≡ new_book book.program input.now throttle (identities_of_orders orders)) }
+    {
+        let program = copy_program(alloc, program)?;
+        let input = copy_numbers(alloc, input)?;
+        Book::opened(alloc, program, input, throttle, payloads, orders)
+    }
+
+    // The same, with the program and the input themselves.
+    fn opened(
         alloc: Global,
         program: Program,
         input: Numbers,
@@ -94,7 +121,7 @@ impl<M: Payload<L>, L: ListWriter + Drop> Book<M, L> {
         payloads: Vec<M>,
         orders: TwoOrders<L>,
     ) -> Result<Book<M, L>, NoMemory>
-        requires planned { IsPlannedProgram program input }
+        requires planned { IsPlannedProgram (tree_of program) input }
         requires throttle { 0 < throttle }
         requires payloads { length payloads.items ≡ throttle }
         requires whole { All (λ m. M.whole (tree_of program) m × BelongsTo (M.tie m) (identities_of_orders orders)) payloads.items }
@@ -148,8 +175,18 @@ impl<M: Payload<L>, L: ListWriter + Drop> Book<M, L> {
         &self.orders
     }
 
-    /// Returns the log. Its events are a run of the control part, its tickets rise, and each iteration
-    /// has done what its program does.
+    /// Returns the log so far. Its events are a run of the control part, its tickets rise, and each
+    /// iteration has done what its program does.
+    pub fn entries(&self) -> &[BookEntry]
+        ensures log { result.now ≡ self.now.log }
+        ensures rise { HasRisingTickets result.now }
+        ensures control { ControlRun self.now.limit (events_of self.now.log) (state_of self.now) }
+        ensures performs { (i : ℕ) → Performs ((pipeline_in self.now).behaviour i) (actions_at self.now i) }
+    {
+        self.ledger.entries()
+    }
+
+    /// Returns the log, with the facts of `entries`.
     pub fn into_log(self) -> BookLog
         ensures log { result ≡ self.log }
         ensures rise { HasRisingTickets result }
@@ -425,11 +462,13 @@ impl<M: Payload<L>, L: ListWriter + Drop> Book<M, L> {
 
     /// Returns the first that holds: the run was stopped; it is finished; the token of the least
     /// iteration that was left ready, or that may enter the stage that it has named, after its event
-    /// `Enter`; the next iteration may begin; nothing. Looks at the iterations in order.
+    /// `Enter`; the next iteration may begin; nothing, which it returns only while a token is out. Looks
+    /// at the iterations in order.
     pub fn rescue(&mut self) -> Rescue<M>
         ensures answer { RescueReturns self.old.limit (state_of self.old) (IsReady self.old) result }
         ensures book { self.new ≡ after_rescue self.old result }
         ensures token { IfToken result (IsGivenBy M.stands M.tie self.new) }
+        ensures nothing { IfNothing result ((i : ℕ) × IsOut self.old i) }
     {
         if self.stopped {
             return Rescue::Stopped;

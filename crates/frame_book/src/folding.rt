@@ -32,7 +32,8 @@ pub fn fold_left<M>(rows: &[Iteration<M>], iteration: u32, read: bool, folded: &
     ensures { folded.new ≡ cond read (left_row_counter rows.now iteration) folded.old }
 {
     if read {
-        let left = &rows[iteration as usize - 1];
+        let place = iteration as usize - 1;
+        let left = &rows[place];
         folded.learn(left.counter());
     }
 }

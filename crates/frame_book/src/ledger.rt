@@ -67,6 +67,13 @@ impl Tickets {
         self.last = ticket;
     }
 
+    /// Returns the entries so far.
+    pub fn entries(&self) -> &[BookEntry]
+        ensures { result.now ≡ self.now.log }
+    {
+        self.entries.as_slice()
+    }
+
     /// Returns the entries.
     pub fn into_log(self) -> BookLog
         ensures { result ≡ self.log }

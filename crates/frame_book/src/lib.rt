@@ -5,6 +5,7 @@
 #![tactic(auto)]
 
 pub mod book;
+mod copy;
 mod folding;
 pub mod law;
 mod ledger;

@@ -26,3 +26,11 @@ IfToken rescue.MayBegin P = Unit {0}
 IfToken rescue.Nothing P = Unit {0}
 IfToken rescue.Finished P = Unit {0}
 IfToken rescue.Stopped P = Unit {0}
+
+-- a fact about the result that there is nothing to do
+abbrev pub IfNothing : {M : Type 0} → Rescue M → Type 0 → Type 0
+IfNothing (rescue.Token t) P = Unit {0}
+IfNothing rescue.MayBegin P = Unit {0}
+IfNothing rescue.Nothing P = P
+IfNothing rescue.Finished P = Unit {0}
+IfNothing rescue.Stopped P = Unit {0}

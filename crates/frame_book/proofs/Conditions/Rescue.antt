@@ -70,7 +70,7 @@ all_completed [] a i f e = absurd (let q : None ≡ Some f = e in cc)
 all_completed (x ∷ fs) a zero f e = let s : x ≡ f = cc in subst (λ (g : Frame). is_completed g.status ≡ true) s (completed_by x.status (omega (arith, a)))
 all_completed (x ∷ fs) a (suc i) f e = all_completed fs (omega (arith, a)) i f e
 
-none_alive : (fs : List Frame) → ((i : ℕ) (f : Frame) → frame_at fs i ≡ Some f → is_completed f.status ≡ true) → alive_in fs ≡ 0
+pub none_alive : (fs : List Frame) → ((i : ℕ) (f : Frame) → frame_at fs i ≡ Some f → is_completed f.status ≡ true) → alive_in fs ≡ 0
 none_alive [] h = refl
 none_alive (x ∷ fs) h = let a = dead_by x.status (h 0 x refl) in let r = none_alive fs (λ i f e. h (suc i) f e) in omega (arith, a, r)
 

@@ -4,13 +4,15 @@ use Rattle.pipe_model.specs.Language.Programs.{pipeline_of}
 use Rattle.pipe_model.specs.Runs.Run.{IsFinished}
 use Rattle.pipe_model.specs.Runs.State.{alive}
 use Rattle.pipe_model.specs.Language.SyntaxTree.{tree_of}
-use Rattle.pipe_frame.specs.CallResults.{CanGoOn, IsFirstToGoOn}
-use Rattle.frame_book.specs.BookStates.{BookState, state_of}
+use Rattle.pipe_frame.specs.CallResults.{CanGoOn, IsFirstToGoOn, RescueReturns}
+use Rattle.pipe_frame.specs.declared.results.Rescue.TheVariants as rescue
+use Rattle.frame_book.specs.BookStates.{BookState, IsOut, state_of}
 use Rattle.frame_book.specs.BookTables.{tables_of}
 use Rattle.frame_book.specs.RowsOfFrames.{AreRows, RowGoesOn}
 use Rattle.frame_book.specs.CallEffects.{IsReady}
 use Rattle.frame_book.specs.Tables.{book_state}
 use Rattle.frame_book.proofs.Conditions.Rescue.{can_is, finished_by, closed_by_finish, begins_by, open_by_begin}
+use Rattle.frame_book.proofs.Conditions.WaitingForTokens.{a_token_is_out}
 use Rattle.frame_book.proofs.Iterations.SpareRows.{few_rows}
 use Rattle.frame_book.proofs.book.Book.rescue.Goals as goal
 use Rattle.frame_book.proofs.book.Book.rescue.Goals.{else-self-2-via-then-self-2+else-is_full, else-self-2-via-else-self-2, else-not-self-via-then-not-self+then-not-is_empty+else-last_has_ended_first, else-not-self-via-then-not-self+else-not-is_empty, else-not-self-via-else-not-self}
@@ -124,3 +126,10 @@ returns-clause-answer g c =
       | else-self-2-via-else-self-2 w ↦ (let e : true ≡ false = sym shut ∙ w.if-self-2.false in absurd (cc))
     ]) in
     subst (λ (x : BookState). ((state_of x).stopped ≡ false) × ((i : ℕ) → CanGoOn (IsReady x) (state_of x) i → ⊥) × (MayBegin x.limit (state_of x) (length (state_of x).frames) → ⊥) × (IsFinished (state_of x) → ⊥)) c.self.view_is (going, none, begins, over)
+
+pub returns-clause-nothing : goal.returns-clause-nothing
+returns-clause-nothing g c =
+    let b = tables_of c.self.inside in
+    let answer = subst (λ (x : BookState). RescueReturns {M = g.row.M.Denot} x.limit (state_of x) (IsReady x) rescue.Nothing) (sym c.self.view_is) (returns-clause-answer g c) in
+    subst (λ (x : BookState). (i : ℕ) × IsOut x i) c.self.view_is
+    (a_token_is_out g.M.Stands.whole g.M.Stands.stands g.M.Stands.tie b c.self.invariant answer.0 answer.1 answer.2 answer.3)

@@ -1,0 +1,5 @@
+mod ScriptBehaviours
+mod StayingTokens
+mod HeldLists
+mod CallChanges
+mod PlanSteps

@@ -1,0 +1,4 @@
+pub mod StageWaits
+pub mod PlanStates
+pub mod ScriptPrograms
+pub mod HeldTokens
