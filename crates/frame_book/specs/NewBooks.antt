@@ -1,15 +1,13 @@
 -- Books without events.
-use Rattle.std.specs.Prelude.{ℕ, ℤ, List, [], ◌∷◌, ◌+◌, ◌*◌, ◌≤◌, replicate, ◌++◌, pos, ◌≤ℤ◌}
+use Rattle.std.specs.Prelude.{ℕ, ℤ, List, [], ◌∷◌, ◌≤◌, replicate, ◌++◌, pos, ◌≤ℤ◌}
 use Rattle.pipe_model.specs.declared.tree.Program.{Program}
 use Rattle.pipe_model.specs.Language.Programs.{natural, pipeline_of}
+use Rattle.pipe_model.specs.Language.SourceRefusals.{IsAccepted}
 use Rattle.pipe_model.specs.Language.SyntaxTree.{SyntaxTree}
 use Rattle.pipe_frame.specs.Ties.{ListIdentities}
+use Rattle.program_laws.specs.WorkBounds.{most_instances}
 use Rattle.frame_book.specs.BookStates.{BookState}
 use Rattle.frame_book.specs.Rooms.{IsPlanned}
-
--- the most instances of a run of a program
-abbrev pub most_instances : SyntaxTree → ℕ
-most_instances tree = natural tree.limits.iterations * natural tree.limits.stages + 1
 
 -- the limits are in their ranges, and the iterations keep to them
 pub record IsPlannedProgram (tree : SyntaxTree) (input : List ℤ) : Type 0 where
@@ -17,6 +15,10 @@ pub record IsPlannedProgram (tree : SyntaxTree) (input : List ℤ) : Type 0 wher
   pub few : most_instances tree ≤ 262145
   pub some_iterations : pos 0 ≤ℤ tree.limits.iterations
   pub some_stages : pos 0 ≤ℤ tree.limits.stages
+
+-- a book has room for each accepted program, on every input
+abbrev pub AcceptedProgramsArePlanned : Type 0
+AcceptedProgramsArePlanned = (source : List ℕ) (tree : SyntaxTree) (input : List ℤ) → IsAccepted source tree → IsPlannedProgram tree input
 
 abbrev pub new_book : Program → List ℤ → ℕ → ListIdentities → BookState
 new_book p input limit lists = record { program = p; input = input; limit = limit; lists = lists; log = []; traces = []; tokens = []; reads = 0 }

@@ -18,7 +18,8 @@ ghost use Rattle.pipe_frame.specs.TokenFields.{fields_of};
 ghost use Rattle.pipe_frame.specs.ResultTokens.{IfStarted, IfGo, IfNothing, IfToken};
 ghost use Rattle.frame_book.specs.BookStates.{HasRisingTickets, actions_at, events_of, state_of, with_events, with_last_raised, left_of, pipeline_in, replies_at, item_or, IsOut, Spent};
 ghost use Rattle.pipe_frame.specs.Replies.{IsPerformed, accessed, replies_of};
-ghost use Rattle.frame_book.specs.NewBooks.{IsPlannedProgram, most_instances, new_book};
+ghost use Rattle.frame_book.specs.NewBooks.{IsPlannedProgram, new_book};
+ghost use Rattle.program_laws.specs.WorkBounds.{most_instances};
 ghost use Rattle.frame_book.specs.CallEffects.{identities_of_orders, after_stop, after_begin, with_named, with_finished, with_held, with_entered, after_enter, after_advance, folded_after, after_name_next, after_rescue, with_resumed, after_leave_ready, IsReady, kept_folded, stage_end};
 ghost use Rattle.frame_book.specs.GivenTokens.{IsGivenBy, IsOutOf, IsPayloadOf};
 

@@ -20,7 +20,8 @@ use Rattle.run_laws.proofs.ListOrders.StartsOfRuns.{run_starts_sound}
 use Rattle.frame_book.specs.Invariant.{IsBook}
 use Rattle.frame_book.specs.Rooms.{IsPlanned, IsFresh, total, rooms_of, room_in}
 use Rattle.frame_book.specs.KeptTokens.{IsAtHome}
-use Rattle.frame_book.specs.NewBooks.{IsPlannedProgram, most_instances}
+use Rattle.frame_book.specs.NewBooks.{IsPlannedProgram}
+use Rattle.program_laws.specs.WorkBounds.{most_instances}
 use Rattle.frame_book.specs.IterationRows.{Row, empty_row}
 use Rattle.frame_book.specs.CallEffects.{identities_of_orders}
 use Rattle.frame_book.specs.Tables.{Tables}
