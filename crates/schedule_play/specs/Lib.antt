@@ -1,0 +1,2 @@
+pub mod SeedChoices
+pub mod ScheduleExamples

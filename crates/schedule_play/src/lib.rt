@@ -1,0 +1,5 @@
+//! The parts of a scheduler that plays any schedule of a program on one thread, one event a turn.
+#![tactic(auto)]
+
+pub mod choices;
+pub mod examples;
