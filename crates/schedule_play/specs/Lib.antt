@@ -1,2 +1,3 @@
 pub mod SeedChoices
+pub mod OneAccess
 pub mod ScheduleExamples

@@ -3,3 +3,6 @@
 
 pub mod choices;
 pub mod examples;
+pub mod instance;
+pub mod law;
+pub mod one_access;
