@@ -1,1 +1,2 @@
 pub mod PendingAccess
+pub mod TurnCandidates

@@ -1,3 +1,4 @@
 pub mod SeedChoices
 pub mod OneAccess
+pub mod Turns
 pub mod ScheduleExamples

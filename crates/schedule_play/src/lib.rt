@@ -6,3 +6,4 @@ pub mod examples;
 pub mod instance;
 pub mod law;
 pub mod one_access;
+pub mod turns;
