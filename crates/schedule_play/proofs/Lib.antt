@@ -1,2 +1,4 @@
 pub mod PendingAccess
 pub mod TurnCandidates
+pub mod ChangedEntries
+pub mod ScheduleEvents

@@ -1,5 +1,5 @@
 -- The turns are the candidates, in their order.
-use Rattle.std.proofs.Common.{◌≡◌, ◌∙◌, ap, sym, refl, arith, ℕ, zero, suc, ◌+◌, ◌<◌, List, [], ◌∷◌, ◌++◌, Bool, true, false, not, ◌&&◌, ◌||◌, if◌then◌else◌, Option, Some, None, length, ◌-◌, map, filter, count_by, take, nat_lt, slice_index_or}
+use Rattle.std.proofs.Common.{◌≡◌, ◌∙◌, ap, sym, refl, arith, ℕ, ℤ, zero, suc, ◌+◌, ◌<◌, List, [], ◌∷◌, ◌++◌, Bool, true, false, not, ◌&&◌, ◌||◌, if◌then◌else◌, Option, Some, None, length, ◌-◌, map, filter, count_by, take, nat_lt, slice_index_or}
 use Rattle.std.specs.Prelude.{◌%◌, cond, is_some, option_and_then, option_map, slice_get}
 use Rattle.std.proofs.lemmas.List.{length-append, length-map, map-append}
 use Rattle.std.proofs.lemmas.List.Elements.{filter-append}
@@ -8,6 +8,7 @@ use Rattle.std.proofs.lemmas.Option.{get_or_from_slice_get, slice_get-map}
 use Rattle.pipe_model.specs.declared.access.Access.{Access}
 use Rattle.pipe_model.specs.declared.event.Event.{Event}
 use Rattle.pipe_model.specs.declared.event.Event.TheVariants as events
+use Rattle.pipe_model.specs.declared.node.Node.{Node}
 use Rattle.pipe_model.specs.declared.status.Status.{Status}
 use Rattle.pipe_model.specs.declared.status.Status.TheVariants as statuses
 use Rattle.pipe_model.specs.Pipelines.Behaviour.{Action, Behaviour, Reading, Writing, Staging, Ending, behaviour_after_all}
@@ -19,7 +20,7 @@ use Rattle.schedule_play.specs.declared.turns.Alive.{Alive}
 use Rattle.schedule_play.specs.declared.turns.Standing.TheVariants.{MayEnter, MustWait}
 use Rattle.schedule_play.specs.declared.turns.Turn.{Turn}
 use Rattle.schedule_play.specs.declared.turns.Turn.TheVariants.{Next, Begin}
-use Rattle.schedule_play.specs.Turns.{alive_entry, alive_from, alive_iterations, chosen_turn, is_running, iteration_turns, may_go, standing_of, turn_event, turns}
+use Rattle.schedule_play.specs.Turns.{alive_entry, alive_from, alive_iterations, chosen_turn, is_running, iteration_turns, may_go, turn_event, turns}
 
 -- ---- the iterations
 
@@ -44,21 +45,23 @@ needs_no_room room e none = ap (λ b. if room || not b then e ∷ [] else []) no
     always true = refl
     always false = refl
 
-entry_events : (p : Pipeline) (s : State) (room : Bool) (i : ℕ) (w : Status) (t : List Action) → next_event p s i ≡ event_of_status p s i w t
-    → map (kept_event p s) (filter (going room) (alive_entry i (standing_of s.frames i w))) ≡ map Some (if_room room (event_of_status p s i w t))
-entry_events p s room i statuses.Running t q =
+entry_events : (p : Pipeline) (s : State) (room : Bool) (i : ℕ) (w : Status) (nodes : List Node) (t : List Action)
+    → next_event p s i ≡ event_of_status p s i w t
+    → map (kept_event p s) (filter (going room) (alive_entry s.frames i w nodes)) ≡ map Some (if_room room (event_of_status p s i w t))
+entry_events p s room i statuses.Running nodes t q =
     let before = p.preamble ++ accesses_of s.accesses in
     let d = behaviour_after_all (p.behaviour i) t in
     ap (λ o. o ∷ []) q ∙ sym (ap (map Some) (needs_no_room room (event_of_behaviour p before i d) (starts_none p before i d)))
-entry_events p s room i (statuses.Pending k n) t q = by (may_enter s.frames i k n) room q
+entry_events p s room i (statuses.Pending k n) nodes t q = by (may_enter s.frames i k n) room q
   where
     by : (b r : Bool) → next_event p s i ≡ event_if b (events.Enter i)
-        → map (kept_event p s) (filter (going r) (alive_entry i (Some (if b then MayEnter else MustWait)))) ≡ map Some (if_room r (event_if b (events.Enter i)))
+        → map (kept_event p s) (filter (going r) (record { iteration = i; number = n; standing = if b then MayEnter else MustWait } ∷ []))
+        ≡ map Some (if_room r (event_if b (events.Enter i)))
     by true true q = ap (λ o. o ∷ []) q
     by true false q = refl
     by false true q = refl
     by false false q = refl
-entry_events p s room i (statuses.Completed e) t q = refl
+entry_events p s room i (statuses.Completed e) nodes t q = refl
 
 frame_events : (p : Pipeline) (s : State) (room : Bool) (i : ℕ) (fs : List Frame) → ((k : ℕ) → frame_at s.frames (i + k) ≡ frame_at fs k)
     → map (kept_event p s) (filter (going room) (alive_from s.frames i fs)) ≡ map Some (candidates_from p s room i fs)
@@ -66,12 +69,12 @@ frame_events p s room i [] h = refl
 frame_events p s room i (f ∷ fs) h =
     let first : i + 0 ≡ i = omega arith in
     let here : frame_at s.frames i ≡ Some f = ap (frame_at s.frames) (sym first) ∙ h 0 in
-    let own = alive_entry i (standing_of s.frames i f.status) in
+    let own = alive_entry s.frames i f.status f.nodes in
     let rest = alive_from s.frames (i + 1) fs in
     let ev = kept_event p s in
     let one = if_room room (event_of_status p s i f.status f.trace) in
     ap (map ev) (filter-append (going room) own rest) ∙ map-append ev (filter (going room) own) (filter (going room) rest)
-    ∙ ap (λ l. l ++ map ev (filter (going room) rest)) (entry_events p s room i f.status f.trace (ap (event_of_frame p s i) here))
+    ∙ ap (λ l. l ++ map ev (filter (going room) rest)) (entry_events p s room i f.status f.nodes f.trace (ap (event_of_frame p s i) here))
     ∙ ap (λ l. map Some one ++ l)
     (frame_events p s room (i + 1) fs (λ k. let z : i + 1 + k ≡ i + suc k = omega arith in ap (frame_at s.frames) z ∙ h (suc k)))
     ∙ sym (map-append Some one (candidates_from p s room (i + 1) fs))
@@ -90,14 +93,15 @@ running_kept all i (f ∷ fs) = by f.status (running_kept all (i + 1) fs)
     none = omega arith
 
     waiting : (b : Bool) → length (filter runs rest) ≡ running_in_frames fs
-        → length (filter runs (alive_entry i (Some (if b then MayEnter else MustWait)) ++ rest)) ≡ 0 + running_in_frames fs
-    waiting true e = e ∙ sym none
-    waiting false e = e ∙ sym none
+        → (n : ℤ)
+        → length (filter runs (record { iteration = i; number = n; standing = if b then MayEnter else MustWait } ∷ rest)) ≡ 0 + running_in_frames fs
+    waiting true e n = e ∙ sym none
+    waiting false e n = e ∙ sym none
 
     by : (w : Status) → length (filter runs rest) ≡ running_in_frames fs
-        → length (filter runs (alive_entry i (standing_of all i w) ++ rest)) ≡ running_of_status w + running_in_frames fs
+        → length (filter runs (alive_entry all i w f.nodes ++ rest)) ≡ running_of_status w + running_in_frames fs
     by statuses.Running e = omega (arith, e)
-    by (statuses.Pending k n) e = waiting (may_enter all i k n) e
+    by (statuses.Pending k n) e = waiting (may_enter all i k n) e n
     by (statuses.Completed x) e = e ∙ sym none
 
 -- the number of running instances

@@ -1,4 +1,6 @@
 pub mod SeedChoices
 pub mod OneAccess
 pub mod Turns
+pub mod AliveChanges
+pub mod ScheduleStates
 pub mod ScheduleExamples

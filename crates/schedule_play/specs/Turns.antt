@@ -1,9 +1,11 @@
 -- What is kept of the iterations that have not ended, and the turns that a choice chooses between.
-use Rattle.std.specs.Prelude.{ℕ, List, [], ◌∷◌, ◌++◌, Bool, true, false, ◌&&◌, ◌+◌, ◌%◌, if◌then◌else◌, filter, length, map, slice_index_or, Option, Some, None}
+use Rattle.std.specs.Prelude.{ℕ, List, [], ◌∷◌, ◌++◌, Bool, true, false, ◌&&◌, ◌+◌, ◌-◌, ◌%◌, if◌then◌else◌, filter, length, map, slice_index_or, Option, Some, None}
 use Rattle.pipe_model.specs.declared.event.Event.{Event}
+use Rattle.pipe_model.specs.declared.node.Node.{Node}
 use Rattle.pipe_model.specs.declared.status.Status.{Status}
 use Rattle.pipe_model.specs.declared.status.Status.TheVariants as statuses
 use Rattle.pipe_model.specs.Pipelines.Pipeline.{Pipeline}
+use Rattle.pipe_model.specs.Races.Columns.{node_at}
 use Rattle.pipe_model.specs.Runs.NextEvents.{may_enter, next_begin, next_event}
 use Rattle.pipe_model.specs.Runs.State.{Frame, State}
 use Rattle.schedule_play.specs.declared.turns.Alive.{Alive}
@@ -14,21 +16,17 @@ use Rattle.schedule_play.specs.declared.turns.Turn.TheVariants.{Next, Begin}
 
 -- ---- what is kept
 
--- how far iteration i is, if it has not ended
-abbrev pub standing_of : List Frame → ℕ → Status → Option Standing
-standing_of all i statuses.Running = Some Running
-standing_of all i (statuses.Pending k n) = Some (if may_enter all i k n then MayEnter else MustWait)
-standing_of all i (statuses.Completed e) = None
-
--- the iteration, if it has not ended
-abbrev pub alive_entry : ℕ → Option Standing → List Alive
-alive_entry i None = []
-alive_entry i (Some standing) = record { iteration = i; standing = standing } ∷ []
+-- iteration i, unless it has ended; its number is that of the stage that it has named last
+abbrev pub alive_entry : List Frame → ℕ → Status → List Node → List Alive
+alive_entry all i statuses.Running nodes = record { iteration = i; number = (node_at nodes (length nodes - 1)).number; standing = Running } ∷ []
+alive_entry all i (statuses.Pending k n) nodes =
+    record { iteration = i; number = n; standing = if may_enter all i k n then MayEnter else MustWait } ∷ []
+alive_entry all i (statuses.Completed e) nodes = []
 
 -- those of these iterations that have not ended; the first of them has number i
 abbrev pub alive_from : List Frame → ℕ → List Frame → List Alive
 alive_from all i [] = []
-alive_from all i (f ∷ fs) = alive_entry i (standing_of all i f.status) ++ alive_from all (i + 1) fs
+alive_from all i (f ∷ fs) = alive_entry all i f.status f.nodes ++ alive_from all (i + 1) fs
 
 -- the iterations that have not ended, by rising number
 abbrev pub alive_iterations : State → List Alive

@@ -1,9 +1,11 @@
 //! The parts of a scheduler that plays any schedule of a program on one thread, one event a turn.
 #![tactic(auto)]
 
+mod changes;
 pub mod choices;
 pub mod examples;
 pub mod instance;
 pub mod law;
 pub mod one_access;
+pub mod schedule;
 pub mod turns;
