@@ -1,5 +1,6 @@
 pub mod SeedChoices
 pub mod OneAccess
+pub mod RunningInstances
 pub mod Turns
 pub mod AliveChanges
 pub mod ScheduleStates

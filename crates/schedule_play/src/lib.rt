@@ -7,5 +7,6 @@ pub mod examples;
 pub mod instance;
 pub mod law;
 pub mod one_access;
+pub mod running_instance;
 pub mod schedule;
 pub mod turns;
