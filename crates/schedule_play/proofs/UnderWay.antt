@@ -1,7 +1,7 @@
 -- Stage instances between two of their events.
 use Rattle.std.proofs.Common.{◌≡◌, ◌∙◌, ap, sym, subst, refl, ℕ, ℤ, List, [], ◌∷◌, ◌++◌, map}
 use Rattle.std.proofs.lemmas.List.{map-append}
-use Rattle.pipe_frame.specs.Replies.{accessed, after_instance, replies_of}
+use Rattle.pipe_frame.specs.Replies.{accessed, after_instance, after_instances, replies_of}
 use Rattle.pipe_model.specs.declared.access.Access.{Access}
 use Rattle.pipe_model.specs.declared.column.ColumnEnd.{ColumnEnd}
 use Rattle.pipe_model.specs.declared.column.ColumnEnd.TheVariants as ends
@@ -143,3 +143,10 @@ instance_ends code cells input t run trace (stage_ends.Trap w) h apart = record 
   stands = λ names. elim names [ ];
 }
 instance_ends code cells input t run trace stage_ends.Stopped h apart = absurd (apart refl)
+
+-- ---- instances one after the other
+
+pub after_instances-push : (d : Behaviour) (replies : List (List ℤ)) (r : List ℤ)
+    → after_instances d (replies ++ r ∷ []) ≡ after_instance (after_instances d replies) r
+after_instances-push d [] r = refl
+after_instances-push d (x ∷ replies) r = after_instances-push (after_instance d x) replies r

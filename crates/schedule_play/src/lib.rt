@@ -4,9 +4,11 @@
 mod changes;
 pub mod choices;
 pub mod examples;
+pub mod held;
 pub mod instance;
 pub mod law;
 pub mod one_access;
+pub mod runner;
 pub mod running_instance;
 pub mod schedule;
 pub mod turns;
