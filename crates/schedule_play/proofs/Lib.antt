@@ -1,0 +1,5 @@
+pub mod PendingAccess
+pub mod UnderWay
+pub mod TurnCandidates
+pub mod ChangedEntries
+pub mod ScheduleEvents

@@ -1,0 +1,39 @@
+use Rattle.std.proofs.Common.{◌++◌, ◌∷◌, [], List, subst, sym}
+use Rattle.pipe_frame.specs.Replies.{IsPerformed, after_instances, replies_of}
+use Rattle.pipe_model.specs.declared.ticket.Entry.{Entry}
+use Rattle.pipe_model.specs.Language.SyntaxTree.{tree_of}
+use Rattle.stage_interp.specs.Standing.{StandsFor}
+use Rattle.frame_book.specs.BookStates.{pipeline_in, replies_at}
+use Rattle.schedule_play.specs.Runners.{IsAtInstance}
+use Rattle.schedule_play.proofs.UnderWay.{after_instances-push, instance_ends}
+use Rattle.schedule_play.proofs.held.Held.end.Goals as goal
+
+pub name_next-requires-clause-belongs : goal.name_next-requires-clause-belongs
+name_next-requires-clause-belongs g c = c.requires.lists
+
+pub name_next-requires-clause-performs : goal.name_next-requires-clause-performs
+name_next-requires-clause-performs g c =
+    let book = c.args.book.now in
+    let i = c.args.self.token.iteration in
+    let replies = replies_at book i in
+    let next = c.args.self.running.next in
+    let ends = instance_ends g.B.PlayedCode.code g.B.PlayedCode.cells book.input (after_instances ((pipeline_in book).behaviour i) replies)
+    c.args.self.token.payload.machine.run c.args.self.running.trace.items next c.requires.held.under_way c.requires.ends in
+    subst (λ (l : List Entry). IsPerformed (pipeline_in book) i replies l next) (sym c.from_vec.ensures) ends.performs
+
+pub name_next-requires-clause-stands : goal.name_next-requires-clause-stands
+name_next-requires-clause-stands g c = λ names.
+    let code = g.B.PlayedCode.code in
+    let cells = g.B.PlayedCode.cells in
+    let book = c.args.book.now in
+    let i = c.args.self.token.iteration in
+    let replies = replies_at book i in
+    let machine = c.args.self.token.payload.machine in
+    let trace = c.args.self.running.trace.items in
+    let d = (pipeline_in book).behaviour i in
+    let ends = instance_ends code cells book.input (after_instances d replies) machine.run trace c.args.self.running.next c.requires.held.under_way c.requires.ends in
+    subst (λ (l : List Entry). IsAtInstance code cells (tree_of book.program) book.input machine i (replies ++ replies_of l ∷ [])) (sym c.from_vec.ensures)
+    (record {
+      whole = c.requires.held.whole;
+      stands = subst (StandsFor code cells book.input machine.run) (sym (after_instances-push d replies (replies_of trace))) (ends.stands names);
+    })

@@ -1,0 +1,36 @@
+use Rattle.std.proofs.Common.{◌∙◌, ◌++◌, ◌∷◌, [], List, ap, subst, sym}
+use Rattle.pipe_frame.specs.Replies.{accessed}
+use Rattle.pipe_model.specs.declared.ticket.Entry.{Entry}
+use Rattle.pipe_model.specs.Pipelines.Behaviour.{behaviour_after_all}
+use Rattle.schedule_play.specs.RunningInstances.{IsUnderWay}
+use Rattle.schedule_play.proofs.UnderWay.{access_is_next, goes_on, stopped_here}
+use Rattle.schedule_play.proofs.running_instance.RunningInstance.access.Goals as goal
+
+pub returns-clause-goes_on : goal.returns-clause-goes_on
+returns-clause-goes_on c = λ t under_way.
+    let code = c.args.code.now in
+    let cells = c.args.cells.now.shard.cells in
+    let input = c.args.input.now in
+    let run = c.args.machine.now.run in
+    let now = c.make_access-next.new.machine.run in
+    let trace = c.args.self.now.trace.items in
+    let next = c.args.self.now.next in
+    let a = c.make_access-next.result.0 in
+    let e = c.make_access-next.result.1 in
+    let entry : Entry = record { ticket = c.args.ticket; access = a } in
+    let ran = c.make_access-next.ensures.ran (behaviour_after_all t (accessed trace)) (stopped_here code cells input t run trace next c.requires.stopped under_way) in
+    let items = c.push_reserved.ensures.items ∙ ap (λ (l : List Entry). l ++ entry ∷ []) c.in_ok-reserve.ensures.items in
+    subst (λ (l : List Entry). IsUnderWay code cells input t now l e) (sym items)
+    (goes_on code cells input t run now trace next e a c.args.ticket under_way ran)
+
+pub returns-clause-event : goal.returns-clause-event
+returns-clause-event c = λ t p before i under_way state.
+    let code = c.args.code.now in
+    let cells = c.args.cells.now.shard.cells in
+    let input = c.args.input.now in
+    let run = c.args.machine.now.run in
+    let trace = c.args.self.now.trace.items in
+    let ran = c.make_access-next.ensures.ran (behaviour_after_all t (accessed trace))
+    (stopped_here code cells input t run trace c.args.self.now.next c.requires.stopped under_way) in
+    access_is_next code cells input t c.make_access-next.new.machine.run trace c.make_access-next.result.1 c.make_access-next.result.0 p before i ran
+    (c.make_access-next.ensures.reply p.store before state)

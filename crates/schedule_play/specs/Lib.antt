@@ -1,0 +1,9 @@
+pub mod SeedChoices
+pub mod OneAccess
+pub mod RunningInstances
+pub mod Runners
+pub mod HeldInstances
+pub mod Turns
+pub mod AliveChanges
+pub mod ScheduleStates
+pub mod ScheduleExamples

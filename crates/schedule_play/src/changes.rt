@@ -1,0 +1,121 @@
+//! How an event changes what is kept of the iterations.
+
+ghost use Rattle.std.specs.Prelude.{◌≡◌, ◌+◌, ◌==◌, if◌then◌else◌, map};
+ghost use Rattle.std.specs.List.{list_all};
+ghost use Rattle.schedule_play.specs.AliveChanges.{after_change, passes_left, released};
+ghost use Rattle.schedule_play.specs.declared.turns.Alive.{Alive as Kept};
+
+use crate::turns::{Alive, Standing};
+
+/// An event of an iteration, as far as it changes what is kept of the iterations.
+#[derive(Clone, Copy, PartialEq, Eq, Debug)]
+pub enum Change {
+    /// The iteration names a stage of this number, which it may enter or not.
+    Named(u32, i64, bool),
+    /// It enters the stage that it has named.
+    Entered(u32),
+    /// It ends.
+    Ended(u32),
+}
+
+impl Standing {
+    // Returns how far an iteration is that has named a stage.
+    fn of_waiting(may_enter: bool) -> Standing
+        ensures { result ≡ (if may_enter then Standing.MayEnter else Standing.MustWait) }
+    {
+        if may_enter {
+            Standing::MayEnter
+        } else {
+            Standing::MustWait
+        }
+    }
+
+    // Returns how far the iteration is after an event of its left neighbour, which may have passed the
+    // stage for which it waits.
+    fn released(self, passed: bool) -> Standing
+        ensures { result ≡ released passed self }
+    {
+        match self {
+            Standing::Running => Standing::Running,
+            Standing::MayEnter => Standing::MayEnter,
+            Standing::MustWait => Standing::of_waiting(passed),
+        }
+    }
+}
+
+impl Alive {
+    // Returns whether its left neighbour is this iteration.
+    fn is_right_of(self, iteration: u32) -> bool
+        ensures { result ≡ (self.iteration == iteration + 1) }
+    {
+        u64::from(self.iteration) == u64::from(iteration) + 1
+    }
+
+    // Returns the entry after an event of its left neighbour.
+    fn with_left(self, passed: bool) -> Alive
+        ensures { result ≡ record self { standing = released passed self.standing } }
+    {
+        Alive {
+            iteration: self.iteration,
+            number: self.number,
+            standing: self.standing.released(passed),
+        }
+    }
+
+    // Returns the entry after an event.
+    fn after(self, change: Change) -> Alive
+        ensures { result ≡ after_change change self }
+    {
+        match change {
+            Change::Named(iteration, number, may_enter) => {
+                if self.iteration == iteration {
+                    let standing = Standing::of_waiting(may_enter);
+                    Alive {
+                        iteration,
+                        number,
+                        standing,
+                    }
+                } else if self.is_right_of(iteration) {
+                    self.with_left(self.number < number)
+                } else {
+                    self
+                }
+            }
+            Change::Entered(iteration) => {
+                if self.iteration == iteration {
+                    Alive {
+                        iteration,
+                        number: self.number,
+                        standing: Standing::Running,
+                    }
+                } else {
+                    self
+                }
+            }
+            Change::Ended(iteration) => {
+                if self.is_right_of(iteration) {
+                    self.with_left(true)
+                } else {
+                    self
+                }
+            }
+        }
+    }
+}
+
+/// Changes each of these iterations by an event. One that ends stays.
+pub(crate) fn change_each(alive: &mut [Alive], change: Change)
+    ensures { alive.new ≡ map (after_change change) alive.old }
+{
+    for entry in alive.iter_mut() {
+        *entry = entry.after(change);
+    }
+}
+
+/// Returns whether the left neighbour of the iteration, if it has one that has not ended, has named a
+/// stage with a greater number.
+pub(crate) fn passes_left(alive: &[Alive], iteration: u32, number: i64) -> bool
+    ensures { result ≡ list_all (passes_left iteration number) alive.now }
+{
+    alive.iter().all(|a| u64::from(a.iteration) + 1 != u64::from(iteration) || number < a.number)
+}

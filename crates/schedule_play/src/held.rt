@@ -1,0 +1,121 @@
+//! An iteration that runs in a schedule.
+
+ghost use Rattle.std.specs.Prelude.{◌≡◌, ◌≢◌, ◌≤◌, ◌++◌, ◌∷◌, [], ℕ, ℤ, List, IfOk};
+ghost use Rattle.cell_store.specs.ShardState.{IsStateAfter};
+ghost use Rattle.pipe_frame.specs.CallResults.{NameReturns};
+ghost use Rattle.pipe_frame.specs.Replies.{after_instances};
+ghost use Rattle.pipe_frame.specs.Ties.{BelongsTo};
+ghost use Rattle.pipe_frame.specs.TokenFields.{fields_of};
+ghost use Rattle.pipe_model.specs.declared.access.Access.{Access as Accessed};
+ghost use Rattle.pipe_model.specs.declared.event.Event.TheVariants as events;
+ghost use Rattle.pipe_model.specs.Language.Programs.{pipeline_of};
+ghost use Rattle.pipe_model.specs.Language.SyntaxTree.{SyntaxTree, tree_of};
+ghost use Rattle.pipe_model.specs.Pipelines.Pipeline.{Pipeline};
+ghost use Rattle.pipe_model.specs.Pipelines.Store.{InitialStore};
+ghost use Rattle.frame_book.specs.BookStates.{replies_at, state_of};
+ghost use Rattle.frame_book.specs.CallEffects.{after_name_next};
+ghost use Rattle.frame_book.specs.GivenTokens.{IsOutOf};
+ghost use Rattle.schedule_play.specs.HeldInstances.{IsHeld};
+ghost use Rattle.schedule_play.specs.OneAccess.{HasAllCells};
+ghost use Rattle.schedule_play.specs.RunningInstances.{next_of};
+ghost use Rattle.schedule_play.specs.Runners.{IsAtInstance, no_tie};
+
+use crate::runner::{PlayedCode, Runner};
+use crate::running_instance::RunningInstance;
+use cell_store::cells::Cells;
+use frame_book::book::Book;
+use om_list::om_list::OmList;
+use pipe_frame::results::Named;
+use pipe_frame::token::FrameToken;
+use pipe_model::access::Access;
+use pipe_model::list::Numbers;
+use pipe_model::memory::NoMemory;
+use pipe_model::stage::StageEnd;
+use pipe_model::ticket::Trace;
+use stage_code::code::Code;
+use std::alloc::Global;
+
+/// A running iteration: the token of its instance, and how far the instance is.
+#[derive(Drop)]
+pub struct Held<B: PlayedCode> {
+    /// The token.
+    pub token: FrameToken<Runner<B>>,
+    /// The instance.
+    pub running: RunningInstance,
+}
+
+impl<B: PlayedCode> Held<B> {
+    /// Begins the instance of a token: runs its machine up to its first event.
+    pub fn new(
+        alloc: Global,
+        mut token: FrameToken<Runner<B>>,
+        code: &Code,
+        input: &Numbers,
+        cells: &Cells,
+    ) -> Self
+        requires code { code.now ≡ B.code }
+        requires cells { cells.now.shard.cells ≡ B.cells }
+        requires few { cells.now.shard.cells ≤ 4294967296 }
+        requires stands { (tree : SyntaxTree) × ((replies : List (List ℤ)) × IsAtInstance B.code B.cells tree input.now token.payload.machine token.iteration replies) }
+        ensures held { (tree : SyntaxTree) (replies : List (List ℤ)) → IsAtInstance B.code B.cells tree input.now token.payload.machine token.iteration replies
+            → IsHeld B.code B.cells tree input.now token.iteration replies result.token.payload.machine result.running.trace.items result.running.next }
+        ensures fields { fields_of result.token ≡ fields_of token }
+        ensures empty { result.running.trace.items ≡ [] }
+    {
+        let running = RunningInstance::new(alloc, &mut token.payload.machine, code, input, cells);
+        Held { token, running }
+    }
+
+    /// Makes the access that is the instance's next event, with this ticket, which the token then has too.
+    /// Returns an error only if memory runs out.
+    pub fn access(
+        &mut self,
+        code: &Code,
+        input: &Numbers,
+        cells: &mut Cells,
+        ticket: u64,
+    ) -> Result<Access, NoMemory>
+        requires code { code.now ≡ B.code }
+        requires cells { cells.old.shard.cells ≡ B.cells }
+        requires all { HasAllCells cells.old }
+        requires few { cells.old.shard.cells ≤ 4294967296 }
+        requires stopped { self.old.running.next ≡ StageEnd.Stopped }
+        requires held { (tree : SyntaxTree) × ((replies : List (List ℤ)) × IsHeld B.code B.cells tree input.now self.old.token.iteration replies
+            self.old.token.payload.machine self.old.running.trace.items self.old.running.next) }
+        ensures held { IfOk result (λ a. (tree : SyntaxTree) (replies : List (List ℤ))
+            → IsHeld B.code B.cells tree input.now self.old.token.iteration replies self.old.token.payload.machine self.old.running.trace.items self.old.running.next
+            → IsHeld B.code B.cells tree input.now self.old.token.iteration replies self.new.token.payload.machine self.new.running.trace.items self.new.running.next) }
+        ensures event { IfOk result (λ a. (tree : SyntaxTree) (replies : List (List ℤ)) (p : Pipeline) (before : List Accessed)
+            → IsHeld B.code B.cells tree input.now self.old.token.iteration replies self.old.token.payload.machine self.old.running.trace.items self.old.running.next
+            → IsStateAfter p.store before cells.old
+            → next_of p before self.old.token.iteration (after_instances ((pipeline_of tree input.now).behaviour self.old.token.iteration) replies)
+            self.old.running.trace.items ≡ events.Access self.old.token.iteration a) }
+        ensures fields { IfOk result (λ a. fields_of self.new.token ≡ record (fields_of self.old.token) { now = ticket }) }
+        ensures trace { IfOk result (λ a. self.new.running.trace.items ≡ self.old.running.trace.items ++ record { ticket = ticket; access = a } ∷ []) }
+        ensures state { IfOk result (λ a. (store : InitialStore) (before : List Accessed) → IsStateAfter store before cells.old
+            → IsStateAfter store (before ++ a ∷ []) cells.new) }
+        ensures shard { cells.new.shard ≡ cells.old.shard }
+    {
+        let machine = &mut self.token.payload.machine;
+        let access = self.running.access(machine, code, input, cells, ticket)?;
+        self.token.now = ticket;
+        Ok(access)
+    }
+
+    /// Ends the instance, which is at its end: the event `Advance` or `Finish` of the book.
+    pub fn end(self, book: &mut Book<Runner<B>, OmList>) -> Named
+        requires out { IsOutOf book.old (fields_of self.token) }
+        requires ends { self.running.next ≢ StageEnd.Stopped }
+        requires lists { BelongsTo no_tie book.old.lists }
+        requires held { IsHeld B.code B.cells (tree_of book.old.program) book.old.input self.token.iteration (replies_at book.old self.token.iteration)
+            self.token.payload.machine self.running.trace.items self.running.next }
+        ensures answer { NameReturns (state_of book.old) self.running.next result }
+        ensures book { book.new ≡ after_name_next book.old (fields_of self.token) self.running.next self.running.trace.items result }
+    {
+        book.name_next(
+            self.token,
+            self.running.next,
+            Trace::from_vec(self.running.trace),
+        )
+    }
+}

@@ -1,0 +1,14 @@
+//! The parts of a scheduler that plays any schedule of a program on one thread, one event a turn.
+#![tactic(auto)]
+
+mod changes;
+pub mod choices;
+pub mod examples;
+pub mod held;
+pub mod instance;
+pub mod law;
+pub mod one_access;
+pub mod runner;
+pub mod running_instance;
+pub mod schedule;
+pub mod turns;

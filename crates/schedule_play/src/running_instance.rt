@@ -1,0 +1,93 @@
+//! A stage instance that runs in a schedule, between two of its events.
+
+ghost use Rattle.std.specs.Prelude.{◌≡◌, ◌≢◌, ◌≤◌, ◌++◌, ◌∷◌, [], IfOk, List, OnErr, ℕ};
+ghost use Rattle.cell_store.specs.ShardState.{IsStateAfter};
+ghost use Rattle.pipe_model.specs.declared.access.Access.{Access as Accessed};
+ghost use Rattle.pipe_model.specs.declared.event.Event.TheVariants as events;
+ghost use Rattle.pipe_model.specs.Pipelines.Behaviour.{Behaviour};
+ghost use Rattle.pipe_model.specs.Pipelines.Pipeline.{Pipeline};
+ghost use Rattle.pipe_model.specs.Pipelines.Store.{InitialStore};
+ghost use Rattle.schedule_play.specs.OneAccess.{HasAllCells};
+ghost use Rattle.schedule_play.specs.RunningInstances.{IsUnderWay, next_of};
+ghost use Rattle.stage_code.specs.FlatCode.{FlatCode};
+ghost use Rattle.stage_interp.specs.MachineState.{IsMadeFor};
+ghost use Rattle.stage_interp.specs.Standing.{StandsFor};
+
+use crate::instance::{make_access, run_to_access};
+use cell_store::cells::Cells;
+use pipe_model::access::Access;
+use pipe_model::list::Numbers;
+use pipe_model::memory::NoMemory;
+use pipe_model::stage::StageEnd;
+use pipe_model::ticket::Entry;
+use stage_code::code::Code;
+use stage_interp::machine::Machine;
+use std::alloc::Global;
+
+/// A stage instance that runs: its accesses so far, and its next event. Its machine is passed to each
+/// call.
+#[derive(Drop)]
+pub struct RunningInstance {
+    /// The accesses that it has made, with their tickets.
+    pub trace: Vec<Entry>,
+    /// How it ends, or `Stopped` if its next event is an access.
+    pub next: StageEnd,
+}
+
+impl RunningInstance {
+    /// Begins an instance: runs its machine up to its first event.
+    pub fn new(
+        alloc: Global,
+        machine: &mut Machine,
+        code: &Code,
+        input: &Numbers,
+        cells: &Cells,
+    ) -> Self
+        requires before { (t : Behaviour) × StandsFor code.now cells.now.shard.cells input.now machine.old.run t }
+        requires few { cells.now.shard.cells ≤ 4294967296 }
+        ensures begun { (t : Behaviour) → StandsFor code.now cells.now.shard.cells input.now machine.old.run t
+            → IsUnderWay code.now cells.now.shard.cells input.now t machine.new.run [] result.next }
+        ensures empty { result.trace.items ≡ [] }
+        ensures made { (c : FlatCode) → IsMadeFor c machine.old → IsMadeFor c machine.new }
+    {
+        RunningInstance {
+            trace: Vec::new(alloc),
+            next: run_to_access(machine, code, input, cells),
+        }
+    }
+
+    /// Makes the access that is the next event, with this ticket, and runs the machine up to the event
+    /// after it. Returns an error only if memory runs out; then nothing was done.
+    pub fn access(
+        &mut self,
+        machine: &mut Machine,
+        code: &Code,
+        input: &Numbers,
+        cells: &mut Cells,
+        ticket: u64,
+    ) -> Result<Access, NoMemory>
+        requires stopped { self.old.next ≡ StageEnd.Stopped }
+        requires before { (t : Behaviour) × IsUnderWay code.now cells.old.shard.cells input.now t machine.old.run self.old.trace.items self.old.next }
+        requires all { HasAllCells cells.old }
+        requires few { cells.old.shard.cells ≤ 4294967296 }
+        ensures goes_on { IfOk result (λ a. (t : Behaviour)
+            → IsUnderWay code.now cells.old.shard.cells input.now t machine.old.run self.old.trace.items self.old.next
+            → IsUnderWay code.now cells.old.shard.cells input.now t machine.new.run self.new.trace.items self.new.next) }
+        ensures event { IfOk result (λ a. (t : Behaviour) (p : Pipeline) (before : List Accessed) (i : ℕ)
+            → IsUnderWay code.now cells.old.shard.cells input.now t machine.old.run self.old.trace.items self.old.next
+            → IsStateAfter p.store before cells.old → next_of p before i t self.old.trace.items ≡ events.Access i a) }
+        ensures trace { IfOk result (λ a. self.new.trace.items ≡ self.old.trace.items ++ record { ticket = ticket; access = a } ∷ []) }
+        ensures state { IfOk result (λ a. (store : InitialStore) (before : List Accessed) → IsStateAfter store before cells.old
+            → IsStateAfter store (before ++ a ∷ []) cells.new) }
+        ensures shard { cells.new.shard ≡ cells.old.shard }
+        ensures made { (c : FlatCode) → IsMadeFor c machine.old → IsMadeFor c machine.new }
+        ensures none { OnErr result ((machine.new ≡ machine.old) × (cells.new ≡ cells.old) × (self.new.trace.items ≡ self.old.trace.items)
+            × (self.new.next ≡ self.old.next)) }
+    {
+        self.trace.reserve(1)?;
+        let (access, next) = make_access(machine, code, input, cells);
+        self.trace.push_reserved(Entry { ticket, access });
+        self.next = next;
+        Ok(access)
+    }
+}
