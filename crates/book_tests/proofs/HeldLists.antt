@@ -14,7 +14,7 @@ use Rattle.book_tests.proofs.StayingTokens.{Changes, still_given}
 pub none_held : (v : BookState) (tokens : List (Option (FrameToken Plan))) → ((i : ℕ) → token_of tokens i ≡ None) → AreHeld v tokens
 none_held v tokens none i = rw (none i) tt
 
--- one place more, without a token
+-- one entry more, without a token
 pub none_more : (tokens : List (Option (FrameToken Plan))) → ((i : ℕ) → token_of tokens i ≡ None) → (i : ℕ) → token_of (tokens ++ None ∷ []) i ≡ None
 none_more [] none zero = refl
 none_more [] none (suc i) = refl

@@ -6,7 +6,7 @@ use Rattle.std.proofs.lemmas.Bool.Decides.{nat_tests}
 use Rattle.std.proofs.lemmas.List.Sums.{sum_by-cons}
 use Rattle.pipe_model.specs.declared.symbol.Symbol.{Symbol}
 use Rattle.pipe_model.specs.declared.symbol.Symbol.TheVariants as symbols
-use Rattle.grammar_laws.proofs.CanonicalSymbols.{one_place_symbol, symbols_at_level, two_place_symbols, expression_symbols}
+use Rattle.grammar_laws.proofs.CanonicalSymbols.{unary_symbol, symbols_at_level, binary_symbols, expression_symbols}
 use Rattle.pipe_model.specs.Language.CanonicalText.{level_in}
 use Rattle.pipe_model.specs.Language.SyntaxTree.{Expression, Number, Name, Element, And, Or, Binary, Unary, More, Take, Iter, binary_expression}
 use Rattle.pipe_model.specs.Language.Grammar.{any_expression, operand_level, level_of, Derives, Numeral, Named, Indexed, CallsMore, CallsTake, CallsIter, Negative, Not, Bracketed, Tighter, Joined}
@@ -196,7 +196,7 @@ round_pair = record { opens = refl; stays = refl; ends = refl; closes = refl }
 square_pair : IsPair open_square close_square
 square_pair = record { opens = refl; stays = refl; ends = refl; closes = refl }
 
-one_plain : (code : ℕ) → IsUnjoined (one_place_symbol code)
+one_plain : (code : ℕ) → IsUnjoined (unary_symbol code)
 one_plain code = by_test (code == 1)
   where
     by_test : (b : Bool) → IsUnjoined (if b then minus else exclamation)
@@ -210,7 +210,7 @@ levelled_lifts needed own ts l = by_test (nat_le needed own)
     by_test true = l
     by_test false = nested_lifts open_round close_round round_pair l
 
-sides_lift : (code la lb : ℕ) (a b : List Symbol) → Lifts a → Lifts b → Lifts (two_place_symbols code la lb a b)
+sides_lift : (code la lb : ℕ) (a b : List Symbol) → Lifts a → Lifts b → Lifts (binary_symbols code la lb a b)
 sides_lift code la lb a b l m =
     both_lift (levelled_lifts (level_of code) la a l)
     (plain_lifts (symbols.Operator code) (record { no_opening = refl; no_closing = refl }) (levelled_lifts (level_of code + 1) lb b m))
@@ -314,7 +314,7 @@ in_full e ts r = subst (λ x. NoMore x ts) (at_its_level 1 (level_in e) (express
 -- two operands joined by an operator
 pub record IsJoined (code : ℕ) (a b e : Expression) : Type 0 where
   pub level : level_in e ≡ level_of code
-  pub same : expression_symbols e ≡ two_place_symbols code (level_in a) (level_in b) (expression_symbols a) (expression_symbols b)
+  pub same : expression_symbols e ≡ binary_symbols code (level_in a) (level_in b) (expression_symbols a) (expression_symbols b)
 
 joined : (code : ℕ) (a b : Expression) → IsJoined code a b (binary_expression code a b)
 joined code a b = by_code (code == 1) (code == 2) (λ e. grind (arith, nat_tests, e)) (λ e. grind (arith, nat_tests, e))
@@ -329,7 +329,7 @@ joined_least : (level code : ℕ) (left right : List Symbol) (a b e : Expression
 joined_least level code left right a b e eq l j x y =
     let own = j.level in
     let next : suc level ≡ level_of code + 1 = omega (arith, eq) in
-    let here : symbols_at_level level (level_in e) (expression_symbols e) ≡ two_place_symbols code (level_in a) (level_in b)
+    let here : symbols_at_level level (level_in e) (expression_symbols e) ≡ binary_symbols code (level_in a) (level_in b)
     (expression_symbols a) (expression_symbols b) =
     at_its_level level (level_in e) (expression_symbols e) (omega (arith, eq, own)) ∙ j.same in
     let first = subst (λ k. NoMore (symbols_at_level k (level_in a) (expression_symbols a)) left) (sym eq) x.no_more in

@@ -6,7 +6,7 @@ use Rattle.pipe_model.specs.declared.tree.StageKind.TheVariants as kinds
 use Rattle.pipe_model.specs.declared.symbol.Symbol.{Symbol}
 use Rattle.pipe_model.specs.declared.symbol.Symbol.TheVariants as symbols
 use Rattle.pipe_model.specs.declared.tree.Declaration.{Declaration}
-use Rattle.grammar_laws.proofs.CanonicalSymbols.{one_place_symbol, symbols_at_level, two_place_symbols, expression_symbols, part_pieces, statement_pieces, statements_pieces, size_pieces, value_pieces, cells_pieces, program_pieces, IsWritable, IsWritableStatement, AreWritable, IsWritableProgram}
+use Rattle.grammar_laws.proofs.CanonicalSymbols.{unary_symbol, symbols_at_level, binary_symbols, expression_symbols, part_pieces, statement_pieces, statements_pieces, size_pieces, value_pieces, cells_pieces, program_pieces, IsWritable, IsWritableStatement, AreWritable, IsWritableProgram}
 use Rattle.pipe_model.proofs.LevelLaws.{below_operands, looser}
 use Rattle.pipe_model.specs.Language.CanonicalText.{level_in}
 use Rattle.pipe_model.specs.Language.SyntaxTree.{Expression, Number, Name, Element, And, Or, Binary, Unary, More, Take, Iter, binary_expression, Statement, Let, Assign, AssignElement, Emit, If, While, Stage, NextStage, Statements, Empty, Then, SyntaxTree}
@@ -14,7 +14,7 @@ use Rattle.pipe_model.specs.Language.Grammar.{any_expression, operand_level, lev
 
 -- ---- expressions
 
--- each two-place operator has a level of at least 1
+-- each binary operator has a level of at least 1
 level_from_one : (code : ℕ) → 1 ≤ code → code ≤ 13 → 1 ≤ level_of code
 level_from_one zero l h = absurd (omega (arith, l))
 level_from_one (suc zero) l h = omega arith
@@ -55,15 +55,15 @@ at_level_derives : (needed own : ℕ) (e : Expression) (ts : List Symbol) → ne
     → Derives needed (symbols_at_level needed own ts) e
 at_level_derives needed own e ts k l d = bracketed_by (nat_le needed own) needed own e ts (λ h. grind (arith, nat_tests, h)) k l d
 
-one_place : (code : ℕ) (e : Expression) (ts : List Symbol) → ((code ≡ 1) ⊎ (code ≡ 2)) → Derives operand_level ts e
-    → Derives operand_level (one_place_symbol code ∷ ts) (Unary code e)
-one_place code e ts (inl h) d = rw h (Negative d)
-one_place code e ts (inr h) d = rw h (Not d)
+unary_derived : (code : ℕ) (e : Expression) (ts : List Symbol) → ((code ≡ 1) ⊎ (code ≡ 2)) → Derives operand_level ts e
+    → Derives operand_level (unary_symbol code ∷ ts) (Unary code e)
+unary_derived code e ts (inl h) d = rw h (Negative d)
+unary_derived code e ts (inr h) d = rw h (Not d)
 
-two_place : (code : ℕ) (a b : Expression) (left right : List Symbol) → 1 ≤ level_in a → 1 ≤ level_in b
+binary_derived : (code : ℕ) (a b : Expression) (left right : List Symbol) → 1 ≤ level_in a → 1 ≤ level_in b
     → Derives (level_in a) left a → Derives (level_in b) right b
-    → Derives (level_of code) (two_place_symbols code (level_in a) (level_in b) left right) (binary_expression code a b)
-two_place code a b left right la lb d d' =
+    → Derives (level_of code) (binary_symbols code (level_in a) (level_in b) left right) (binary_expression code a b)
+binary_derived code a b left right la lb d d' =
     let high = below_operands code in
     let l = at_level_derives (level_of code) (level_in a) a left (omega (arith, high)) la d in
     let r = at_level_derives (level_of code + 1) (level_in b) b right (omega (arith, high)) lb d' in
@@ -83,16 +83,16 @@ expression_derived (Name x) h = Named x
 expression_derived (Element x i) h = let l = level_from i h.1 in Indexed x (looser any_expression l (expression_derived i h.1))
 expression_derived (Or a b) h =
     let la = level_from a h.0 in let lb = level_from b h.1 in
-    two_place 1 a b _ _ la lb (expression_derived a h.0) (expression_derived b h.1)
+    binary_derived 1 a b _ _ la lb (expression_derived a h.0) (expression_derived b h.1)
 expression_derived (And a b) h =
     let la = level_from a h.0 in let lb = level_from b h.1 in
-    two_place 2 a b _ _ la lb (expression_derived a h.0) (expression_derived b h.1)
+    binary_derived 2 a b _ _ la lb (expression_derived a h.0) (expression_derived b h.1)
 expression_derived (Binary code a b) h =
     let la = level_from a h.2 in let lb = level_from b h.3 in
     subst (λ x. Derives (level_of code) (expression_symbols (Binary code a b)) x) (joined_as code a b h.0)
-    (two_place code a b (expression_symbols a) (expression_symbols b) la lb (expression_derived a h.2) (expression_derived b h.3))
+    (binary_derived code a b (expression_symbols a) (expression_symbols b) la lb (expression_derived a h.2) (expression_derived b h.3))
 expression_derived (Unary code a) h =
-    let l = level_from a h.1 in one_place code a _ h.0 (at_level_derives operand_level (level_in a) a (expression_symbols a) (omega arith) l
+    let l = level_from a h.1 in unary_derived code a _ h.0 (at_level_derives operand_level (level_in a) a (expression_symbols a) (omega arith) l
     (expression_derived a h.1))
 expression_derived More h = CallsMore
 expression_derived Take h = CallsTake

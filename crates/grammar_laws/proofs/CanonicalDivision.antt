@@ -8,8 +8,8 @@ use Rattle.pipe_model.specs.declared.tree.StageKind.TheVariants as kinds
 use Rattle.pipe_model.specs.declared.symbol.Symbol.{Symbol}
 use Rattle.pipe_model.specs.declared.symbol.Symbol.TheVariants as symbols
 use Rattle.pipe_model.specs.declared.tree.Declaration.{Declaration}
-use Rattle.grammar_laws.proofs.CanonicalSymbols.{one_place_symbol, symbols_at_level, two_place_symbols, expression_symbols, block_pieces, part_pieces, statement_pieces, statements_pieces, size_pieces, value_pieces, cells_pieces, program_pieces, IsName, IsNumeral, Numeral, IsDeclaredValue, Positive, Negative, IsWritable, IsWritableStatement, AreWritable, IsWritableSize, AreWritableCells, IsWritableProgram}
-use Rattle.pipe_model.specs.Language.CanonicalText.{operator_text, one_place_text, level_in, at_level, two_place, expression_text, line, else_text, statement_text, statements_text, limits_text, size_text, cell_text, part_text, loop_text, program_text}
+use Rattle.grammar_laws.proofs.CanonicalSymbols.{unary_symbol, symbols_at_level, binary_symbols, expression_symbols, block_pieces, part_pieces, statement_pieces, statements_pieces, size_pieces, value_pieces, cells_pieces, program_pieces, IsName, IsNumeral, Numeral, IsDeclaredValue, Positive, Negative, IsWritable, IsWritableStatement, AreWritable, IsWritableSize, AreWritableCells, IsWritableProgram}
+use Rattle.pipe_model.specs.Language.CanonicalText.{operator_text, unary_text, level_in, at_level, binary_text, expression_text, line, else_text, statement_text, statements_text, limits_text, size_text, cell_text, part_text, loop_text, program_text}
 use Rattle.pipe_model.specs.Language.Lexis.{is_name_byte, symbol_of}
 use Rattle.pipe_model.specs.Language.SyntaxTree.{Expression, Number, Name, Element, And, Or, Binary, Unary, More, Take, Iter, Statement, Let, Assign, AssignElement, Emit, If, While, Stage, NextStage, Statements, Empty, Then, SyntaxTree}
 use Rattle.pipe_model.specs.Language.Grammar.{level_of, operand_level, Piece, Single, FullExpression, flat}
@@ -146,7 +146,7 @@ between {G} {u} {us} code l h w = record {
 }
 
 two_sides : (code la lb : ℕ) (a b : List ℕ) (ta tb : List Symbol) → 1 ≤ code → code ≤ 13 → Writing SymbolEdge a ta → Writing SymbolEdge b tb
-    → Writing SymbolEdge (two_place code la lb a b) (two_place_symbols code la lb ta tb)
+    → Writing SymbolEdge (binary_text code la lb a b) (binary_symbols code la lb ta tb)
 two_sides code la lb a b ta tb l h w v =
     both (levelled (level_of code) la a ta w) (between code l h (levelled (level_of code + 1) lb b tb v)) (λ rest f. refl)
 
@@ -158,7 +158,7 @@ levelled_opens needed own text rest o = by_test (nat_le needed own)
     by_test true = o rest
     by_test false = refl
 
-sides_open : (code la lb : ℕ) (a b rest : List ℕ) → ((more : List ℕ) → Opens (a ++ more)) → Opens (two_place code la lb a b ++ rest)
+sides_open : (code la lb : ℕ) (a b rest : List ℕ) → ((more : List ℕ) → Opens (a ++ more)) → Opens (binary_text code la lb a b ++ rest)
 sides_open code la lb a b rest o =
     let following = codes " " ++ (operator_text code ++ (codes " " ++ at_level (level_of code + 1) lb b)) in
     subst Opens (sym (append_assoc (at_level (level_of code) la a) following rest)) (levelled_opens (level_of code) la a (following ++ rest) o)
@@ -177,7 +177,7 @@ expression_opens (And a b) h rest = sides_open 2 (level_in a) (level_in b) (expr
 expression_opens (Binary code a b) h rest = sides_open code (level_in a) (level_in b) (expression_text a) (expression_text b) rest (expression_opens a h.2)
 expression_opens (Unary code a) h rest = by_code code h.0
   where
-    by_code : (k : ℕ) → (k ≡ 1) ⊎ (k ≡ 2) → Opens ((one_place_text k ++ at_level operand_level (level_in a) (expression_text a)) ++ rest)
+    by_code : (k : ℕ) → (k ≡ 1) ⊎ (k ≡ 2) → Opens ((unary_text k ++ at_level operand_level (level_in a) (expression_text a)) ++ rest)
     by_code k (inl e) = rw e refl
     by_code k (inr e) = rw e refl
 expression_opens More h rest = refl
@@ -185,7 +185,7 @@ expression_opens Take h rest = refl
 expression_opens Iter h rest = refl
 
 one_sided : (code : ℕ) (text : List ℕ) (ts : List Symbol) → (code ≡ 1) ⊎ (code ≡ 2) → Writing SymbolEdge text ts → ((more : List ℕ) → Opens (text ++ more))
-    → Writing SymbolEdge (one_place_text code ++ text) (one_place_symbol code ∷ ts)
+    → Writing SymbolEdge (unary_text code ++ text) (unary_symbol code ∷ ts)
 one_sided code text ts (inl e) w o = rw e (next minus_sign w)
 one_sided code text ts (inr e) w o = rw e (record {
   writes = λ rest found h d. Puts (33 ∷ []) (symbols.Sign 33) (not_token (text ++ rest) (o rest)) tt (w.writes rest found h d);

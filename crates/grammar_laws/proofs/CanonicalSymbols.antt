@@ -13,27 +13,27 @@ use Rattle.pipe_model.specs.Language.Words.{word_cell, word_pipe_while, word_pip
 
 -- ---- expressions
 
--- the symbol of a one-place operator
-abbrev pub one_place_symbol : ℕ → Symbol
-one_place_symbol code = if code == 1 then minus else exclamation
+-- the symbol of a unary operator
+abbrev pub unary_symbol : ℕ → Symbol
+unary_symbol code = if code == 1 then minus else exclamation
 
 -- symbols at a needed level: in round brackets if their own level is lower
 abbrev pub symbols_at_level : (needed own : ℕ) → List Symbol → List Symbol
 symbols_at_level needed own ts = if nat_le needed own then ts else open_round ∷ (ts ++ close_round ∷ [])
 
--- a two-place operator between its operands
-abbrev pub two_place_symbols : (code left_level right_level : ℕ) → (left right : List Symbol) → List Symbol
-two_place_symbols code left_level right_level left right =
+-- a binary operator between its operands
+abbrev pub binary_symbols : (code left_level right_level : ℕ) → (left right : List Symbol) → List Symbol
+binary_symbols code left_level right_level left right =
     symbols_at_level (level_of code) left_level left ++ symbols.Operator code ∷ symbols_at_level (level_of code + 1) right_level right
 
 abbrev pub expression_symbols : Expression → List Symbol
 expression_symbols (Number n) = symbols.Number n ∷ []
 expression_symbols (Name x) = symbols.Name x ∷ []
 expression_symbols (Element x i) = symbols.Name x ∷ open_square ∷ (expression_symbols i ++ close_square ∷ [])
-expression_symbols (Or a b) = two_place_symbols 1 (level_in a) (level_in b) (expression_symbols a) (expression_symbols b)
-expression_symbols (And a b) = two_place_symbols 2 (level_in a) (level_in b) (expression_symbols a) (expression_symbols b)
-expression_symbols (Binary code a b) = two_place_symbols code (level_in a) (level_in b) (expression_symbols a) (expression_symbols b)
-expression_symbols (Unary code a) = one_place_symbol code ∷ symbols_at_level operand_level (level_in a) (expression_symbols a)
+expression_symbols (Or a b) = binary_symbols 1 (level_in a) (level_in b) (expression_symbols a) (expression_symbols b)
+expression_symbols (And a b) = binary_symbols 2 (level_in a) (level_in b) (expression_symbols a) (expression_symbols b)
+expression_symbols (Binary code a b) = binary_symbols code (level_in a) (level_in b) (expression_symbols a) (expression_symbols b)
+expression_symbols (Unary code a) = unary_symbol code ∷ symbols_at_level operand_level (level_in a) (expression_symbols a)
 expression_symbols More = word_more ∷ open_round ∷ close_round ∷ []
 expression_symbols Take = word_take ∷ open_round ∷ close_round ∷ []
 expression_symbols Iter = word_iter ∷ open_round ∷ close_round ∷ []

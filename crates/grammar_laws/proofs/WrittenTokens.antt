@@ -199,7 +199,7 @@ not_token (c ∷ rest) h = record {
         let apart : (61 == d) ≡ false = grind (arith, nat_tests, h, same) in
         let none : None ≡ Some s' = rw apart at t in cc (none)
 
--- a two-place operator, followed by a space
+-- a binary operator, followed by a space
 pub operator_token : (code : ℕ) (rest : List ℕ) → 1 ≤ code → code ≤ 13 → IsToken (operator_text code) (32 ∷ rest) (symbols.Operator code)
 operator_token zero rest l h = absurd (omega (arith, l))
 operator_token (suc zero) rest l h = spaced_token (codes "||") rest (symbols.Operator 1) refl (λ more. refl) refl

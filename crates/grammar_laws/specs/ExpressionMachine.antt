@@ -21,7 +21,7 @@ pub data Move : Type 0 where
   Skips : Move
   Refuses : Move
 
--- the code of a two-place operator
+-- the code of a binary operator
 abbrev pub is_operator : ℕ → Bool
 is_operator code = nat_lt 0 (level_of code)
 

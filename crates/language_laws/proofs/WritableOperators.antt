@@ -11,12 +11,12 @@ use Rattle.grammar_laws.proofs.CanonicalSymbols.{IsNumeral, Numeral, IsWritable,
 
 -- ---- operators
 
-two_place : (code : ℕ) → 3 ≤ code → code ≤ 13 → (nat_le 1 code && nat_le code 13) ≡ true
-two_place code h i = grind (arith, nat_tests)
+binary_known : (code : ℕ) → 3 ≤ code → code ≤ 13 → (nat_le 1 code && nat_le code 13) ≡ true
+binary_known code h i = grind (arith, nat_tests)
 
-one_place : (code : ℕ) → (code ≡ 1) ⊎ (code ≡ 2) → (nat_le 1 code && nat_le code 2) ≡ true
-one_place code (inl h) = rw h refl
-one_place code (inr h) = rw h refl
+unary_known : (code : ℕ) → (code ≡ 1) ⊎ (code ≡ 2) → (nat_le 1 code && nat_le code 2) ≡ true
+unary_known code (inl h) = rw h refl
+unary_known code (inr h) = rw h refl
 
 known_operators : (e : Expression) → IsWritable e → has_known_operators e ≡ true
 known_operators (Number n) w = refl
@@ -25,9 +25,9 @@ known_operators (Element x i) w = known_operators i w.1
 known_operators (And a b) w = and_from (has_known_operators a) (has_known_operators b) (known_operators a w.0) (known_operators b w.1)
 known_operators (Or a b) w = and_from (has_known_operators a) (has_known_operators b) (known_operators a w.0) (known_operators b w.1)
 known_operators (Binary code a b) w =
-    and_from (nat_le 1 code && nat_le code 13) (has_known_operators a && has_known_operators b) (two_place code w.0 w.1)
+    and_from (nat_le 1 code && nat_le code 13) (has_known_operators a && has_known_operators b) (binary_known code w.0 w.1)
     (and_from (has_known_operators a) (has_known_operators b) (known_operators a w.2) (known_operators b w.3))
-known_operators (Unary code a) w = and_from (nat_le 1 code && nat_le code 2) (has_known_operators a) (one_place code w.0) (known_operators a w.1)
+known_operators (Unary code a) w = and_from (nat_le 1 code && nat_le code 2) (has_known_operators a) (unary_known code w.0) (known_operators a w.1)
 known_operators More w = refl
 known_operators Take w = refl
 known_operators Iter w = refl

@@ -1,4 +1,4 @@
-//! The two-place operators of the language, in a table.
+//! The binary operators of the language, in a table.
 #![tactic(auto)]
 
 pub mod operators;

@@ -33,7 +33,7 @@ macro_rules! table_rows {
     };
 }
 
-/// The two-place operators of the language.
+/// The binary operators of the language.
 pub const OPS: OpTable<13> = OpTable {
     rows: operators!(table_rows),
 };

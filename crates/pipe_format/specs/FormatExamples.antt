@@ -41,7 +41,7 @@ brackets =
     ∷ example (Binary 9 (Binary 11 a b) (Binary 11 (Binary 9 c a) b)) (codes "a * b + (c + a) * b")
     ∷ []
 
--- one-place operators, elements and calls
+-- unary operators, elements and calls
 abbrev pub operands : List FormatExample
 operands =
     example (Unary 1 (Unary 1 a)) (codes "--a")

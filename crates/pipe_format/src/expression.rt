@@ -1,7 +1,7 @@
 //! The text of expressions.
 
 ghost use Rattle.std.specs.Prelude.{◌≡◌, ◌+◌, ◌++◌, codes, OnOk};
-ghost use Rattle.pipe_model.specs.Language.CanonicalText.{at_level, expression_text, level_in, one_place_text, operator_text};
+ghost use Rattle.pipe_model.specs.Language.CanonicalText.{at_level, expression_text, level_in, unary_text, operator_text};
 ghost use Rattle.pipe_model.specs.Language.SyntaxTree.{expression_of};
 ghost use Rattle.pipe_model.specs.Language.Grammar.{level_of, operand_level};
 
@@ -30,27 +30,27 @@ macro_rules! symbol_by_code {
     };
 }
 
-// The level of the two-place operator of a code; 0 if no operator has the code.
+// The level of the binary operator of a code; 0 if no operator has the code.
 fn level_of(code: u8) -> u8
     ensures { result ≡ level_of code }
 {
     op_table::operators!(level_by_code, code)
 }
 
-// The symbol of the two-place operator of a code; empty if no operator has the code.
+// The symbol of the binary operator of a code; empty if no operator has the code.
 fn symbol_of(code: u8) -> &'static [u8]
     ensures { result.now ≡ operator_text code }
 {
     op_table::operators!(symbol_by_code, code)
 }
 
-fn one_place_symbol(code: u8) -> &'static [u8]
-    ensures { result.now ≡ one_place_text code }
+fn unary_symbol(code: u8) -> &'static [u8]
+    ensures { result.now ≡ unary_text code }
 {
     if code == NEGATIVE { b"-" } else { b"!" }
 }
 
-// The level of the expression's two-place operator, or of operands if it has none.
+// The level of the expression's binary operator, or of operands if it has none.
 fn level_in(e: &Expr) -> u8
     ensures { result ≡ level_in (expression_of e.now) }
 {
@@ -105,7 +105,7 @@ pub fn push_expression(text: &mut Vec<u8>, e: &Expr) -> Result<(), NoMemory>
             push_at_level(text, level_of(*code) + 1, right)
         }
         Expr::Unary(code, operand) => {
-            text.extend_from_slice(one_place_symbol(*code))?;
+            text.extend_from_slice(unary_symbol(*code))?;
             push_at_level(text, OPERAND, operand)
         }
         Expr::More => Ok(text.extend_from_slice(b"more()")?),

@@ -52,7 +52,7 @@ pub record IsOutToken (f : TokenFields) (t : Tie) (replies : List (List ℤ)) : 
   pub now : (s : InstanceSeat) → t.seat ≡ Some s → s.fields.now ≡ f.now
   pub parts : length replies ≡ f.index
 
--- a token that a call returns is out, its payload stands at its instance, and the instance has made no access
+-- a token that a call returns is out, its payload is at the start of its instance, and the instance has made no access
 pub record IsGivenToken {M : Type 0} (Out : TokenFields → Tie → Type 0) (replies : TokenFields → Tie → List (List ℤ))
     (entries : TokenFields → Tie → List Entry) (Stands : M → ℕ → List (List ℤ) → Type 0) (tie : M → Tie) (t : FrameToken M) : Type 0 where
   pub out : Out (fields_of t) (tie t.payload)

@@ -1,7 +1,7 @@
 //! Payloads of tokens.
 
-/// What a payload is ready to run. It has no calls: contracts see for which programs a payload is
-/// whole, at the start of which instance it is, and which order lists and seat it belongs to.
+/// What a payload is ready to run. It has no calls: contracts see which programs a payload can
+/// run, at the start of which instance it is, and which order lists and seat it belongs to.
 pub trait Stands {
     ghost use Rattle.std.specs.Prelude.{ℕ, ℤ, List};
     ghost use Rattle.pipe_model.specs.Language.SyntaxTree.{SyntaxTree};
@@ -17,6 +17,6 @@ pub trait Stands {
     /// The order lists and the seat that it belongs to.
     ghost tie: { Self → Tie };
 
-    /// A payload that stands for a program is whole for it.
+    /// A payload at the start of an instance can run its program.
     ghost stands_whole: { (tree : SyntaxTree) (input : List ℤ) (x : Self) (i : ℕ) (replies : List (List ℤ)) → stands tree input x i replies → whole tree x };
 }

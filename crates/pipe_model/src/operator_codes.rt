@@ -1,5 +1,5 @@
-//! Codes of operators: the two-place ones from 1 on, in the order of the operator table, and the
-//! one-place ones, also from 1 on.
+//! Codes of operators: the binary ones from 1 on, in the order of the operator table, and the
+//! unary ones, also from 1 on.
 
 /// `||`
 pub const OR: u8 = 1;

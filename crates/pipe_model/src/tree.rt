@@ -15,9 +15,9 @@ pub enum Expr {
     Name(Name),
     /// An element of an array.
     Element(Name, Box<Expr>),
-    /// A two-place operator by its code.
+    /// A binary operator by its code.
     Binary(u8, Box<Expr>, Box<Expr>),
-    /// A one-place operator by its code: 1 is the negative, 2 is `!`.
+    /// A unary operator by its code: 1 is the negative, 2 is `!`.
     Unary(u8, Box<Expr>),
     /// Whether an input number is left.
     More,

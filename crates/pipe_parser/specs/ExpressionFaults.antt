@@ -23,7 +23,7 @@ whole = Operand ∷ Tail ∷ []
 abbrev pub closed : ℕ → List Want
 closed sign = Operand ∷ Tail ∷ Sign sign ∷ []
 
--- an operand after a one-place operator
+-- an operand after a unary operator
 pub record ReadsUnary (code : ℕ) (ts : List Symbol) (e : Expression) (rest : List Symbol) : Type 0 where
   pub inner : Expression
   pub reads : Reads operand_level ts inner rest

@@ -33,7 +33,7 @@ macro_rules! level_by_code {
     };
 }
 
-// The level of the two-place operator with this code, from 1 to 6; 0 if no operator has the code.
+// The level of the binary operator with this code, from 1 to 6; 0 if no operator has the code.
 fn level_of(code: u8) -> u8
     ensures { result ≡ level_of code }
 {
@@ -138,7 +138,7 @@ fn read_named<'a>(alloc: Global, name: &[u8], symbols: Symbols<'a>) -> Read<'a, 
     }
 }
 
-// Reads the operand of a one-place operator, after the operator.
+// Reads the operand of a unary operator, after the operator.
 #[cycle(expression)]
 fn read_unary<'a>(alloc: Global, code: u8, symbols: &Symbols<'a>) -> Read<'a, Expr>
     ensures ok { IfOk result (λ r. ReadsUnary code symbols.now (expression_of r.0) r.1) }

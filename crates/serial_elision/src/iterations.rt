@@ -55,7 +55,7 @@ fn column_closes(column: &Column) -> bool
     column.nodes.len() == 1 && end_closes(column.end)
 }
 
-// Returns the trap of a part with this end, if it is a trap, with the place where it was raised.
+// Returns the trap of a part with this end, if it is a trap, with where it was raised.
 pub fn part_trap(place: TrapPlace, end: Option<ColumnEnd>) -> Option<TrapAt>
     ensures { result ≡ whole_programs.part_trap place end }
 {

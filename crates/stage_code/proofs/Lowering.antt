@@ -57,7 +57,7 @@ ready tree spellable obeys =
       shallow = program_low tree spellable.short;
     }
 
--- ---- places
+-- ---- room for the parts of the code
 
 pub init_fits : (tree : SyntaxTree) (cells : List ℕ → Option CellRange) (c0 : List Instr) → size_of tree ≤ LARGEST_PROGRAM → c0 ≡ []
     → CodeFits c0 (part_code cells (length c0) tree.init)

@@ -160,7 +160,7 @@ leaves scope b env after slots now f g =
           ∙ take-append-le (length scope) scope r.0 (omega arith) ∙ take_all (length scope) scope (omega arith);
     }
 
--- the code of a statement follows it, at any place of the code
+-- the code of a statement follows it, at any index of the code
 abbrev pub StatementRuns : CodeSetting → (List ℕ → Option CellRange) → ℕ → Statement → Type 0
 StatementRuns p cells turns s = (n at : ℕ) (scope : List (List ℕ)) (env : Environment) (slots : List ℤ) (k : Environment → Interaction ColumnEnd)
     → n < turns → HoldsLocals scope env slots → StatementStaysInBounds p.bounds cells scope s → HasAt p.code at (statement_code cells scope at s)

@@ -129,7 +129,7 @@ pub first_fits : (cells : List ℕ → Option CellRange) (scope : List (List ℕ
     → CodeFits c2 (statements_code cells scope (length c2) a)
 first_fits cells scope e a b whole base c1 c2 x is few e1 e2 = (if_parts cells scope e a b whole base c1 c2 x is few e1 e2).body
 
--- the place after the first block
+-- the index after the first block
 pub between_fits : (cells : List ℕ → Option CellRange) (scope : List (List ℕ)) (e : Expression) (a b : Statements) (whole : Statement)
     (base c1 c2 c3 c4 : List Instr) (x y : Instr) → whole ≡ If e a b
     → CodeFits base (statement_code cells scope (length base) whole) → c1 ≡ base ++ expression_code cells scope (length base) e → c2 ≡ c1 ++ x ∷ []

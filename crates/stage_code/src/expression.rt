@@ -24,7 +24,7 @@ pub fn put(code: &mut Vec<Instr>, instr: Instr) -> Result<(), NoMemory>
     Ok(())
 }
 
-// Returns the place after the code.
+// Returns the index after the code.
 pub fn place(code: &Vec<Instr>) -> u32
     requires { length code.now.items ≤ code_bounds.LONGEST_CODE }
     ensures { result ≡ length code.now.items }
@@ -62,7 +62,7 @@ pub fn is_short(op: u8) -> bool
     op == OR || op == AND
 }
 
-// Returns the test of such an operator, which may go to the place.
+// Returns the test of such an operator, which may jump to the target.
 fn test_code(op: u8, to: u32) -> Instr
     ensures { result ≡ test_code op to }
 {

@@ -2,7 +2,7 @@
 
 use pipe_model::access::CellId;
 
-/// An instruction. Operands and values are on a stack of numbers; a place is an index of the whole
+/// An instruction. Operands and values are on a stack of numbers; a target is an index of the whole
 /// code. The three that take no step of the budget come last.
 #[derive(Clone, Copy, PartialEq, Eq, Debug)]
 pub enum Instr {
@@ -16,13 +16,13 @@ pub enum Instr {
     Read(CellId),
     /// Pops an index and pushes that element of the array with this first cell and size.
     ReadAt(CellId, u32),
-    /// Pops two operands and pushes the value of the two-place operator of this code.
+    /// Pops two operands and pushes the value of the binary operator of this code.
     Binary(u8),
-    /// Pops an operand and pushes the value of the one-place operator of this code.
+    /// Pops an operand and pushes the value of the unary operator of this code.
     Unary(u8),
-    /// Pops a value; if it is 0, pushes 0 and goes to the place.
+    /// Pops a value; if it is 0, pushes 0 and jumps to the target.
     AndTest(u32),
-    /// Pops a value; if it is not 0, pushes 1 and goes to the place.
+    /// Pops a value; if it is not 0, pushes 1 and jumps to the target.
     OrTest(u32),
     /// Pushes 1 if an input number is left, and else 0.
     More,
@@ -37,7 +37,7 @@ pub enum Instr {
     WriteAt(CellId, u32),
     /// Pops a value and emits it.
     Emit,
-    /// Pops a value; if it is 0, goes to the place.
+    /// Pops a value; if it is 0, jumps to the target.
     Branch(u32),
     /// Pops the value of the loop's test: 0 closes the loop.
     LoopTest,
@@ -51,7 +51,7 @@ pub enum Instr {
     ContinueNext,
     /// Replaces the topmost value by 1 if it is not 0.
     Truth,
-    /// Goes to the place.
+    /// Jumps to the target.
     Jump(u32),
     /// Ends the part.
     End,

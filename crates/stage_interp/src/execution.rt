@@ -9,7 +9,7 @@ use pipe_model::bounds::MOST_LOCALS;
 use pipe_model::memory::NoMemory;
 use std::alloc::Global;
 
-/// An execution: its place in the code, the steps left to the instance, the stack, the slots of
+/// An execution: the index of its next instruction, the steps left to the instance, the stack, the slots of
 /// locals, the stage's number, the number of instances so far, the iteration, and what is pending.
 #[derive(Drop)]
 pub struct Execution {

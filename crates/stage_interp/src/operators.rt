@@ -46,7 +46,7 @@ fn remainder(a: i64, b: i64) -> Result<i64, Trap>
     a.checked_rem(b).ok_or(Trap::Overflow)
 }
 
-// Returns the value of a two-place operator other than `&&` and `||`; 0 if no operator has the code.
+// Returns the value of a binary operator other than `&&` and `||`; 0 if no operator has the code.
 #[inline(always)]
 pub fn operate(code: u8, a: i64, b: i64) -> Result<i64, Trap>
     ensures { IsResult result (evaluation.operate code a b) }
@@ -67,7 +67,7 @@ pub fn operate(code: u8, a: i64, b: i64) -> Result<i64, Trap>
     }
 }
 
-// Returns the value of a one-place operator; 0 if no operator has the code.
+// Returns the value of a unary operator; 0 if no operator has the code.
 #[inline(always)]
 pub fn operate_one(code: u8, a: i64) -> Result<i64, Trap>
     ensures { IsResult result (evaluation.operate_one code a) }

@@ -49,7 +49,7 @@ module _ (columns : List (List Node)) (a k before : ℕ) (kind : Kind) (number :
     joins = joined_is ∙ sym (next_is ∙ e);
   }
 
-  -- a last place
+  -- the left column has a last index
   last_known : (j : ℕ) → kind ≡ Wait → IsLastUpTo (nodes_at columns a) j number → (left_parent columns (suc a) (suc k) ≡ cond (ltb (joined_at columns a k) j) (Some j) None) × (joined_at columns a (suc k) ≡ max (joined_at columns a k) j)
   last_known j w l =
       let found : last_up_to (nodes_at columns a) number ≡ Some j = last_up_to_is (nodes_at columns a) number j l in (

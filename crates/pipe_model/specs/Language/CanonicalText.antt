@@ -14,15 +14,15 @@ use Rattle.pipe_model.specs.Language.Grammar.{level_of, operand_level}
 
 -- ---- expressions
 
--- the text of a two-place operator by its code; empty if no operator has the code
+-- the text of a binary operator by its code; empty if no operator has the code
 abbrev pub operator_text : ℕ → List ℕ
 operator_text code = slice_index_or ([] ∷ operators) code []
 
--- the text of a one-place operator by its code
-abbrev pub one_place_text : ℕ → List ℕ
-one_place_text code = if code == operator_codes.NEGATIVE then codes "-" else codes "!"
+-- the text of a unary operator by its code
+abbrev pub unary_text : ℕ → List ℕ
+unary_text code = if code == operator_codes.NEGATIVE then codes "-" else codes "!"
 
--- the level of an expression: that of its outermost operator if that has two places, and else that of operands
+-- the level of an expression: that of its outermost operator if that is binary, and else that of operands
 abbrev pub level_in : Expression → ℕ
 level_in (Or a b) = level_of operator_codes.OR
 level_in (And a b) = level_of operator_codes.AND
@@ -39,19 +39,19 @@ level_in Iter = operand_level
 abbrev pub at_level : (needed own : ℕ) → List ℕ → List ℕ
 at_level needed own text = if nat_le needed own then text else codes "(" ++ (text ++ codes ")")
 
--- a two-place operator between two sides with these levels and texts; the right side needs a higher level
-abbrev pub two_place : (code left_level right_level : ℕ) → (left right : List ℕ) → List ℕ
-two_place code left_level right_level left right =
+-- a binary operator between two sides with these levels and texts; the right side needs a higher level
+abbrev pub binary_text : (code left_level right_level : ℕ) → (left right : List ℕ) → List ℕ
+binary_text code left_level right_level left right =
     at_level (level_of code) left_level left ++ (codes " " ++ (operator_text code ++ (codes " " ++ at_level (level_of code + 1) right_level right)))
 
 abbrev pub expression_text : Expression → List ℕ
 expression_text (Number n) = signed_decimal n
 expression_text (Name x) = x
 expression_text (Element x i) = x ++ (codes "[" ++ (expression_text i ++ codes "]"))
-expression_text (Or a b) = two_place operator_codes.OR (level_in a) (level_in b) (expression_text a) (expression_text b)
-expression_text (And a b) = two_place operator_codes.AND (level_in a) (level_in b) (expression_text a) (expression_text b)
-expression_text (Binary code a b) = two_place code (level_in a) (level_in b) (expression_text a) (expression_text b)
-expression_text (Unary code a) = one_place_text code ++ at_level operand_level (level_in a) (expression_text a)
+expression_text (Or a b) = binary_text operator_codes.OR (level_in a) (level_in b) (expression_text a) (expression_text b)
+expression_text (And a b) = binary_text operator_codes.AND (level_in a) (level_in b) (expression_text a) (expression_text b)
+expression_text (Binary code a b) = binary_text code (level_in a) (level_in b) (expression_text a) (expression_text b)
+expression_text (Unary code a) = unary_text code ++ at_level operand_level (level_in a) (expression_text a)
 expression_text More = codes "more()"
 expression_text Take = codes "take()"
 expression_text Iter = codes "iter()"

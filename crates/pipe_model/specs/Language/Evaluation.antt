@@ -76,7 +76,7 @@ fitting v = if is_i64 v then Return v else Raise traps.Overflow
 abbrev pub divided : ℤ → ℤ → ℤ → Interaction ℤ
 divided a b v = if_zero b (Raise traps.DivZero) (bind (fitting (int_div a b)) (λ quotient. Return v))
 
--- a two-place operator other than `&&` and `||`, by its code. A program that a source spells has no other codes
+-- a binary operator other than `&&` and `||`, by its code. A program that a source spells has no other codes
 -- (`has_known_operators`), and for those the value is 0.
 abbrev pub operate : ℕ → ℤ → ℤ → Interaction ℤ
 operate code a b =
@@ -93,7 +93,7 @@ operate code a b =
     else (if code == operator_codes.REMAINDER then divided a b (int_rem a b)
     else Return (pos 0)))))))))))
 
--- a one-place operator, by its code. A program that a source spells has no other codes, and for those the value is 0.
+-- a unary operator, by its code. A program that a source spells has no other codes, and for those the value is 0.
 abbrev pub operate_one : ℕ → ℤ → Interaction ℤ
 operate_one code a =
     if code == operator_codes.NEGATIVE then fitting (neg_ℤ a)

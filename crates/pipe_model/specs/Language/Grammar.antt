@@ -12,11 +12,11 @@ use Rattle.pipe_model.specs.declared.tree.Declaration.{Declaration}
 use Rattle.pipe_model.specs.Language.SyntaxTree.{Expression, Number, Name, Element, Unary, More, Take, Iter, binary_expression, Statement, Let, Assign, AssignElement, Emit, If, While, Stage, NextStage, Statements, Empty, Then, SyntaxTree}
 use Rattle.pipe_model.specs.Language.Words.{word_limits, word_iterations, word_stages, word_steps, word_emits, word_cell, word_init, word_pipe_while, word_pipe_wait, word_pipe_continue, word_final, word_let, word_if, word_else, word_while, word_emit, word_more, word_take, word_iter, minus, exclamation, open_round, close_round, comma, semicolon, equals, open_square, close_square, open_brace, close_brace}
 
--- the level of each two-place operator by its code from 1 to 13; 0 if no operator has the code
+-- the level of each binary operator by its code from 1 to 13; 0 if no operator has the code
 abbrev pub level_of : ℕ → ℕ
 level_of code = slice_index (0 ∷ 1 ∷ 2 ∷ 3 ∷ 3 ∷ 4 ∷ 4 ∷ 4 ∷ 4 ∷ 5 ∷ 5 ∷ 6 ∷ 6 ∷ 6 ∷ []) code
 
--- the level of an operand, which binds more tightly than each two-place operator
+-- the level of an operand, which binds more tightly than each binary operator
 abbrev pub operand_level : ℕ
 operand_level = OPERAND
 

@@ -19,7 +19,7 @@ node_count More = 1
 node_count Take = 1
 node_count Iter = 1
 
--- each operator of the expression is one of the language's: 13 two-place ones and 2 one-place ones
+-- each operator of the expression is one of the language's: 13 binary ones and 2 unary ones
 abbrev pub has_known_operators : Expression → Bool
 has_known_operators (Number n) = true
 has_known_operators (Name x) = true

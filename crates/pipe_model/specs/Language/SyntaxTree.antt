@@ -13,7 +13,7 @@ use Rattle.pipe_model.specs.declared.tree.StageKind.TheVariants as kinds
 use Rattle.pipe_model.specs.declared.tree.Stmt.{Stmt, Row_of-Stmt, end_of-Stmt, more_of-Stmt}
 use Rattle.pipe_model.specs.declared.tree.Stmt.TheVariants as stmts
 
--- an expression; `&&` and `||` are apart from the other two-place operators, since they may leave their right side unevaluated
+-- an expression; `&&` and `||` are apart from the other binary operators, since they may leave their right side unevaluated
 pub data Expression : Type 0 where
   Number : ℤ → Expression
   Name : List ℕ → Expression
@@ -56,7 +56,7 @@ abbrev pub kind_of_stage : StageKind → Kind
 kind_of_stage kinds.Wait = node_kinds.Wait
 kind_of_stage kinds.Continue = node_kinds.Continue
 
--- two expressions with a two-place operator between them, by its code
+-- two expressions with a binary operator between them, by its code
 abbrev pub binary_expression : ℕ → Expression → Expression → Expression
 binary_expression code a b = if code == operator_codes.OR then Or a b else (if code == operator_codes.AND then And a b else Binary code a b)
 

@@ -1,4 +1,4 @@
--- Each start takes a down place in the down-first list.
+-- Each start takes a down placeholder in the down-first list.
 use Rattle.std.proofs.Common.{ℕ, ◌≡◌, ◌<◌, suc, ◌+◌, ◌*◌, ◌≤◌, inl, arith, inr, ap, ap₂, sym, ◌≢◌, ◌∙◌}
 use Rattle.std.proofs.lemmas.Bool.{cases_lt, cases_eq}
 use Rattle.run_laws.proofs.ListOrders.DownFirst.{IsDownFirst, TakesDownPlace}
@@ -33,7 +33,7 @@ module _ (number element : ℕ → ℕ → ℕ) (m x : ℕ) (pos : ℕ → ℕ) 
       let q = counted.heads (suc k) (suc x) (omega arith) (omega (arith, at)) in
       omega (arith, p, q, at)
 
-  -- a head takes a down place
+  -- a head takes a down placeholder
   pub takes_head_place : TakesDownPlace number element m (2 + 2 * number x 0) pos
   takes_head_place = let at = new.at in record {
     some = (suc x, 0, new.at);
@@ -100,7 +100,7 @@ module _ (number element : ℕ → ℕ → ℕ) (m x y : ℕ)
       omega (arith, e)) in
       omega (arith, p, q, far)
 
-  -- an instance below another takes a down place
+  -- an instance below another takes a down placeholder
   pub takes_below_place : TakesDownPlace number element m (1 + 2 * number x y) pos
   takes_below_place = record {
     some = (x, suc y, new.at);
@@ -122,7 +122,7 @@ down_first_empty number element pos = record {
   end = λ i j k a b u. absurd (omega (arith, a));
 }
 
--- the first start takes a down place
+-- the first start takes a down placeholder
 pub takes_first_down : (number element : ℕ → ℕ → ℕ) (m : ℕ) (pos : ℕ → ℕ) → m ≡ 0 → IsCounted number element (suc m)
     → number 0 0 ≡ m → element 0 0 ≡ 0 → TakesDownPlace number element m 0 pos
 takes_first_down number element m pos none counted at takes = record {

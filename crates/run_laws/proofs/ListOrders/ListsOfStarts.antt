@@ -174,7 +174,7 @@ module _ (columns : List (List Node)) (starts : List NodeId) (ok : AreColumns co
     via = λ k l. down_via x y k e l;
   }
 
-  -- each start takes a right place, by the element that it takes
+  -- each start takes a right placeholder, by the element that it takes
   pub takes_right_place_by : {i j t : ℕ} → TakesRight columns (start_number starts) i j t → (m : ℕ) (pos : ℕ → ℕ)
       → m < length starts → start_number starts i j ≡ m → right_first_taken columns (start_number starts) i j ≡ t
       → Apart m pos → IsRightFirst (start_number starts) (right_first_taken columns (start_number starts))
@@ -193,7 +193,7 @@ module _ (columns : List (List Node)) (starts : List NodeId) (ok : AreColumns co
       pos (counted_fewer _ _ (suc m) (length starts) w (counted_right columns starts ok ord)) inv
       (newest m x (suc y) (2 + 2 * start_number starts x y) w at takes) (down_child m x y w at e)
 
-  -- each start takes a down place, by the element that it takes
+  -- each start takes a down placeholder, by the element that it takes
   pub takes_down_place_by : {i j t : ℕ} → TakesDown (start_number starts) i j t → (m : ℕ) (pos : ℕ → ℕ)
       → m < length starts → start_number starts i j ≡ m → down_first_taken (start_number starts) i j ≡ t
       → Apart m pos → IsDownFirst (start_number starts) (down_first_taken (start_number starts)) m pos

@@ -1,4 +1,4 @@
--- Each start takes a right place in the right-first list.
+-- Each start takes a right placeholder in the right-first list.
 use Rattle.std.proofs.Common.{ℕ, ◌≡◌, ◌<◌, suc, ◌≤◌, ◌+◌, ◌*◌, ◌≢◌, arith, sym, ap₂, ◌∙◌, inl, ap, inr}
 use Rattle.std.proofs.lemmas.Bool.{cases_eq, cases_lt}
 use Rattle.run_laws.proofs.ListOrders.RightFirst.{IsRightFirst, TakesRightPlace}
@@ -116,7 +116,7 @@ module _ (number element : ℕ → ℕ → ℕ) (reach : ℕ → ℕ → ℕ →
       let q = inv.after a b k l child.parent w u (omega arith) (child.rightmost k l (omega arith) w) in
       omega (arith, p, q)
 
-  -- an instance with a left parent takes a right place
+  -- an instance with a left parent takes a right placeholder
   pub takes_right_place : TakesRightPlace number element reach m (1 + 2 * number a b) pos
   takes_right_place = record {
     some = (suc a, y, new.at);
@@ -143,7 +143,7 @@ module _ (number element : ℕ → ℕ → ℕ) (reach : ℕ → ℕ → ℕ →
     (inv : IsRightFirst number element reach m pos)
     (new : Newest number element reach m x (suc y) (2 + 2 * number x y))
     (child : IsDownChild number element reach m x y) where
-  -- an instance without a left parent takes a right place too
+  -- an instance without a left parent takes a right placeholder too
   pub takes_down_place : TakesRightPlace number element reach m (2 + 2 * number x y) pos
   takes_down_place =
       let at = new.at in
@@ -178,7 +178,7 @@ right_first_empty number element reach pos = record {
   downs = λ i j k l a b c d e. absurd (omega (arith, a));
 }
 
--- the first start takes a right place
+-- the first start takes a right placeholder
 pub takes_first_place : (number element : ℕ → ℕ → ℕ) (reach : ℕ → ℕ → ℕ → ℕ) (m : ℕ) (pos : ℕ → ℕ) → m ≡ 0
     → IsCounted number element (suc m) → number 0 0 ≡ m → element 0 0 ≡ 0
     → TakesRightPlace number element reach m 0 pos
