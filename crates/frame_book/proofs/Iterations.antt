@@ -3,3 +3,4 @@ pub mod Totals
 pub mod FrameRows
 pub mod ChangedRows
 pub mod SpareRows
+pub mod AliveRows

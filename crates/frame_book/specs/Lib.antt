@@ -1,5 +1,6 @@
 pub mod TicketLog
 pub mod IterationRows
+pub mod AliveLists
 pub mod BookStates
 pub mod CallEffects
 pub mod GivenTokens

@@ -2,6 +2,7 @@
 
 ghost use Rattle.std.specs.Prelude.{◌≡◌, ◌≢◌, ◌↔◌, ◌+◌, ◌-◌, ◌*◌, ◌<◌, ◌≤◌, ◌^◌, [], ◌∷◌, ◌++◌, true, false, IsTrue, None, cond, ◌||◌, length, All, IfOk, IfSome, ℕ};
 ghost use Rattle.pipe_model.specs.Runs.Allowed.{MayBegin, MayEnter};
+ghost use Rattle.pipe_model.specs.Runs.Run.{IsFinished};
 ghost use Rattle.pipe_model.specs.Pipelines.Behaviour.{Performs, Staged, Ended, closes_at_once};
 ghost use Rattle.pipe_model.specs.Races.Columns.{nodes_at};
 ghost use Rattle.pipe_model.specs.Runs.ControlRun.{ControlRun};
@@ -28,7 +29,7 @@ use crate::folding::{count_of, fold_left, lets_enter, needs_left};
 use crate::ledger::Tickets;
 use crate::payload::Payload;
 use crate::row::Iteration;
-use crate::rows::{first_to_go_on, last_has_ended_first, may_enter};
+use crate::rows::{first_to_go_on, is_alive, last_has_ended_first, may_enter};
 use crate::start::{left_place, start_below, start_head};
 use dep_fold::folded::Folded;
 use order_2d::list_writer::ListWriter;
@@ -59,6 +60,8 @@ pub struct Book<M: Payload<L>, L: ListWriter + Drop> {
     throttle: u32,
     rows: Vec<Iteration<M>>,
     spare: Vec<Iteration<M>>,
+    // In order. Some may have ended; `rescue` drops those.
+    alive: Vec<u32>,
     pool: Pool<M>,
     orders: TwoOrders<L>,
     ledger: Tickets,
@@ -80,10 +83,12 @@ impl<M: Payload<L>, L: ListWriter + Drop> Model for Book<M, L> {
     ghost use Rattle.frame_book.specs.Tables.{book_state};
     ghost use Rattle.frame_book.specs.BookTables.{tables_of};
     ghost use Rattle.frame_book.specs.Invariant.{IsBook};
+    ghost use Rattle.frame_book.specs.AliveLists.{HasAliveList};
+    ghost use Rattle.std.specs.Prelude.{vec_capacity};
 
     ghost view = { λ b. book_state (tables_of b) };
 
-    ghost invariant = { λ b. IsBook M.whole M.stands M.tie (tables_of b) };
+    ghost invariant = { λ b. IsBook M.whole M.stands M.tie (tables_of b) × HasAliveList b.rows.items b.spare.items b.alive.items (vec_capacity b.alive) };
 }
 
 impl<M: Payload<L>, L: ListWriter + Drop> Book<M, L> {
@@ -144,6 +149,7 @@ impl<M: Payload<L>, L: ListWriter + Drop> Book<M, L> {
             throttle,
             rows: Vec::with_capacity(alloc, iterations + 1)?,
             spare,
+            alive: Vec::with_capacity(alloc, iterations + 1)?,
             pool: Pool::new(payloads),
             orders,
             ledger: Tickets::new(alloc, 2 * instances + 1)?,
@@ -237,6 +243,7 @@ impl<M: Payload<L>, L: ListWriter + Drop> Book<M, L> {
         };
         row.enter(0, marks);
         self.rows.push_reserved(row);
+        self.alive.push_reserved(iteration);
         Begun::Started(FrameToken {
             iteration,
             index: 0,
@@ -464,7 +471,7 @@ impl<M: Payload<L>, L: ListWriter + Drop> Book<M, L> {
     /// Returns the first that holds: the run was stopped; it is finished; the token of the least
     /// iteration that was left ready, or that may enter the stage that it has named, after its event
     /// `Enter`; the next iteration may begin; nothing, which it returns only while a token is out. Looks
-    /// at the iterations in order.
+    /// at the alive iterations in order, and once at each that has ended since the last call.
     pub fn rescue(&mut self) -> Rescue<M>
         ensures answer { RescueReturns self.old.limit (state_of self.old) (IsReady self.old) result }
         ensures book { self.new ≡ after_rescue self.old result }
@@ -474,16 +481,49 @@ impl<M: Payload<L>, L: ListWriter + Drop> Book<M, L> {
         if self.stopped {
             return Rescue::Stopped;
         }
-        if self.closed && self.pool.is_full() {
+        if self.is_finished() {
             return Rescue::Finished;
         }
-        if let Some(iteration) = first_to_go_on(self.rows.as_slice()) {
+        self.drop_ended();
+        if let Some(iteration) = first_to_go_on(self.rows.as_slice(), self.alive.as_slice()) {
             return Rescue::Token(self.resume(iteration));
         }
-        if !self.closed && !self.pool.is_empty() && last_has_ended_first(self.rows.as_slice()) {
+        if self.may_begin() {
             return Rescue::MayBegin;
         }
         Rescue::Nothing
+    }
+
+    // Returns whether the run is finished.
+    fn is_finished(&self) -> bool
+        requires going { (state_of self.now).stopped ≡ false }
+        ensures { IsTrue result ↔ IsFinished (state_of self.now) }
+    {
+        if !self.closed {
+            return false;
+        }
+        self.pool.is_full()
+    }
+
+    // Returns whether the next iteration may begin.
+    fn may_begin(&self) -> bool
+        ensures { IsTrue result ↔ MayBegin self.now.limit (state_of self.now) (length (state_of self.now).frames) }
+    {
+        if self.closed {
+            return false;
+        }
+        if self.pool.is_empty() {
+            return false;
+        }
+        last_has_ended_first(self.rows.as_slice())
+    }
+
+    // Drops the iterations that have ended from the list of alive ones.
+    fn drop_ended(&mut self)
+        ensures { self.new ≡ self.old }
+    {
+        let rows = self.rows.as_slice();
+        self.alive.retain(|iteration| is_alive(rows, *iteration));
     }
 
     // The token of an iteration that was left ready, or may enter the stage that it has named.

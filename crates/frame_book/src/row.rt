@@ -1,6 +1,7 @@
 //! The row of an iteration: its instances, its status, and its token if the book keeps it.
 
 ghost use Rattle.std.specs.Prelude.{◌≡◌, ◌+◌, ◌-◌, ◌<◌, ◌≤◌, ◌^◌, [], ◌∷◌, ◌++◌, length, IfOk, Some, None, ◌↔◌, IsTrue, IsSome, slice_index_or, pos};
+ghost use Rattle.pipe_model.specs.Runs.State.{is_completed};
 ghost use Rattle.frame_book.specs.IterationRows.{RowEndedFirst, empty_row, row_counter, suspended_row, with_instance, with_trace};
 
 use pipe_frame::token::FrameToken;
@@ -132,6 +133,17 @@ impl<M> Iteration<M> {
         ensures { IsTrue result ↔ IsSome self.now.token }
     {
         self.token.is_some()
+    }
+
+    /// Returns whether the iteration has ended.
+    pub fn has_ended(&self) -> bool
+        ensures { result ≡ is_completed self.now.status }
+    {
+        match self.status {
+            Status::Running => false,
+            Status::Pending(_, _) => false,
+            Status::Completed(_) => true,
+        }
     }
 
     /// Returns the stage counter.

@@ -5,6 +5,7 @@ ghost use Rattle.pipe_model.specs.Runs.State.{Frame};
 ghost use Rattle.pipe_model.specs.Runs.Allowed.{LeftHasPassed, IsClosed, LastEndedFirstInstance};
 ghost use Rattle.frame_book.specs.RowsOfFrames.{AreRows, IsFree, RowGoesOn};
 ghost use Rattle.frame_book.specs.IterationRows.{row_counter, left_row_counter, counter_at, row_at, CounterPasses, IsFreeRow};
+ghost use Rattle.frame_book.specs.AliveLists.{ListsAlive, is_alive_in};
 
 use crate::row::Iteration;
 use pipe_model::node::Kind;
@@ -70,16 +71,28 @@ pub fn may_enter<M>(rows: &[Iteration<M>], iteration: u32) -> bool
     is_free(row.status(), left_counter(rows, iteration))
 }
 
+/// Returns whether the iteration has begun and has not ended.
+pub fn is_alive<M>(rows: &[Iteration<M>], iteration: u32) -> bool
+    ensures { result ≡ is_alive_in rows.now iteration }
+{
+    if iteration as usize >= rows.len() {
+        return false;
+    }
+    let row = &rows[iteration as usize];
+    !row.has_ended()
+}
+
 /// Returns the first iteration that was left ready, or that may enter the stage that it has named.
-/// Looks at the iterations in order, those that have ended too.
-pub fn first_to_go_on<M>(rows: &[Iteration<M>]) -> Option<u32>
-    requires { length rows.now < 2 ^ 32 }
+/// Looks only at the listed ones, in order.
+pub fn first_to_go_on<M>(rows: &[Iteration<M>], alive: &[u32]) -> Option<u32>
+    requires { ListsAlive rows.now alive.now }
     ensures some { (going : Bool) (fs : List Frame) → AreRows going fs rows.now → IfSome result (λ i. RowGoesOn fs rows.now i × ((j : ℕ) → j < i → RowGoesOn fs rows.now j → ⊥)) }
     ensures none { (going : Bool) (fs : List Frame) → AreRows going fs rows.now → IfNone result ((j : ℕ) → RowGoesOn fs rows.now j → ⊥) }
 {
-    for (iteration, row) in rows.iter().enumerate() {
-        if goes_on(rows, row, iteration as u32) {
-            return Some(iteration as u32);
+    for iteration in alive {
+        let row = &rows[*iteration as usize];
+        if goes_on(rows, row, *iteration) {
+            return Some(*iteration);
         }
     }
     None

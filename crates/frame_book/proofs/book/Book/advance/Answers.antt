@@ -18,4 +18,4 @@ go_on-requires-in-Continue-clause-payload g c = record { belongs = c.requires.be
 pub unreachable-requires : goal.unreachable-requires
 unreachable-requires g c =
     let a = subst (λ v. (state_of v).stopped ≡ true) (sym c.self.view_is) (c.requires.stopped c.in-Stopped.is) in
-    absurd (let q : true ≡ false = sym a ∙ (sym c.self.invariant.stopped ∙ c.if-self.false) in cc)
+    absurd (let q : true ≡ false = sym a ∙ (sym c.self.invariant.0.stopped ∙ c.if-self.false) in cc)

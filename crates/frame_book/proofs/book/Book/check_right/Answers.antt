@@ -16,7 +16,7 @@ returns-then-iteration-len-clause-answer g c = inr (λ m.
     let may = subst (λ v. MayEnter (state_of v) (c.args.iteration + 1)) (sym c.self.view_is) m in
     let s = state_of (book_state (tables_of c.self.inside)) in
     let a = frame_at_within s.frames (c.args.iteration + 1) may.frame may.is in
-    let e = rows_length (not s.stopped) s.frames c.self.inside.rows.items c.self.invariant.rows.each in
+    let e = rows_length (not s.stopped) s.frames c.self.inside.rows.items c.self.invariant.0.rows.each in
     let past = c.if-iteration-len.true in
     let l : c.args.iteration + 1 < length c.self.inside.rows.items = omega (arith, a, e) in
     let q = c.len.ensures in
@@ -24,8 +24,8 @@ returns-then-iteration-len-clause-answer g c = inr (λ m.
 
 pub overflow_add-iteration-2 : goal.overflow_add-iteration-2
 overflow_add-iteration-2 g c =
-    let a = few_rows (pipeline_of (tree_of c.self.inside.program) c.self.inside.input) c.self.inside.rows.items c.self.inside.spare.items _ _ _ c.self.invariant.sized in
-    let z = c.self.invariant.sized.few in
+    let a = few_rows (pipeline_of (tree_of c.self.inside.program) c.self.inside.input) c.self.inside.rows.items c.self.inside.spare.items _ _ _ c.self.invariant.0.sized in
+    let z = c.self.invariant.0.sized.few in
     let l : length c.self.inside.rows.items < 2 ^ 31 = omega (arith, a, z) in
     let past = c.if-iteration-len.false in
     let q = c.len.ensures in

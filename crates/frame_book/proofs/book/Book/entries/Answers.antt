@@ -5,10 +5,10 @@ use Rattle.frame_book.specs.BookStates.{BookState, HasRisingTickets, actions_at,
 use Rattle.frame_book.proofs.book.Book.entries.Goals as goal
 
 pub returns-clause-rise : goal.returns-clause-rise
-returns-clause-rise g c = subst HasRisingTickets (sym c.entries.ensures) c.self.invariant.rise
+returns-clause-rise g c = subst HasRisingTickets (sym c.entries.ensures) c.self.invariant.0.rise
 
 pub returns-clause-control : goal.returns-clause-control
-returns-clause-control g c = subst (λ (v : BookState). ControlRun v.limit (events_of v.log) (state_of v)) c.self.view_is c.self.invariant.logged.run
+returns-clause-control g c = subst (λ (v : BookState). ControlRun v.limit (events_of v.log) (state_of v)) c.self.view_is c.self.invariant.0.logged.run
 
 pub returns-clause-performs : goal.returns-clause-performs
-returns-clause-performs g c = subst (λ (v : BookState). (i : ℕ) → Performs ((pipeline_in v).behaviour i) (actions_at v i)) c.self.view_is c.self.invariant.actions.performs
+returns-clause-performs g c = subst (λ (v : BookState). (i : ℕ) → Performs ((pipeline_in v).behaviour i) (actions_at v i)) c.self.view_is c.self.invariant.0.actions.performs

@@ -28,7 +28,7 @@ name-requires-clause-out g c =
     let going = c.requires.going in
     let out = c.requires.out in
     let num = to_z-of_z w64 n c.ranges.number in
-    let rows = subst (λ (v : BookState). AreRows (not (state_of v).stopped) (state_of v).frames c.self.inside.rows.items) c.self.view_is c.self.invariant.rows.each in
+    let rows = subst (λ (v : BookState). AreRows (not (state_of v).stopped) (state_of v).frames c.self.inside.rows.items) c.self.view_is c.self.invariant.0.rows.each in
     let place : i < length c.self.inside.rows.items = out_within c.self.inside.rows.items i (subst (λ v. IsOut v i) (sym c.self.view_is) out.out) in
     let within : i ≤ length c.self.inside.rows.items = omega (arith, place) in
     let read : c.needs_left-read.result ≡ must_read_left i t.folded (stage_end c.args.kind n) = c.needs_left-read.ensures ∙ ap (λ z. must_read_left i t.folded (stage_end c.args.kind z)) num in
@@ -50,10 +50,10 @@ overflow_add-self g c =
     let reads : c.self-2.inside.reads ≡ c.self.inside.reads = ap (λ (v : BookState). v.reads) seen ∙ sym (ap (λ (v : BookState). v.reads) c.self.view_is) in
     let log : length c.self-2.inside.ledger.log ≡ length c.self.inside.ledger.log + 1 = ap (λ (v : BookState). length v.log) seen ∙ (length_with c.args.self.now.log t.now (Advance i c.args.kind n) ∙ sym (ap (λ (v : BookState). length v.log + 1) c.self.view_is)) in
     let one : c.count_of.result ≤ 1 = (let e = c.count_of.ensures in let s = count_small c.needs_left-read.result in omega (arith, e, s)) in
-    let few = c.self.invariant.reads in
-    let room = log_room g.M.Stands.whole g.M.Stands.stands g.M.Stands.tie (tables_of c.self.inside) c.self.invariant (c.self.invariant.stopped ∙ subst (λ v. (state_of v).stopped ≡ false) (sym c.self.view_is) going) in
-    let size = c.self.invariant.sized.log_room in
-    let small = c.self.invariant.sized.few in
+    let few = c.self.invariant.0.reads in
+    let room = log_room g.M.Stands.whole g.M.Stands.stands g.M.Stands.tie (tables_of c.self.inside) c.self.invariant.0 (c.self.invariant.0.stopped ∙ subst (λ v. (state_of v).stopped ≡ false) (sym c.self.view_is) going) in
+    let size = c.self.invariant.0.sized.log_room in
+    let small = c.self.invariant.0.sized.few in
     let w : c.self-2.inside.reads + c.count_of.result < 2 ^ 64 = omega (arith, reads, one, few, room, size, small) in
     grind (arith, common_steps)
 
@@ -71,9 +71,9 @@ invariant_of-self g c =
     let reads : c.self-2.inside.reads ≡ c.self.inside.reads = ap (λ (v : BookState). v.reads) seen ∙ sym (ap (λ (v : BookState). v.reads) c.self.view_is) in
     let log : length c.self-2.inside.ledger.log ≡ length c.self.inside.ledger.log + 1 = ap (λ (v : BookState). length v.log) seen ∙ (length_with c.args.self.now.log t.now (Advance i c.args.kind n) ∙ sym (ap (λ (v : BookState). length v.log + 1) c.self.view_is)) in
     let one : c.count_of.result ≤ 1 = (let e = c.count_of.ensures in let s = count_small c.needs_left-read.result in omega (arith, e, s)) in
-    let few = c.self.invariant.reads in
-    let h = c.self-2.invariant in
-    record { sized = h.sized; logged = h.logged; rows = h.rows; actions = h.actions; counted = h.counted; tokens = h.tokens; down = h.down; right = h.right; stopped = h.stopped; closed = h.closed; alive = h.alive; size = h.size; some = h.some; last = h.last; reads = omega (arith, reads, log, one, few); reserve = h.reserve; rise = h.rise }
+    let few = c.self.invariant.0.reads in
+    let h = c.self-2.invariant.0 in
+    (record { sized = h.sized; logged = h.logged; rows = h.rows; actions = h.actions; counted = h.counted; tokens = h.tokens; down = h.down; right = h.right; stopped = h.stopped; closed = h.closed; alive = h.alive; size = h.size; some = h.some; last = h.last; reads = omega (arith, reads, log, one, few); reserve = h.reserve; rise = h.rise }, c.self-2.invariant.1)
 
 pub invariant_of-self-else-enters : goal.invariant_of-self-else-enters
 invariant_of-self-else-enters g c =
@@ -89,9 +89,9 @@ invariant_of-self-else-enters g c =
     let reads : c.self-2.inside.reads ≡ c.self.inside.reads = ap (λ (v : BookState). v.reads) seen ∙ sym (ap (λ (v : BookState). v.reads) c.self.view_is) in
     let log : length c.self-2.inside.ledger.log ≡ length c.self.inside.ledger.log + 1 = ap (λ (v : BookState). length v.log) seen ∙ (length_with c.args.self.now.log t.now (Advance i c.args.kind n) ∙ sym (ap (λ (v : BookState). length v.log + 1) c.self.view_is)) in
     let one : c.count_of.result ≤ 1 = (let e = c.count_of.ensures in let s = count_small c.needs_left-read.result in omega (arith, e, s)) in
-    let few = c.self.invariant.reads in
-    let h = c.self-2.invariant in
-    record { sized = h.sized; logged = h.logged; rows = h.rows; actions = h.actions; counted = h.counted; tokens = h.tokens; down = h.down; right = h.right; stopped = h.stopped; closed = h.closed; alive = h.alive; size = h.size; some = h.some; last = h.last; reads = omega (arith, reads, log, one, few); reserve = h.reserve; rise = h.rise }
+    let few = c.self.invariant.0.reads in
+    let h = c.self-2.invariant.0 in
+    (record { sized = h.sized; logged = h.logged; rows = h.rows; actions = h.actions; counted = h.counted; tokens = h.tokens; down = h.down; right = h.right; stopped = h.stopped; closed = h.closed; alive = h.alive; size = h.size; some = h.some; last = h.last; reads = omega (arith, reads, log, one, few); reserve = h.reserve; rise = h.rise }, c.self-2.invariant.1)
 
 pub enter_named-requires-clause-going : goal.enter_named-requires-clause-going
 enter_named-requires-clause-going g c =
@@ -114,7 +114,7 @@ enter_named-requires-clause-may g c =
     let going = c.requires.going in
     let out = c.requires.out in
     let num = to_z-of_z w64 n c.ranges.number in
-    let rows = subst (λ (v : BookState). AreRows (not (state_of v).stopped) (state_of v).frames c.self.inside.rows.items) c.self.view_is c.self.invariant.rows.each in
+    let rows = subst (λ (v : BookState). AreRows (not (state_of v).stopped) (state_of v).frames c.self.inside.rows.items) c.self.view_is c.self.invariant.0.rows.each in
     let place : i < length c.self.inside.rows.items = out_within c.self.inside.rows.items i (subst (λ v. IsOut v i) (sym c.self.view_is) out.out) in
     let within : i ≤ length c.self.inside.rows.items = omega (arith, place) in
     let read : c.needs_left-read.result ≡ must_read_left i t.folded (stage_end c.args.kind n) = c.needs_left-read.ensures ∙ ap (λ z. must_read_left i t.folded (stage_end c.args.kind z)) num in
@@ -134,7 +134,7 @@ returns-then-enters-clause-answer g c =
     let going = c.requires.going in
     let out = c.requires.out in
     let num = to_z-of_z w64 n c.ranges.number in
-    let rows = subst (λ (v : BookState). AreRows (not (state_of v).stopped) (state_of v).frames c.self.inside.rows.items) c.self.view_is c.self.invariant.rows.each in
+    let rows = subst (λ (v : BookState). AreRows (not (state_of v).stopped) (state_of v).frames c.self.inside.rows.items) c.self.view_is c.self.invariant.0.rows.each in
     let place : i < length c.self.inside.rows.items = out_within c.self.inside.rows.items i (subst (λ v. IsOut v i) (sym c.self.view_is) out.out) in
     let within : i ≤ length c.self.inside.rows.items = omega (arith, place) in
     let read : c.needs_left-read.result ≡ must_read_left i t.folded (stage_end c.args.kind n) = c.needs_left-read.ensures ∙ ap (λ z. must_read_left i t.folded (stage_end c.args.kind z)) num in
@@ -155,7 +155,7 @@ returns-then-enters-clause-book g c =
     let going = c.requires.going in
     let out = c.requires.out in
     let num = to_z-of_z w64 n c.ranges.number in
-    let rows = subst (λ (v : BookState). AreRows (not (state_of v).stopped) (state_of v).frames c.self.inside.rows.items) c.self.view_is c.self.invariant.rows.each in
+    let rows = subst (λ (v : BookState). AreRows (not (state_of v).stopped) (state_of v).frames c.self.inside.rows.items) c.self.view_is c.self.invariant.0.rows.each in
     let place : i < length c.self.inside.rows.items = out_within c.self.inside.rows.items i (subst (λ v. IsOut v i) (sym c.self.view_is) out.out) in
     let within : i ≤ length c.self.inside.rows.items = omega (arith, place) in
     let read : c.needs_left-read.result ≡ must_read_left i t.folded (stage_end c.args.kind n) = c.needs_left-read.ensures ∙ ap (λ z. must_read_left i t.folded (stage_end c.args.kind z)) num in
@@ -178,7 +178,7 @@ returns-then-enters-clause-token g c =
     let going = c.requires.going in
     let out = c.requires.out in
     let num = to_z-of_z w64 n c.ranges.number in
-    let rows = subst (λ (v : BookState). AreRows (not (state_of v).stopped) (state_of v).frames c.self.inside.rows.items) c.self.view_is c.self.invariant.rows.each in
+    let rows = subst (λ (v : BookState). AreRows (not (state_of v).stopped) (state_of v).frames c.self.inside.rows.items) c.self.view_is c.self.invariant.0.rows.each in
     let place : i < length c.self.inside.rows.items = out_within c.self.inside.rows.items i (subst (λ v. IsOut v i) (sym c.self.view_is) out.out) in
     let within : i ≤ length c.self.inside.rows.items = omega (arith, place) in
     let read : c.needs_left-read.result ≡ must_read_left i t.folded (stage_end c.args.kind n) = c.needs_left-read.ensures ∙ ap (λ z. must_read_left i t.folded (stage_end c.args.kind z)) num in
@@ -200,7 +200,7 @@ returns-else-enters-clause-answer g c =
     let going = c.requires.going in
     let out = c.requires.out in
     let num = to_z-of_z w64 n c.ranges.number in
-    let rows = subst (λ (v : BookState). AreRows (not (state_of v).stopped) (state_of v).frames c.self.inside.rows.items) c.self.view_is c.self.invariant.rows.each in
+    let rows = subst (λ (v : BookState). AreRows (not (state_of v).stopped) (state_of v).frames c.self.inside.rows.items) c.self.view_is c.self.invariant.0.rows.each in
     let place : i < length c.self.inside.rows.items = out_within c.self.inside.rows.items i (subst (λ v. IsOut v i) (sym c.self.view_is) out.out) in
     let within : i ≤ length c.self.inside.rows.items = omega (arith, place) in
     let read : c.needs_left-read.result ≡ must_read_left i t.folded (stage_end c.args.kind n) = c.needs_left-read.ensures ∙ ap (λ z. must_read_left i t.folded (stage_end c.args.kind z)) num in
@@ -221,7 +221,7 @@ returns-else-enters-clause-book g c =
     let going = c.requires.going in
     let out = c.requires.out in
     let num = to_z-of_z w64 n c.ranges.number in
-    let rows = subst (λ (v : BookState). AreRows (not (state_of v).stopped) (state_of v).frames c.self.inside.rows.items) c.self.view_is c.self.invariant.rows.each in
+    let rows = subst (λ (v : BookState). AreRows (not (state_of v).stopped) (state_of v).frames c.self.inside.rows.items) c.self.view_is c.self.invariant.0.rows.each in
     let place : i < length c.self.inside.rows.items = out_within c.self.inside.rows.items i (subst (λ v. IsOut v i) (sym c.self.view_is) out.out) in
     let within : i ≤ length c.self.inside.rows.items = omega (arith, place) in
     let read : c.needs_left-read.result ≡ must_read_left i t.folded (stage_end c.args.kind n) = c.needs_left-read.ensures ∙ ap (λ z. must_read_left i t.folded (stage_end c.args.kind z)) num in

@@ -12,6 +12,7 @@ use Rattle.frame_book.specs.NewBooks.{IsPlannedProgram}
 use Rattle.program_laws.specs.WorkBounds.{most_instances}
 use Rattle.frame_book.specs.IterationRows.{empty_row}
 use Rattle.frame_book.proofs.Keeping.New.{abs_is, non_neg_is, fits_small, new_keeps}
+use Rattle.frame_book.proofs.Iterations.AliveRows.{alive_none}
 use Rattle.frame_book.proofs.book.Book.opened.Goals as goal
 
 pub overflow_cast-stages : goal.overflow_cast-stages
@@ -87,6 +88,10 @@ invariant_of-result-2 g c =
     let spare = c.loop.invariant.0 ∙ ap₂ (λ k z. empty_row 1 ∷ replicate k (empty_row z)) (end ∙ ni) ns in
     let cap : vec_capacity c.in_ok-with_capacity.field-0 ≡ nat_abs (to_z w64 (of_z w64 i)) + 1 = c.in_ok-with_capacity.ensures.exact in
     let room : 2 * (nat_abs (to_z w64 (of_z w64 i)) * nat_abs (to_z w64 (of_z w64 s)) + 1) + 1 ≡ 2 * most_instances (tree_of c.args.program) + 1 = ap₂ (λ a b. 2 * (a * b + 1) + 1) ni ns in
-    rw (c.in_ok-with_capacity.ensures.items, spare, c.new-2.ensures, c.in_ok-new-3.ensures, room, c.orders.view_is)
-    (new_keeps g.M.Stands.whole g.M.Stands.stands g.M.Stands.tie c.args.program c.input.inside.items.items c.args.throttle (subst (IsPlannedProgram (tree_of c.args.program)) (sym c.input.view_is) c.requires.planned) c.requires.throttle c.args.payloads.items c.requires.payloads
-    c.args.orders c.requires.whole c.requires.started.0 c.requires.started.1 c.requires.room.0 c.requires.room.1 (vec_capacity c.in_ok-with_capacity.field-0) (omega (arith, cap, ni)))
+    let wide : vec_capacity c.in_ok-with_capacity-2.field-0 ≡ nat_abs (to_z w64 (of_z w64 i)) + 1 = c.in_ok-with_capacity-2.ensures.exact in
+    let long = length-replicate (natural i) (empty_row {M = g.row.M.Denot} (natural s)) in
+    rw (c.in_ok-with_capacity.ensures.items, c.in_ok-with_capacity-2.ensures.items, spare, c.new-2.ensures, c.in_ok-new-3.ensures, room, c.orders.view_is) (
+      new_keeps g.M.Stands.whole g.M.Stands.stands g.M.Stands.tie c.args.program c.input.inside.items.items c.args.throttle (subst (IsPlannedProgram (tree_of c.args.program)) (sym c.input.view_is) c.requires.planned) c.requires.throttle c.args.payloads.items c.requires.payloads
+          c.args.orders c.requires.whole c.requires.started.0 c.requires.started.1 c.requires.room.0 c.requires.room.1 (vec_capacity c.in_ok-with_capacity.field-0) (omega (arith, cap, ni)),
+      alive_none _ _ (omega (arith, wide, ni, long)),
+    )

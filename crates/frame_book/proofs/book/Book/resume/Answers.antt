@@ -1,6 +1,7 @@
 use Rattle.std.proofs.Common.{◌≡◌, ◌<◌, arith, length, ap, sym, subst, ◌∙◌, false, not, Some}
 use Rattle.std.proofs.lemmas.Grind.{common_steps}
 use Rattle.pipe_model.specs.declared.status.Status.TheVariants.{Running, Pending}
+use Rattle.pipe_model.specs.Runs.State.{is_completed}
 use Rattle.pipe_frame.specs.CallResults.{CanGoOn}
 use Rattle.run_laws.proofs.RunStates.Frames.{frame_at_within}
 use Rattle.frame_book.specs.BookStates.{BookState, state_of, Spent}
@@ -11,6 +12,7 @@ use Rattle.frame_book.specs.Tables.{book_state, token_state_of, token_state_by}
 use Rattle.frame_book.proofs.Keeping.Resume.{set_itself, can_frame, can_run, can_enter, can_not, kept_none, resumes_by_entering, kept, resume_keeps, resume_view, resume_given}
 use Rattle.frame_book.proofs.Iterations.FrameRows.{rows_length, row_at_read, row_of_frame}
 use Rattle.frame_book.proofs.Iterations.ChangedRows.{map_at}
+use Rattle.frame_book.proofs.Iterations.AliveRows.{alive_set}
 use Rattle.frame_book.proofs.book.Book.resume.Goals as goal
 
 pub index_mut-row-requires : goal.index_mut-row-requires
@@ -21,7 +23,7 @@ index_mut-row-requires g c =
     let going = subst (λ x. (state_of x).stopped ≡ false) (sym c.self.view_is) c.requires.going in
     let can = subst (λ x. CanGoOn (IsReady x) (state_of x) i) (sym c.self.view_is) c.requires.can in
     let it = can_frame v i can in
-    let inside : i < length c.self.inside.rows.items = (let a = frame_at_within s.frames i it.0 it.1 in let e = rows_length (not s.stopped) s.frames c.self.inside.rows.items c.self.invariant.rows.each in omega (arith, a, e)) in
+    let inside : i < length c.self.inside.rows.items = (let a = frame_at_within s.frames i it.0 it.1 in let e = rows_length (not s.stopped) s.frames c.self.inside.rows.items c.self.invariant.0.rows.each in omega (arith, a, e)) in
     grind (arith, common_steps)
 
 pub unreachable-requires : goal.unreachable-requires
@@ -32,10 +34,10 @@ unreachable-requires g c =
     let going = subst (λ x. (state_of x).stopped ≡ false) (sym c.self.view_is) c.requires.going in
     let can = subst (λ x. CanGoOn (IsReady x) (state_of x) i) (sym c.self.view_is) c.requires.can in
     let it = can_frame v i can in
-    let inside : i < length c.self.inside.rows.items = (let a = frame_at_within s.frames i it.0 it.1 in let e = rows_length (not s.stopped) s.frames c.self.inside.rows.items c.self.invariant.rows.each in omega (arith, a, e)) in
+    let inside : i < length c.self.inside.rows.items = (let a = frame_at_within s.frames i it.0 it.1 in let e = rows_length (not s.stopped) s.frames c.self.inside.rows.items c.self.invariant.0.rows.each in omega (arith, a, e)) in
     let r = c.index_mut-row.result.now in
     let at = row_at_read c.self.inside.rows.items i r inside c.index_mut-row.ensures.value in
-    let q = row_of_frame (not s.stopped) s.frames c.self.inside.rows.items i it.0 c.self.invariant.rows.each it.1 in
+    let q = row_of_frame (not s.stopped) s.frames c.self.inside.rows.items i it.0 c.self.invariant.0.rows.each it.1 in
     let same : q.row ≡ r = (let y : Some q.row ≡ Some r = sym q.is ∙ at in cc) in
     let status : r.status ≡ it.0.status = sym (ap (λ (z : Row _). z.status) same) ∙ q.matches.status in
     let runs : it.0.status ≡ Running = sym status ∙ (sym c.status.ensures ∙ c.in-Running.is) in
@@ -51,15 +53,15 @@ invariant_of-self g c =
     let going = subst (λ x. (state_of x).stopped ≡ false) (sym c.self.view_is) c.requires.going in
     let can = subst (λ x. CanGoOn (IsReady x) (state_of x) i) (sym c.self.view_is) c.requires.can in
     let it = can_frame v i can in
-    let inside : i < length c.self.inside.rows.items = (let a = frame_at_within s.frames i it.0 it.1 in let e = rows_length (not s.stopped) s.frames c.self.inside.rows.items c.self.invariant.rows.each in omega (arith, a, e)) in
+    let inside : i < length c.self.inside.rows.items = (let a = frame_at_within s.frames i it.0 it.1 in let e = rows_length (not s.stopped) s.frames c.self.inside.rows.items c.self.invariant.0.rows.each in omega (arith, a, e)) in
     let r = c.index_mut-row.result.now in
     let at = row_at_read c.self.inside.rows.items i r inside c.index_mut-row.ensures.value in
-    let q = row_of_frame (not s.stopped) s.frames c.self.inside.rows.items i it.0 c.self.invariant.rows.each it.1 in
+    let q = row_of_frame (not s.stopped) s.frames c.self.inside.rows.items i it.0 c.self.invariant.0.rows.each it.1 in
     let same : q.row ≡ r = (let y : Some q.row ≡ Some r = sym q.is ∙ at in cc) in
     let status : r.status ≡ it.0.status = sym (ap (λ (z : Row _). z.status) same) ∙ q.matches.status in
     let runs : it.0.status ≡ Running = sym status ∙ (sym c.status.ensures ∙ c.in-Running.is) in
     let held : r.token ≡ Some c.in-Some.token = sym c.take_token.ensures.token ∙ c.in-Some.is in
-    rw c.take_token.ensures.row (resume_keeps g.M.Stands.whole g.M.Stands.stands g.M.Stands.tie (tables_of c.self.inside) c.self.invariant c.args.iteration going r at it.0 it.1 runs c.in-Some.token held)
+    rw c.take_token.ensures.row (resume_keeps g.M.Stands.whole g.M.Stands.stands g.M.Stands.tie (tables_of c.self.inside) c.self.invariant.0 c.args.iteration going r at it.0 it.1 runs c.in-Some.token held, alive_set c.self.inside.rows.items _ i r _ _ _ at (ap is_completed (status ∙ runs)) c.self.invariant.1)
 
 pub enter_named-requires-clause-may : goal.enter_named-requires-clause-may
 enter_named-requires-clause-may g c =
@@ -69,10 +71,10 @@ enter_named-requires-clause-may g c =
     let going = subst (λ x. (state_of x).stopped ≡ false) (sym c.self.view_is) c.requires.going in
     let can = subst (λ x. CanGoOn (IsReady x) (state_of x) i) (sym c.self.view_is) c.requires.can in
     let it = can_frame v i can in
-    let inside : i < length c.self.inside.rows.items = (let a = frame_at_within s.frames i it.0 it.1 in let e = rows_length (not s.stopped) s.frames c.self.inside.rows.items c.self.invariant.rows.each in omega (arith, a, e)) in
+    let inside : i < length c.self.inside.rows.items = (let a = frame_at_within s.frames i it.0 it.1 in let e = rows_length (not s.stopped) s.frames c.self.inside.rows.items c.self.invariant.0.rows.each in omega (arith, a, e)) in
     let r = c.index_mut-row.result.now in
     let at = row_at_read c.self.inside.rows.items i r inside c.index_mut-row.ensures.value in
-    let q = row_of_frame (not s.stopped) s.frames c.self.inside.rows.items i it.0 c.self.invariant.rows.each it.1 in
+    let q = row_of_frame (not s.stopped) s.frames c.self.inside.rows.items i it.0 c.self.invariant.0.rows.each it.1 in
     let same : q.row ≡ r = (let y : Some q.row ≡ Some r = sym q.is ∙ at in cc) in
     let status : r.status ≡ it.0.status = sym (ap (λ (z : Row _). z.status) same) ∙ q.matches.status in
     let st : it.0.status ≡ Pending c.in-Pending.field-0 c.in-Pending.field-1 = sym status ∙ (sym c.status.ensures ∙ c.in-Pending.is) in
@@ -86,10 +88,10 @@ unreachable-requires-in-Completed g c =
     let going = subst (λ x. (state_of x).stopped ≡ false) (sym c.self.view_is) c.requires.going in
     let can = subst (λ x. CanGoOn (IsReady x) (state_of x) i) (sym c.self.view_is) c.requires.can in
     let it = can_frame v i can in
-    let inside : i < length c.self.inside.rows.items = (let a = frame_at_within s.frames i it.0 it.1 in let e = rows_length (not s.stopped) s.frames c.self.inside.rows.items c.self.invariant.rows.each in omega (arith, a, e)) in
+    let inside : i < length c.self.inside.rows.items = (let a = frame_at_within s.frames i it.0 it.1 in let e = rows_length (not s.stopped) s.frames c.self.inside.rows.items c.self.invariant.0.rows.each in omega (arith, a, e)) in
     let r = c.index_mut-row.result.now in
     let at = row_at_read c.self.inside.rows.items i r inside c.index_mut-row.ensures.value in
-    let q = row_of_frame (not s.stopped) s.frames c.self.inside.rows.items i it.0 c.self.invariant.rows.each it.1 in
+    let q = row_of_frame (not s.stopped) s.frames c.self.inside.rows.items i it.0 c.self.invariant.0.rows.each it.1 in
     let same : q.row ≡ r = (let y : Some q.row ≡ Some r = sym q.is ∙ at in cc) in
     let status : r.status ≡ it.0.status = sym (ap (λ (z : Row _). z.status) same) ∙ q.matches.status in
     can_not v i it.0 c.in-Completed.field-0 it.1 (sym status ∙ (sym c.status.ensures ∙ c.in-Completed.is)) can
@@ -102,15 +104,15 @@ returns-in-Some-clause-iteration g c =
     let going = subst (λ x. (state_of x).stopped ≡ false) (sym c.self.view_is) c.requires.going in
     let can = subst (λ x. CanGoOn (IsReady x) (state_of x) i) (sym c.self.view_is) c.requires.can in
     let it = can_frame v i can in
-    let inside : i < length c.self.inside.rows.items = (let a = frame_at_within s.frames i it.0 it.1 in let e = rows_length (not s.stopped) s.frames c.self.inside.rows.items c.self.invariant.rows.each in omega (arith, a, e)) in
+    let inside : i < length c.self.inside.rows.items = (let a = frame_at_within s.frames i it.0 it.1 in let e = rows_length (not s.stopped) s.frames c.self.inside.rows.items c.self.invariant.0.rows.each in omega (arith, a, e)) in
     let r = c.index_mut-row.result.now in
     let at = row_at_read c.self.inside.rows.items i r inside c.index_mut-row.ensures.value in
-    let q = row_of_frame (not s.stopped) s.frames c.self.inside.rows.items i it.0 c.self.invariant.rows.each it.1 in
+    let q = row_of_frame (not s.stopped) s.frames c.self.inside.rows.items i it.0 c.self.invariant.0.rows.each it.1 in
     let same : q.row ≡ r = (let y : Some q.row ≡ Some r = sym q.is ∙ at in cc) in
     let status : r.status ≡ it.0.status = sym (ap (λ (z : Row _). z.status) same) ∙ q.matches.status in
     let runs : it.0.status ≡ Running = sym status ∙ (sym c.status.ensures ∙ c.in-Running.is) in
     let held : r.token ≡ Some c.in-Some.token = sym c.take_token.ensures.token ∙ c.in-Some.is in
-    (kept g.M.Stands.whole g.M.Stands.stands g.M.Stands.tie (tables_of c.self.inside) c.self.invariant c.args.iteration going r at it.0 it.1 runs c.in-Some.token held).iteration
+    (kept g.M.Stands.whole g.M.Stands.stands g.M.Stands.tie (tables_of c.self.inside) c.self.invariant.0 c.args.iteration going r at it.0 it.1 runs c.in-Some.token held).iteration
 
 pub returns-in-Some-clause-book : goal.returns-in-Some-clause-book
 returns-in-Some-clause-book g c =
@@ -120,15 +122,15 @@ returns-in-Some-clause-book g c =
     let going = subst (λ x. (state_of x).stopped ≡ false) (sym c.self.view_is) c.requires.going in
     let can = subst (λ x. CanGoOn (IsReady x) (state_of x) i) (sym c.self.view_is) c.requires.can in
     let it = can_frame v i can in
-    let inside : i < length c.self.inside.rows.items = (let a = frame_at_within s.frames i it.0 it.1 in let e = rows_length (not s.stopped) s.frames c.self.inside.rows.items c.self.invariant.rows.each in omega (arith, a, e)) in
+    let inside : i < length c.self.inside.rows.items = (let a = frame_at_within s.frames i it.0 it.1 in let e = rows_length (not s.stopped) s.frames c.self.inside.rows.items c.self.invariant.0.rows.each in omega (arith, a, e)) in
     let r = c.index_mut-row.result.now in
     let at = row_at_read c.self.inside.rows.items i r inside c.index_mut-row.ensures.value in
-    let q = row_of_frame (not s.stopped) s.frames c.self.inside.rows.items i it.0 c.self.invariant.rows.each it.1 in
+    let q = row_of_frame (not s.stopped) s.frames c.self.inside.rows.items i it.0 c.self.invariant.0.rows.each it.1 in
     let same : q.row ≡ r = (let y : Some q.row ≡ Some r = sym q.is ∙ at in cc) in
     let status : r.status ≡ it.0.status = sym (ap (λ (z : Row _). z.status) same) ∙ q.matches.status in
     let runs : it.0.status ≡ Running = sym status ∙ (sym c.status.ensures ∙ c.in-Running.is) in
     let held : r.token ≡ Some c.in-Some.token = sym c.take_token.ensures.token ∙ c.in-Some.is in
-    rw (c.take_token.ensures.row, ← c.self.view_is) (resume_view g.M.Stands.whole g.M.Stands.stands g.M.Stands.tie (tables_of c.self.inside) c.self.invariant c.args.iteration going r at it.0 it.1 runs c.in-Some.token held)
+    rw (c.take_token.ensures.row, ← c.self.view_is) (resume_view g.M.Stands.whole g.M.Stands.stands g.M.Stands.tie (tables_of c.self.inside) c.self.invariant.0 c.args.iteration going r at it.0 it.1 runs c.in-Some.token held)
 
 pub returns-in-Some-clause-token : goal.returns-in-Some-clause-token
 returns-in-Some-clause-token g c =
@@ -138,15 +140,15 @@ returns-in-Some-clause-token g c =
     let going = subst (λ x. (state_of x).stopped ≡ false) (sym c.self.view_is) c.requires.going in
     let can = subst (λ x. CanGoOn (IsReady x) (state_of x) i) (sym c.self.view_is) c.requires.can in
     let it = can_frame v i can in
-    let inside : i < length c.self.inside.rows.items = (let a = frame_at_within s.frames i it.0 it.1 in let e = rows_length (not s.stopped) s.frames c.self.inside.rows.items c.self.invariant.rows.each in omega (arith, a, e)) in
+    let inside : i < length c.self.inside.rows.items = (let a = frame_at_within s.frames i it.0 it.1 in let e = rows_length (not s.stopped) s.frames c.self.inside.rows.items c.self.invariant.0.rows.each in omega (arith, a, e)) in
     let r = c.index_mut-row.result.now in
     let at = row_at_read c.self.inside.rows.items i r inside c.index_mut-row.ensures.value in
-    let q = row_of_frame (not s.stopped) s.frames c.self.inside.rows.items i it.0 c.self.invariant.rows.each it.1 in
+    let q = row_of_frame (not s.stopped) s.frames c.self.inside.rows.items i it.0 c.self.invariant.0.rows.each it.1 in
     let same : q.row ≡ r = (let y : Some q.row ≡ Some r = sym q.is ∙ at in cc) in
     let status : r.status ≡ it.0.status = sym (ap (λ (z : Row _). z.status) same) ∙ q.matches.status in
     let runs : it.0.status ≡ Running = sym status ∙ (sym c.status.ensures ∙ c.in-Running.is) in
     let held : r.token ≡ Some c.in-Some.token = sym c.take_token.ensures.token ∙ c.in-Some.is in
-    rw c.take_token.ensures.row (resume_given g.M.Stands.whole g.M.Stands.stands g.M.Stands.tie (tables_of c.self.inside) c.self.invariant c.args.iteration going r at it.0 it.1 runs c.in-Some.token held)
+    rw c.take_token.ensures.row (resume_given g.M.Stands.whole g.M.Stands.stands g.M.Stands.tie (tables_of c.self.inside) c.self.invariant.0 c.args.iteration going r at it.0 it.1 runs c.in-Some.token held)
 
 pub returns-in-Pending-clause-book : goal.returns-in-Pending-clause-book
 returns-in-Pending-clause-book g c =
@@ -156,10 +158,10 @@ returns-in-Pending-clause-book g c =
     let going = subst (λ x. (state_of x).stopped ≡ false) (sym c.self.view_is) c.requires.going in
     let can = subst (λ x. CanGoOn (IsReady x) (state_of x) i) (sym c.self.view_is) c.requires.can in
     let it = can_frame v i can in
-    let inside : i < length c.self.inside.rows.items = (let a = frame_at_within s.frames i it.0 it.1 in let e = rows_length (not s.stopped) s.frames c.self.inside.rows.items c.self.invariant.rows.each in omega (arith, a, e)) in
+    let inside : i < length c.self.inside.rows.items = (let a = frame_at_within s.frames i it.0 it.1 in let e = rows_length (not s.stopped) s.frames c.self.inside.rows.items c.self.invariant.0.rows.each in omega (arith, a, e)) in
     let r = c.index_mut-row.result.now in
     let at = row_at_read c.self.inside.rows.items i r inside c.index_mut-row.ensures.value in
-    let q = row_of_frame (not s.stopped) s.frames c.self.inside.rows.items i it.0 c.self.invariant.rows.each it.1 in
+    let q = row_of_frame (not s.stopped) s.frames c.self.inside.rows.items i it.0 c.self.invariant.0.rows.each it.1 in
     let same : q.row ≡ r = (let y : Some q.row ≡ Some r = sym q.is ∙ at in cc) in
     let status : r.status ≡ it.0.status = sym (ap (λ (z : Row _). z.status) same) ∙ q.matches.status in
     let st : it.0.status ≡ Pending c.in-Pending.field-0 c.in-Pending.field-1 = sym status ∙ (sym c.status.ensures ∙ c.in-Pending.is) in
