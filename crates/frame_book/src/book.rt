@@ -234,9 +234,8 @@ impl<M: Payload<L>, L: ListWriter + Drop> Book<M, L> {
             return Begun::Throttled;
         };
         let iteration = self.rows.len() as u32;
-        let marks = start_head(self.rows.as_slice(), &mut self.orders);
         payload.begin(iteration);
-        payload.started(&mut self.orders);
+        let marks = start_head(self.rows.as_slice(), &mut self.orders, &mut payload);
         let now = self.ledger.stamp(0, Event::Begin(iteration));
         let Some(mut row) = self.spare.pop() else {
             unreachable!()
@@ -321,11 +320,11 @@ impl<M: Payload<L>, L: ListWriter + Drop> Book<M, L> {
         let marks = start_below(
             self.rows.as_slice(),
             &mut self.orders,
+            &mut token.payload,
             iteration,
             token.index,
             left,
         );
-        token.payload.started(&mut self.orders);
         token.now = self.ledger.stamp(token.now, Event::Enter(iteration));
         token.index += 1;
         token.joined = left.unwrap_or(token.joined);

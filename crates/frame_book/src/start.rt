@@ -1,10 +1,14 @@
-//! Starts of instances in the order lists.
+//! Starts of instances, in the order lists and for their payloads.
 
-ghost use Rattle.std.specs.Prelude.{◌≡◌, ◌+◌, ◌-◌, ◌<◌, ◌≤◌, ◌≢◌, ◌^◌, ℕ, zero, pos, [], length, IfSome, IfNone, IsSome, Some, None, ◌⊎◌, slice_index_or};
+ghost use Rattle.std.specs.Prelude.{◌≡◌, ◌+◌, ◌-◌, ◌<◌, ◌≤◌, ◌≢◌, ◌^◌, ℕ, ℤ, List, zero, pos, [], length, IfSome, IfNone, IsSome, Some, None, ◌⊎◌, slice_index_or};
 ghost use Rattle.left_parent.specs.LastNumber.{IsLastUpTo};
 ghost use Rattle.order_2d.specs.OrderPairs.{with_start, marks_after, down_taken, right_taken, HasRoom, AreInserted};
 ghost use Rattle.frame_book.specs.IterationRows.{row_at, head_marks, left_numbers, WaitsAt, IsSearchable, HasMarks, marks_at, left_marks};
+ghost use Rattle.pipe_model.specs.Language.SyntaxTree.{SyntaxTree};
+ghost use Rattle.pipe_frame.specs.Ties.{BelongsTo};
+ghost use Rattle.frame_book.specs.CallEffects.{SameTieButLogs, identities_of_orders};
 
+use crate::payload::Payload;
 use crate::row::Iteration;
 use left_parent::search::find;
 use order_2d::list_writer::ListWriter;
@@ -12,11 +16,28 @@ use order_2d::two_orders::TwoOrders;
 use pipe_model::marks::Marks;
 use pipe_model::node::Kind;
 
-/// Starts instance 0 of the next iteration, and returns its marks.
-pub fn start_head<M, L: ListWriter + Drop>(
+/// Starts instance 0 of the next iteration, tells its payload, and returns its marks.
+pub fn start_head<M: Payload<L>, L: ListWriter + Drop>(
     rows: &[Iteration<M>],
     orders: &mut TwoOrders<L>,
+    payload: &mut M,
 ) -> Marks
+    requires there { (r : _) → row_at rows.now (length rows.now - 1) ≡ Some r → 0 < length r.marks }
+    requires inserted { AreInserted (length orders.old.down.log) None (head_marks rows.now) }
+    requires room { HasRoom orders.old }
+    requires belongs { BelongsTo (M.tie payload.old) (identities_of_orders orders.old) }
+    ensures marks { result ≡ marks_after (length orders.old.down.log) (down_taken None (head_marks rows.now)) (right_taken None (head_marks rows.now)) }
+    ensures lists { orders.new ≡ with_start orders.old (down_taken None (head_marks rows.now)) (right_taken None (head_marks rows.now)) }
+    ensures stands { (tree : SyntaxTree) (input : List ℤ) (i : ℕ) (replies : List (List ℤ)) → M.stands tree input payload.old i replies → M.stands tree input payload.new i replies }
+    ensures tie { SameTieButLogs (M.tie payload.new) (M.tie payload.old) orders.new }
+{
+    let marks = insert_head(rows, orders);
+    payload.started(orders);
+    marks
+}
+
+// Inserts instance 0 of the next iteration into the order lists, and returns its marks.
+fn insert_head<M, L: ListWriter + Drop>(rows: &[Iteration<M>], orders: &mut TwoOrders<L>) -> Marks
     requires there { (r : _) → row_at rows.now (length rows.now - 1) ≡ Some r → 0 < length r.marks }
     requires inserted { AreInserted (length orders.old.down.log) None (head_marks rows.now) }
     requires room { HasRoom orders.old }
@@ -58,9 +79,33 @@ pub fn left_place<M>(
     }
 }
 
-/// Starts the instance below an instance, and returns its marks; `left` is the index of its left
-/// parent.
-pub fn start_below<M, L: ListWriter + Drop>(
+/// Starts the instance below an instance, tells its payload, and returns its marks; `left` is the
+/// index of its left parent.
+pub fn start_below<M: Payload<L>, L: ListWriter + Drop>(
+    rows: &[Iteration<M>],
+    orders: &mut TwoOrders<L>,
+    payload: &mut M,
+    iteration: u32,
+    index: u32,
+    left: Option<u32>,
+) -> Marks
+    requires up { HasMarks rows.now iteration index }
+    requires left { (j : ℕ) → left ≡ Some j → (0 < iteration) × HasMarks rows.now (iteration - 1) j }
+    requires inserted { AreInserted (length orders.old.down.log) (Some (marks_at rows.now iteration index)) (left_marks rows.now iteration left) }
+    requires room { HasRoom orders.old }
+    requires belongs { BelongsTo (M.tie payload.old) (identities_of_orders orders.old) }
+    ensures marks { result ≡ marks_after (length orders.old.down.log) (down_taken (Some (marks_at rows.now iteration index)) (left_marks rows.now iteration left)) (right_taken (Some (marks_at rows.now iteration index)) (left_marks rows.now iteration left)) }
+    ensures lists { orders.new ≡ with_start orders.old (down_taken (Some (marks_at rows.now iteration index)) (left_marks rows.now iteration left)) (right_taken (Some (marks_at rows.now iteration index)) (left_marks rows.now iteration left)) }
+    ensures stands { (tree : SyntaxTree) (input : List ℤ) (i : ℕ) (replies : List (List ℤ)) → M.stands tree input payload.old i replies → M.stands tree input payload.new i replies }
+    ensures tie { SameTieButLogs (M.tie payload.new) (M.tie payload.old) orders.new }
+{
+    let marks = insert_below(rows, orders, iteration, index, left);
+    payload.started(orders);
+    marks
+}
+
+// Inserts the instance below an instance into the order lists, and returns its marks.
+fn insert_below<M, L: ListWriter + Drop>(
     rows: &[Iteration<M>],
     orders: &mut TwoOrders<L>,
     iteration: u32,

@@ -72,13 +72,13 @@ start_head-marks-requires-clause-room g c =
     let ended = (c.last_has_ended_first.ensures (not s.stopped) s.frames rows).0 c.if-not-last_has_ended_first.false in
     room g.M.Stands.whole g.M.Stands.stands g.M.Stands.tie (tables_of c.self.inside) c.self.invariant.0 c.if-self.false c.if-self-2.false ended c.take.new.self.home c.in-Some.payload c.in-Some.ensures.some
 
-pub started-requires : goal.started-requires
-started-requires g c =
+pub start_head-marks-requires-clause-belongs : goal.start_head-marks-requires-clause-belongs
+start_head-marks-requires-clause-belongs g c =
     let s = state_of (book_state (tables_of c.self.inside)) in
     let rows = subst (AreRows (not s.stopped) s.frames) (sym c.as_slice.ensures.value) c.self.invariant.0.rows.each in
     let ended = (c.last_has_ended_first.ensures (not s.stopped) s.frames rows).0 c.if-not-last_has_ended_first.false in
     let was = was_home g.M.Stands.whole g.M.Stands.stands g.M.Stands.tie (tables_of c.self.inside) c.self.invariant.0 c.if-self.false c.if-self-2.false ended c.take.new.self.home c.in-Some.payload c.in-Some.ensures.some in
-    rw (c.begin.ensures.tie, c.start_head-marks.ensures.lists) was.belongs
+    rw c.begin.ensures.tie was.belongs
 
 pub stamp-now-requires-clause-room : goal.stamp-now-requires-clause-room
 stamp-now-requires-clause-room g c = log_room g.M.Stands.whole g.M.Stands.stands g.M.Stands.tie (tables_of c.self.inside) c.self.invariant.0 c.if-self.false
@@ -134,7 +134,7 @@ invariant_of-self-2 g c =
     let n : c.len-iteration.result ≡ length c.self.inside.rows.items = grind (arith, common_steps) in
     let cap : vec_capacity c.push_reserved.new.self ≡ vec_capacity c.self.inside.rows = c.push_reserved.ensures.capacity in
     let listed = subst (λ spare. HasAliveList c.self.inside.rows.items spare c.self.inside.alive.items (vec_capacity c.self.inside.alive)) c.in-Some-pop.ensures.items c.self.invariant.1 in
-    rw (c.push_reserved.ensures.items, cap, c.push_reserved-2.ensures.items, c.push_reserved-2.ensures.capacity, c.enter.ensures, c.start_head-marks.ensures.marks, c.started.ensures.orders, c.start_head-marks.ensures.lists, c.as_slice-2.ensures.value, c.stamp-now.ensures.log, c.take.ensures.size, n)
+    rw (c.push_reserved.ensures.items, cap, c.push_reserved-2.ensures.items, c.push_reserved-2.ensures.capacity, c.enter.ensures, c.start_head-marks.ensures.marks, c.start_head-marks.ensures.lists, c.as_slice-2.ensures.value, c.stamp-now.ensures.log, c.take.ensures.size, n)
     (begin_keeps g.M.Stands.whole g.M.Stands.stands g.M.Stands.tie (tables_of c.self.inside) c.self.invariant.0 c.if-self.false c.if-self-2.false ended c.take.new.self.home c.in-Some.payload c.in-Some.ensures.some c.pop.new.self.items c.in-Some-pop.row c.in-Some-pop.ensures.items, alive_push c.self.inside.rows.items c.pop.new.self.items c.in-Some-pop.row _ _ _ listed)
 
 pub returns-clause-answer : goal.returns-clause-answer
@@ -152,7 +152,7 @@ returns-clause-book g c =
     let rows = subst (AreRows (not s.stopped) s.frames) (sym c.as_slice.ensures.value) c.self.invariant.0.rows.each in
     let ended = (c.last_has_ended_first.ensures (not s.stopped) s.frames rows).0 c.if-not-last_has_ended_first.false in
     let n : c.len-iteration.result ≡ length c.self.inside.rows.items = grind (arith, common_steps) in
-    rw (c.push_reserved.ensures.items, c.enter.ensures, c.start_head-marks.ensures.marks, c.started.ensures.orders, c.start_head-marks.ensures.lists, c.as_slice-2.ensures.value, c.stamp-now.ensures.log, n, ← c.self.view_is) (begin_view g.M.Stands.whole g.M.Stands.stands g.M.Stands.tie (tables_of c.self.inside) c.self.invariant.0 c.if-self.false c.if-self-2.false ended c.take.new.self.home c.in-Some.payload c.in-Some.ensures.some c.pop.new.self.items c.in-Some-pop.row c.in-Some-pop.ensures.items)
+    rw (c.push_reserved.ensures.items, c.enter.ensures, c.start_head-marks.ensures.marks, c.start_head-marks.ensures.lists, c.as_slice-2.ensures.value, c.stamp-now.ensures.log, n, ← c.self.view_is) (begin_view g.M.Stands.whole g.M.Stands.stands g.M.Stands.tie (tables_of c.self.inside) c.self.invariant.0 c.if-self.false c.if-self-2.false ended c.take.new.self.home c.in-Some.payload c.in-Some.ensures.some c.pop.new.self.items c.in-Some-pop.row c.in-Some-pop.ensures.items)
 
 pub returns-clause-token : goal.returns-clause-token
 returns-clause-token g c =
@@ -162,6 +162,6 @@ returns-clause-token g c =
     let n : c.len-iteration.result ≡ length c.self.inside.rows.items = grind (arith, common_steps) in
     let was = was_home g.M.Stands.whole g.M.Stands.stands g.M.Stands.tie (tables_of c.self.inside) c.self.invariant.0 c.if-self.false c.if-self-2.false ended c.take.new.self.home c.in-Some.payload c.in-Some.ensures.some in
     let orders_are = c.start_head-marks.ensures.lists ∙ ap (λ rs. with_start c.self.inside.orders (down_taken None (head_marks rs)) (right_taken None (head_marks rs))) c.as_slice-2.ensures.value in
-    rw (c.push_reserved.ensures.items, c.enter.ensures, c.start_head-marks.ensures.marks, c.started.ensures.orders, c.start_head-marks.ensures.lists, c.as_slice-2.ensures.value, c.stamp-now.ensures.log, n, c.stamp-now.ensures.ticket, c.new.ensures) (begin_given g.M.Stands.whole g.M.Stands.stands g.M.Stands.tie (tables_of c.self.inside) c.self.invariant.0 c.if-self.false c.if-self-2.false ended c.take.new.self.home c.in-Some.payload c.in-Some.ensures.some c.pop.new.self.items c.in-Some-pop.row c.in-Some-pop.ensures.items c.started.new.self
-    (c.started.ensures.stands (tree_of c.self.inside.program) c.self.inside.input (length c.self.inside.rows.items) [] (subst (λ k. g.M.Stands.stands (tree_of c.self.inside.program) c.self.inside.input c.begin.new.self k []) n (c.begin.ensures.stands (tree_of c.self.inside.program) c.self.inside.input was.whole)))
-    (c.started.ensures.tie ∙ ap₂ (λ x o. record { lists = seen_whole x.lists o; seat = x.seat }) c.begin.ensures.tie orders_are))
+    rw (c.push_reserved.ensures.items, c.enter.ensures, c.start_head-marks.ensures.marks, c.start_head-marks.ensures.lists, c.as_slice-2.ensures.value, c.stamp-now.ensures.log, n, c.stamp-now.ensures.ticket, c.new.ensures) (begin_given g.M.Stands.whole g.M.Stands.stands g.M.Stands.tie (tables_of c.self.inside) c.self.invariant.0 c.if-self.false c.if-self-2.false ended c.take.new.self.home c.in-Some.payload c.in-Some.ensures.some c.pop.new.self.items c.in-Some-pop.row c.in-Some-pop.ensures.items c.start_head-marks.new.payload
+    (c.start_head-marks.ensures.stands (tree_of c.self.inside.program) c.self.inside.input (length c.self.inside.rows.items) [] (subst (λ k. g.M.Stands.stands (tree_of c.self.inside.program) c.self.inside.input c.begin.new.self k []) n (c.begin.ensures.stands (tree_of c.self.inside.program) c.self.inside.input was.whole)))
+    (c.start_head-marks.ensures.tie ∙ ap₂ (λ x o. record { lists = seen_whole x.lists o; seat = x.seat }) c.begin.ensures.tie orders_are))

@@ -140,8 +140,8 @@ start_below-marks-requires-clause-room g c =
     let at = row_at_read c.self.inside.rows.items c.args.iteration r inside c.index_mut-row.ensures.value in
     room g.M.Stands.whole g.M.Stands.stands g.M.Stands.tie (tables_of c.self.inside) c.self.invariant.0 c.args.iteration going may r at
 
-pub started-requires : goal.started-requires
-started-requires g c =
+pub start_below-marks-requires-clause-belongs : goal.start_below-marks-requires-clause-belongs
+start_below-marks-requires-clause-belongs g c =
     let going = subst (λ v. (state_of v).stopped ≡ false) (sym c.self.view_is) c.requires.going in
     let may = subst (λ v. MayEnter (state_of v) c.args.iteration) (sym c.self.view_is) c.requires.may in
     let s = state_of (book_state (tables_of c.self.inside)) in
@@ -151,7 +151,7 @@ started-requires g c =
     let held : r.token ≡ Some c.in-Some.token = sym c.take_token.ensures.token ∙ c.in-Some.is in
     let st : Pending c.in-Pending.kind c.in-Pending.number ≡ may.frame.status = sym c.in-Pending.is ∙ (c.status.ensures ∙ (ap (λ (z : Row _). z.status) c.take_token.ensures.row ∙ (row_matches g.M.Stands.whole g.M.Stands.stands g.M.Stands.tie (tables_of c.self.inside) c.self.invariant.0 c.args.iteration going may r at).status)) in
     let m = may_as s c.args.iteration may c.in-Pending.kind c.in-Pending.number (sym st) in
-    rw c.start_below-marks.ensures.lists (kept g.M.Stands.whole g.M.Stands.stands g.M.Stands.tie (tables_of c.self.inside) c.self.invariant.0 c.args.iteration going m r at c.in-Some.token held).belongs
+    (kept g.M.Stands.whole g.M.Stands.stands g.M.Stands.tie (tables_of c.self.inside) c.self.invariant.0 c.args.iteration going m r at c.in-Some.token held).belongs
 
 pub stamp-requires-clause-room : goal.stamp-requires-clause-room
 stamp-requires-clause-room g c =
@@ -250,7 +250,7 @@ invariant_of-self g c =
     let rows_too : c.as_slice-2.result.now ≡ rows g.M.Stands.whole g.M.Stands.stands g.M.Stands.tie (tables_of c.self.inside) c.self.invariant.0 c.args.iteration going m r at = c.as_slice-2.ensures.value ∙ ap (set c.self.inside.rows.items c.args.iteration) c.take_token.ensures.row in
     let e2 = c.index_mut-row-2.ensures.value ∙ (get_or-set_same c.self.inside.rows.items c.args.iteration c.take_token.new.self c.index_mut-row-2.result.now inside ∙ c.take_token.ensures.row) in
     let status = status_is g.M.Stands.whole g.M.Stands.stands g.M.Stands.tie (tables_of c.self.inside) c.self.invariant.0 c.args.iteration going may r at in
-    rw (set-set c.self.inside.rows.items c.args.iteration c.take_token.new.self c.enter.new.self, c.enter.ensures, e2, c.start_below-marks.ensures.marks, c.started.ensures.orders, c.start_below-marks.ensures.lists, rows_too, c.stamp.ensures.log, num) (enter_keeps g.M.Stands.whole g.M.Stands.stands g.M.Stands.tie (tables_of c.self.inside) c.self.invariant.0 c.args.iteration going m r at c.in-Some.token held c.left_place-left.result none some nothing, alive_set c.self.inside.rows.items _ c.args.iteration r _ _ _ at (ap is_completed status) c.self.invariant.1)
+    rw (set-set c.self.inside.rows.items c.args.iteration c.take_token.new.self c.enter.new.self, c.enter.ensures, e2, c.start_below-marks.ensures.marks, c.start_below-marks.ensures.lists, rows_too, c.stamp.ensures.log, num) (enter_keeps g.M.Stands.whole g.M.Stands.stands g.M.Stands.tie (tables_of c.self.inside) c.self.invariant.0 c.args.iteration going m r at c.in-Some.token held c.left_place-left.result none some nothing, alive_set c.self.inside.rows.items _ c.args.iteration r _ _ _ at (ap is_completed status) c.self.invariant.1)
 
 pub returns-clause-book : goal.returns-clause-book
 returns-clause-book g c =
@@ -271,7 +271,7 @@ returns-clause-book g c =
     let nothing = subst (λ rs. WaitsAt m.kind c.args.iteration → IfNone c.left_place-left.result ((j : ℕ) → IsLastUpTo (left_numbers rs c.args.iteration) j m.number → j ≤ c.in-Some.token.joined)) rows_are (subst (λ z. WaitsAt m.kind c.args.iteration → IfNone c.left_place-left.result ((j : ℕ) → IsLastUpTo (left_numbers c.as_slice.result.now c.args.iteration) j z → j ≤ c.in-Some.token.joined)) num c.left_place-left.ensures.nothing) in
     let rows_too : c.as_slice-2.result.now ≡ rows g.M.Stands.whole g.M.Stands.stands g.M.Stands.tie (tables_of c.self.inside) c.self.invariant.0 c.args.iteration going m r at = c.as_slice-2.ensures.value ∙ ap (set c.self.inside.rows.items c.args.iteration) c.take_token.ensures.row in
     let e2 = c.index_mut-row-2.ensures.value ∙ (get_or-set_same c.self.inside.rows.items c.args.iteration c.take_token.new.self c.index_mut-row-2.result.now inside ∙ c.take_token.ensures.row) in
-    rw (set-set c.self.inside.rows.items c.args.iteration c.take_token.new.self c.enter.new.self, c.enter.ensures, e2, c.start_below-marks.ensures.marks, c.started.ensures.orders, c.start_below-marks.ensures.lists, rows_too, c.stamp.ensures.log, num, ← c.self.view_is) (enter_view g.M.Stands.whole g.M.Stands.stands g.M.Stands.tie (tables_of c.self.inside) c.self.invariant.0 c.args.iteration going m r at c.in-Some.token held c.left_place-left.result none some nothing)
+    rw (set-set c.self.inside.rows.items c.args.iteration c.take_token.new.self c.enter.new.self, c.enter.ensures, e2, c.start_below-marks.ensures.marks, c.start_below-marks.ensures.lists, rows_too, c.stamp.ensures.log, num, ← c.self.view_is) (enter_view g.M.Stands.whole g.M.Stands.stands g.M.Stands.tie (tables_of c.self.inside) c.self.invariant.0 c.args.iteration going m r at c.in-Some.token held c.left_place-left.result none some nothing)
 
 pub returns-clause-instance : goal.returns-clause-instance
 returns-clause-instance g c =
@@ -324,6 +324,6 @@ returns-clause-token g c =
     let nothing = subst (λ rs. WaitsAt m.kind c.args.iteration → IfNone c.left_place-left.result ((j : ℕ) → IsLastUpTo (left_numbers rs c.args.iteration) j m.number → j ≤ c.in-Some.token.joined)) rows_are (subst (λ z. WaitsAt m.kind c.args.iteration → IfNone c.left_place-left.result ((j : ℕ) → IsLastUpTo (left_numbers c.as_slice.result.now c.args.iteration) j z → j ≤ c.in-Some.token.joined)) num c.left_place-left.ensures.nothing) in
     let rows_too : c.as_slice-2.result.now ≡ rows g.M.Stands.whole g.M.Stands.stands g.M.Stands.tie (tables_of c.self.inside) c.self.invariant.0 c.args.iteration going m r at = c.as_slice-2.ensures.value ∙ ap (set c.self.inside.rows.items c.args.iteration) c.take_token.ensures.row in
     let e2 = c.index_mut-row-2.ensures.value ∙ (get_or-set_same c.self.inside.rows.items c.args.iteration c.take_token.new.self c.index_mut-row-2.result.now inside ∙ c.take_token.ensures.row) in
-    rw (set-set c.self.inside.rows.items c.args.iteration c.take_token.new.self c.enter.new.self, c.enter.ensures, e2, c.start_below-marks.ensures.marks, c.started.ensures.orders, c.start_below-marks.ensures.lists, rows_too, c.stamp.ensures.log, num, c.stamp.ensures.ticket, c.unwrap_or.ensures) (enter_given g.M.Stands.whole g.M.Stands.stands g.M.Stands.tie (tables_of c.self.inside) c.self.invariant.0 c.args.iteration going m r at c.in-Some.token held c.left_place-left.result none some nothing c.started.new.self
-    (λ replies q. c.started.ensures.stands (tree_of c.self.inside.program) c.self.inside.input c.args.iteration replies q)
-    (c.started.ensures.tie ∙ ap (λ o. record { lists = seen_whole (g.M.Stands.tie c.in-Some.token.payload).lists o; seat = (g.M.Stands.tie c.in-Some.token.payload).seat }) (c.start_below-marks.ensures.lists ∙ ap (λ rs. with_start c.self.inside.orders (down_taken (Some (marks_at rs c.args.iteration c.in-Some.token.index)) (left_marks rs c.args.iteration c.left_place-left.result)) (right_taken (Some (marks_at rs c.args.iteration c.in-Some.token.index)) (left_marks rs c.args.iteration c.left_place-left.result))) rows_too)))
+    rw (set-set c.self.inside.rows.items c.args.iteration c.take_token.new.self c.enter.new.self, c.enter.ensures, e2, c.start_below-marks.ensures.marks, c.start_below-marks.ensures.lists, rows_too, c.stamp.ensures.log, num, c.stamp.ensures.ticket, c.unwrap_or.ensures) (enter_given g.M.Stands.whole g.M.Stands.stands g.M.Stands.tie (tables_of c.self.inside) c.self.invariant.0 c.args.iteration going m r at c.in-Some.token held c.left_place-left.result none some nothing c.start_below-marks.new.payload
+    (λ replies q. c.start_below-marks.ensures.stands (tree_of c.self.inside.program) c.self.inside.input c.args.iteration replies q)
+    (c.start_below-marks.ensures.tie ∙ ap (λ o. record { lists = seen_whole (g.M.Stands.tie c.in-Some.token.payload).lists o; seat = (g.M.Stands.tie c.in-Some.token.payload).seat }) (c.start_below-marks.ensures.lists ∙ ap (λ rs. with_start c.self.inside.orders (down_taken (Some (marks_at rs c.args.iteration c.in-Some.token.index)) (left_marks rs c.args.iteration c.left_place-left.result)) (right_taken (Some (marks_at rs c.args.iteration c.in-Some.token.index)) (left_marks rs c.args.iteration c.left_place-left.result))) rows_too)))

@@ -4,8 +4,8 @@ use Rattle.pipe_model.specs.Orders.OrderMarks.{start_marks}
 use Rattle.frame_book.specs.IterationRows.{marks_at, left_marks, marks_of_row}
 use Rattle.frame_book.proofs.Iterations.FrameRows.{row_at_read}
 use Rattle.frame_book.proofs.StartedInstances.StartRows.{marks_within, left_marks_is}
-use Rattle.frame_book.proofs.start.start_below.Goals as goal
-use Rattle.frame_book.proofs.start.start_below.Goals.{in-Some, in-None}
+use Rattle.frame_book.proofs.start.insert_below.Goals as goal
+use Rattle.frame_book.proofs.start.insert_below.Goals.{in-Some, in-None}
 
 pub offset_bounds-rows-iteration : goal.offset_bounds-rows-iteration
 offset_bounds-rows-iteration g c = let w = marks_within c.args.rows.now c.args.iteration c.args.index c.requires.up in omega (arith, w)

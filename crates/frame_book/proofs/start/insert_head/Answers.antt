@@ -4,7 +4,7 @@ use Rattle.pipe_model.specs.Orders.OrderMarks.{start_marks}
 use Rattle.frame_book.specs.IterationRows.{head_marks}
 use Rattle.frame_book.proofs.Iterations.FrameRows.{row_at_read}
 use Rattle.frame_book.proofs.StartedInstances.StartRows.{head_marks_is}
-use Rattle.frame_book.proofs.start.start_head.Goals as goal
+use Rattle.frame_book.proofs.start.insert_head.Goals as goal
 
 pub start_node-requires-clause-inserted : goal.start_node-requires-clause-inserted
 start_node-requires-clause-inserted g c =
