@@ -3,3 +3,4 @@ pub mod UnderWay
 pub mod TurnCandidates
 pub mod ChangedEntries
 pub mod ScheduleEvents
+pub mod Playing

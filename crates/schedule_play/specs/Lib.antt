@@ -6,4 +6,5 @@ pub mod HeldInstances
 pub mod Turns
 pub mod AliveChanges
 pub mod ScheduleStates
+pub mod PlayStates
 pub mod ScheduleExamples

@@ -8,6 +8,7 @@ pub mod held;
 pub mod instance;
 pub mod law;
 pub mod one_access;
+pub mod player;
 pub mod runner;
 pub mod running_instance;
 pub mod schedule;

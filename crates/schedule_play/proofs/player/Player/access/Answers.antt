@@ -1,0 +1,77 @@
+use Rattle.std.proofs.Common.{◌≡◌, ◌∙◌, ◌<◌, ◌+◌, ◌++◌, ◌∷◌, [], arith, ap, sym, subst, length, List, ℤ, Some, None, IfSome, slice_index_or}
+use Rattle.std.proofs.lemmas.List.{get_or_default, set-set}
+use Rattle.pipe_model.specs.declared.event.Event.TheVariants as events
+use Rattle.pipe_model.specs.declared.stage.StageEnd.TheVariants as stage_ends
+use Rattle.pipe_model.specs.Language.SyntaxTree.{tree_of}
+use Rattle.frame_book.specs.BookStates.{item_or, replies_at}
+use Rattle.schedule_play.specs.HeldInstances.{HeldState, IsHeld}
+use Rattle.schedule_play.specs.PlayStates.{IsPlay, PlayState}
+use Rattle.schedule_play.proofs.Playing.Accesses.{access_made, fits, slot_taken, slot_within}
+use Rattle.schedule_play.proofs.player.Player.access.Goals as goal
+
+pub index_mut-requires : goal.index_mut-requires
+index_mut-requires g c =
+    let code = g.B.PlayedCode.code in
+    let cells = g.B.PlayedCode.cells in
+    let v = c.args.self.now in
+    let i = c.args.iteration in
+    let long = c.self.inside.running.ok.0 in
+    let same = ap (λ (x : PlayState). length x.running) c.self.view_is in
+    let within = slot_within code cells v c.requires.play i c.requires.runs.frame c.requires.runs.is in
+    let here : i < c.self.inside.running.len = omega (arith, long, same, within) in
+    here
+
+pub unreachable-requires : goal.unreachable-requires
+unreachable-requires g c =
+    let code = g.B.PlayedCode.code in
+    let cells = g.B.PlayedCode.cells in
+    let v = c.args.self.now in
+    let i = c.args.iteration in
+    let running = ap (λ (x : PlayState). x.running) c.self.view_is in
+    let within = slot_within code cells v c.requires.play i c.requires.runs.frame c.requires.runs.is in
+    let slot = c.take.ensures.value ∙ c.index_mut.ensures.value ∙ ap (λ l. slice_index_or l i c.index_mut.result.now) running
+    ∙ get_or_default v.running i c.index_mut.result.now None within in
+    slot_taken code cells v c.requires.play i c.requires.runs (sym slot ∙ c.in_default.is)
+
+pub access-requires-clause-stopped : goal.access-requires-clause-stopped
+access-requires-clause-stopped g c =
+    let code = g.B.PlayedCode.code in
+    let cells = g.B.PlayedCode.cells in
+    let v = c.args.self.now in
+    let i = c.args.iteration in
+    let running = ap (λ (x : PlayState). x.running) c.self.view_is in
+    let within = slot_within code cells v c.requires.play i c.requires.runs.frame c.requires.runs.is in
+    let slot = c.take.ensures.value ∙ c.index_mut.ensures.value ∙ ap (λ l. slice_index_or l i c.index_mut.result.now) running
+    ∙ get_or_default v.running i c.index_mut.result.now None within in
+    subst (λ o. IfSome o (λ (h : HeldState). h.next ≡ stage_ends.Stopped)) (sym slot ∙ c.in-Some.is) c.requires.next
+
+pub access-requires-clause-held : goal.access-requires-clause-held
+access-requires-clause-held g c =
+    let code = g.B.PlayedCode.code in
+    let cells = g.B.PlayedCode.cells in
+    let v = c.args.self.now in
+    let i = c.args.iteration in
+    let running = ap (λ (x : PlayState). x.running) c.self.view_is in
+    let within = slot_within code cells v c.requires.play i c.requires.runs.frame c.requires.runs.is in
+    let slot = c.take.ensures.value ∙ c.index_mut.ensures.value ∙ ap (λ l. slice_index_or l i c.index_mut.result.now) running
+    ∙ get_or_default v.running i c.index_mut.result.now None within in
+    let at = fits code cells v c.requires.play i c.requires.runs.frame c.requires.runs.is c.requires.runs.runs c.in-Some.held (sym slot ∙ c.in-Some.is) in
+    (tree_of v.book.program, (replies_at v.book i, subst (λ (l : List ℤ). IsHeld code cells (tree_of v.book.program) l (replies_at v.book i) c.in-Some.held) (sym c.requires.input) at.held))
+
+pub index_mut-requires-2 : goal.index_mut-requires-2
+index_mut-requires-2 g c =
+    let code = g.B.PlayedCode.code in
+    let cells = g.B.PlayedCode.cells in
+    let v = c.args.self.now in
+    let i = c.args.iteration in
+    let long = c.self.inside.running.ok.0 in
+    let same = ap (λ (x : PlayState). length x.running) c.self.view_is in
+    let within = slot_within code cells v c.requires.play i c.requires.runs.frame c.requires.runs.is in
+    let here : i < c.self.inside.running.len = omega (arith, long, same, within) in
+    here
+
+pub returns-clause-play : goal.returns-clause-play
+returns-clause-play g c = ?
+
+pub returns-clause-event : goal.returns-clause-event
+returns-clause-event g c = ?
