@@ -95,7 +95,8 @@ impl<B: PlayedCode> Player<B> {
         requires play { IsPlay B.code B.cells self.old }
         requires next { next_event (pipeline_played self.old) (run_state self.old) iteration ≡ Some (events.Enter iteration) }
         ensures play { IfOk result (λ u. IsPlay B.code B.cells self.new) }
-        ensures event { IfOk result (λ u. self.new.events ≡ self.old.events ++ events.Enter iteration ∷ []) }
+        ensures event { IfOk result (λ u. (e : PlainEvent) → next_event (pipeline_played self.old) (run_state self.old) iteration ≡ Some e
+            → self.new.events ≡ self.old.events ++ e ∷ []) }
         ensures keeps { IfOk result (λ u. KeepsProgram self.old self.new) }
     {
         let Some(token) = self.book.enter(iteration) else {
@@ -181,10 +182,13 @@ impl<B: PlayedCode> Player<B> {
             → self.new.events ≡ self.old.events ++ e ∷ []) }
         ensures keeps { IfOk result (λ u. KeepsProgram self.old self.new) }
     {
-        match self.end_of_running(iteration) {
-            None => self.enter(alloc, code, input, iteration),
-            Some(StageEnd::Stopped) => self.access(code, input, iteration),
-            Some(end) => self.end(iteration, end),
+        let Some(end) = self.end_of_running(iteration) else {
+            return self.enter(alloc, code, input, iteration);
+        };
+        if end == StageEnd::Stopped {
+            self.access(code, input, iteration)
+        } else {
+            self.end(iteration, end)
         }
     }
 
