@@ -1,6 +1,6 @@
 //! A run that is made event by event, on one thread.
 
-ghost use Rattle.std.specs.Prelude.{◌≡◌, ◌≢◌, ◌<◌, ◌++◌, ◌∷◌, [], IfOk, IfSome, None, Some, length, option_map};
+ghost use Rattle.std.specs.Prelude.{◌≡◌, ◌≢◌, ◌↔◌, ◌<◌, ◌++◌, ◌∷◌, [], IfOk, IfSome, IsTrue, None, Some, length, option_map};
 ghost use Rattle.frame_book.specs.BookStates.{item_or};
 ghost use Rattle.pipe_model.specs.declared.event.Event.{Event as PlainEvent};
 ghost use Rattle.pipe_model.specs.declared.event.Event.TheVariants as events;
@@ -57,6 +57,20 @@ impl<B: PlayedCode> Model for Player<B> {
       events = p.events;
       accesses = p.accesses;
     } };
+}
+
+// Returns whether the instance was stopped, before an access.
+fn is_stopped(end: StageEnd) -> bool
+    ensures { IsTrue result ↔ (end ≡ StageEnd.Stopped) }
+{
+    match end {
+        StageEnd::Stopped => true,
+        StageEnd::Wait(_) => false,
+        StageEnd::Continue(_) => false,
+        StageEnd::End => false,
+        StageEnd::Closed => false,
+        StageEnd::Trap(_) => false,
+    }
 }
 
 impl<B: PlayedCode> Player<B> {
@@ -185,7 +199,7 @@ impl<B: PlayedCode> Player<B> {
         let Some(end) = self.end_of_running(iteration) else {
             return self.enter(alloc, code, input, iteration);
         };
-        if end == StageEnd::Stopped {
+        if is_stopped(end) {
             self.access(code, input, iteration)
         } else {
             self.end(iteration, end)

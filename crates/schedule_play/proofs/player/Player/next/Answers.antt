@@ -51,5 +51,5 @@ end-requires g c =
       play = c.requires.play;
       runs = runs_by_slot code cells v c.requires.play c.args.iteration k.0 k.1 c.requires.next.0 c.requires.next.1;
       next = subst (λ o. IfSome o (λ (h : HeldState). h.next ≡ c.in-Some.end)) (sym k.1) k.2;
-      ends = λ q. absurd (let z : true ≡ false = sym (c.eq.ensures.1 q) ∙ c.if-eq.false in cc);
+      ends = λ q. absurd (let z : true ≡ false = sym (c.is_stopped.ensures.1 q) ∙ c.if-is_stopped.false in cc);
     }
