@@ -5,3 +5,5 @@ pub mod Accesses
 pub mod Ends
 pub mod Enters
 pub mod Begins
+pub mod Turns
+pub mod Beginnings

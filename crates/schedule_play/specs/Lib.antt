@@ -6,5 +6,6 @@ pub mod HeldInstances
 pub mod Turns
 pub mod AliveChanges
 pub mod ScheduleStates
+pub mod Openings
 pub mod PlayStates
 pub mod ScheduleExamples

@@ -8,6 +8,8 @@ pub mod held;
 pub mod instance;
 pub mod law;
 pub mod one_access;
+mod opening;
+pub mod play;
 pub mod player;
 pub mod runner;
 pub mod running_instance;

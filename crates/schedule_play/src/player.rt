@@ -1,22 +1,34 @@
 //! A run that is made event by event, on one thread.
 
-ghost use Rattle.std.specs.Prelude.{◌≡◌, ◌≢◌, ◌↔◌, ◌<◌, ◌++◌, ◌∷◌, [], IfOk, IfSome, IsTrue, None, Some, length, option_map};
+ghost use Rattle.std.specs.Prelude.{◌≡◌, ◌≢◌, ◌↔◌, ◌<◌, ◌≤◌, ◌+◌, ℕ, List, ◌++◌, ◌∷◌, [], IfOk, IfSome, IsTrue, None, Some, length, option_map};
+ghost use Rattle.cell_store.specs.ShardState.{IsStateAfter};
 ghost use Rattle.frame_book.specs.BookStates.{item_or};
+ghost use Rattle.pipe_model.specs.Language.CheckingRules.{cell_total};
+ghost use Rattle.pipe_model.specs.Language.Programs.{store_of};
+ghost use Rattle.pipe_model.specs.Language.ProgramsOfTrees.{whole_of};
+ghost use Rattle.pipe_model.specs.Language.SourceRefusals.{IsAccepted};
+ghost use Rattle.pipe_model.specs.Language.SyntaxTree.{tree_of};
+ghost use Rattle.pipe_model.specs.Pipelines.WholePrograms.{init_accesses};
+ghost use Rattle.stage_interp.specs.Standing.{IsCodeOf};
+ghost use Rattle.schedule_play.specs.OneAccess.{HasAllCells};
 ghost use Rattle.pipe_model.specs.declared.event.Event.{Event as PlainEvent};
 ghost use Rattle.pipe_model.specs.declared.event.Event.TheVariants as events;
 ghost use Rattle.pipe_model.specs.Runs.Allowed.{IsRunning};
 ghost use Rattle.pipe_model.specs.Runs.NextEvents.{next_begin, next_event};
+ghost use Rattle.pipe_model.specs.Runs.Schedules.{candidates, chosen};
 ghost use Rattle.schedule_play.specs.HeldInstances.{HeldState};
 ghost use Rattle.schedule_play.specs.PlayStates.{IsPlay, KeepsProgram, pipeline_played, run_state};
 ghost use Rattle.schedule_play.specs.Turns.{turn_event};
 
 use crate::held::Held;
+use crate::opening::open_book;
 use crate::runner::{PlayedCode, Runner};
 use crate::schedule::Schedule;
 use crate::turns::Turn;
 use cell_store::cells::Cells;
 use frame_book::book::Book;
 use om_list::om_list::OmList;
+use pipe_check::checked::Checked;
 use pipe_frame::results::Begun;
 use pipe_model::access::{NodeAccess, NodeAccesses};
 use pipe_model::event::{Event, Events};
@@ -74,6 +86,42 @@ fn is_stopped(end: StageEnd) -> bool
 }
 
 impl<B: PlayedCode> Player<B> {
+    /// Returns a player at the beginning of the loop of a program, over cells that `init` has left. At
+    /// most `throttle` iterations may be alive. Returns an error only if memory runs out.
+    pub fn new(
+        alloc: Global,
+        checked: &Checked,
+        code: &Code,
+        input: &Numbers,
+        throttle: u32,
+        cells: Cells,
+    ) -> Result<Self, NoMemory>
+        requires code { code.now ≡ B.code }
+        requires code_of { IsCodeOf (tree_of checked.now) code.now }
+        requires accepted { (source : List ℕ) × IsAccepted source (tree_of checked.now) }
+        requires throttle { 0 < throttle }
+        requires cells { cells.shard.cells ≡ B.cells }
+        requires served { cell_total (tree_of checked.now).cells + 2 ≤ cells.shard.cells }
+        requires few { cells.shard.cells ≤ 4294967296 }
+        requires all { HasAllCells cells }
+        requires state { IsStateAfter (store_of (tree_of checked.now)) (init_accesses (whole_of (tree_of checked.now) input.now)) cells }
+        ensures play { IfOk result (λ player. IsPlay B.code B.cells player) }
+        ensures new { IfOk result (λ player. player.events ≡ []) }
+        ensures tree { IfOk result (λ player. tree_of player.book.program ≡ tree_of checked.now) }
+        ensures input { IfOk result (λ player. player.book.input ≡ input.now) }
+        ensures limit { IfOk result (λ player. player.book.limit ≡ throttle) }
+    {
+        let _limits = code.limits();
+        Ok(Player {
+            book: open_book(alloc, checked, code, input, throttle)?,
+            schedule: Schedule::new(alloc, throttle)?,
+            running: Vec::new(alloc),
+            cells,
+            events: Events::new(alloc),
+            accesses: NodeAccesses::new(alloc),
+        })
+    }
+
     // The event `Begin` of the next iteration.
     fn begin(&mut self, alloc: Global, code: &Code, input: &Numbers) -> Result<(), NoMemory>
         requires code { code.now ≡ B.code }
@@ -204,6 +252,16 @@ impl<B: PlayedCode> Player<B> {
         } else {
             self.end(iteration, end)
         }
+    }
+
+    /// Returns whose turn it is by this choice, if at most `workers` instances may run. Returns `None`
+    /// if there is no candidate for the next event.
+    pub fn choose(&self, workers: u32, choice: u32) -> Option<Turn>
+        requires play { IsPlay B.code B.cells self.now }
+        ensures { option_map (turn_event (pipeline_played self.now) self.now.book.limit (run_state self.now)) result
+            ≡ option_map Some (chosen choice (candidates (pipeline_played self.now) self.now.book.limit workers (run_state self.now))) }
+    {
+        self.schedule.choose(workers, choice)
     }
 
     /// Makes the event of a turn. Returns an error only if memory runs out.

@@ -176,10 +176,10 @@ pub access_made : (code : FlatCode) (cells : ℕ) (v : PlayState) (h : IsPlay co
     → cells'.shard ≡ v.cells.shard
     → (next_event (pipeline_played v) (run_state v) i ≡ Some (Access i a))
     × IsPlay code cells (record v {
-    running = set v.running i (Some k');
-    cells = cells';
-    events = v.events ++ Access i a ∷ [];
-    accesses = v.accesses ++ record { node = record { iteration = k'.token.iteration; index = k'.token.index }; access = a } ∷ [];
+      running = set v.running i (Some k');
+      cells = cells';
+      events = v.events ++ Access i a ∷ [];
+      accesses = v.accesses ++ record { node = record { iteration = k'.token.iteration; index = k'.token.index }; access = a } ∷ [];
     })
 access_made code cells v h i r k kept input same a k' cells' held event token trace state shard =
     let p = pipeline_played v in
@@ -196,10 +196,12 @@ access_made code cells v h i r k kept input same a k' cells' held event token tr
     let low : length v.events + 1 ≤ 2 ^ 62 + length v.book.log = (let short = (h.short v.events s h.run h.going).0 in omega (arith, short)) in
     let now : IsHeld code cells tree v.book.input replies k' = subst (λ l. IsHeld code cells tree l replies k') same (held tree replies mine) in
     let node : record { iteration = k.token.iteration; index = k.token.index } ≡ record { iteration = k'.token.iteration; index = k'.token.index } =
-    ap (λ (t : TokenFields). record { iteration = t.iteration; index = t.index }) (sym token) in
-    (next, subst (λ n. IsPlay code cells (record v {
-      running = set v.running i (Some k');
-      cells = cells';
-      events = v.events ++ Access i a ∷ [];
-      accesses = v.accesses ++ record { node = n; access = a } ∷ [];
-    })) node (accessed_on code cells v h i r.frame r.is r.runs k kept a (length v.events + 1) k' cells' next token low now trace (state p.store before h.state) shard))
+    ap (λ (t : TokenFields). record { iteration = t.iteration; index = t.index }) (sym token) in (
+      next,
+      subst (λ n. IsPlay code cells (record v {
+        running = set v.running i (Some k');
+        cells = cells';
+        events = v.events ++ Access i a ∷ [];
+        accesses = v.accesses ++ record { node = n; access = a } ∷ [];
+      })) node (accessed_on code cells v h i r.frame r.is r.runs k kept a (length v.events + 1) k' cells' next token low now trace (state p.store before h.state) shard),
+    )

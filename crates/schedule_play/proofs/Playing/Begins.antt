@@ -188,7 +188,11 @@ pub begun_made : {M : Type 0} (code : FlatCode) (cells : ℕ) (v : PlayState) (h
     → (schedule : ScheduleState) → ((s : State) → IsScheduleOf s v.schedule → IsScheduleOf (next_state s (Begin v.schedule.begun)) schedule)
     → schedule.limit ≡ v.schedule.limit
     → (e ≡ Begin token.iteration) × IsPlay code cells (record v {
-    book = after_begin v.book (results.Started token); schedule = schedule; running = v.running ++ Some k ∷ []; events = v.events ++ Begin token.iteration ∷ [] })
+      book = after_begin v.book (results.Started token);
+      schedule = schedule;
+      running = v.running ++ Some k ∷ [];
+      events = v.events ++ Begin token.iteration ∷ [];
+    })
 begun_made code cells v h e next token answer out machine stands k fields empty input same held schedule scheduled limited =
     let s = run_state v in
     let i = token.iteration in
@@ -197,7 +201,9 @@ begun_made code cells v h e next token answer out machine stands k fields empty 
     let may : MayBegin v.book.limit s i = ((agrees code cells v h).allow (Begin i)).1 answer.2 in
     let is : e ≡ Begin i = begin_event v.book.limit s e next ∙ ap Begin (sym may.number) in
     let number : v.schedule.begun ≡ i = h.schedule.begun ∙ sym may.number in
-    let there : IsHeld code cells tree input replies k = held tree replies (subst (λ l. IsAtInstance code cells tree l machine i replies) (sym same) stands) in
-    (is, begun_on code cells v h i (next ∙ ap Some is) k (ap (λ (x : TokenFields). x.iteration) fields)
-    (subst (IsOutOf (after_begin v.book (results.Started token))) (sym fields) out) (subst (λ l. IsHeld code cells tree l replies k) same there) empty
-    schedule (subst (λ j. IsScheduleOf (next_state s (Begin j)) schedule) number (scheduled s h.schedule)) (limited ∙ h.limit))
+    let there : IsHeld code cells tree input replies k = held tree replies (subst (λ l. IsAtInstance code cells tree l machine i replies) (sym same) stands) in (
+      is,
+      begun_on code cells v h i (next ∙ ap Some is) k (ap (λ (x : TokenFields). x.iteration) fields)
+          (subst (IsOutOf (after_begin v.book (results.Started token))) (sym fields) out) (subst (λ l. IsHeld code cells tree l replies k) same there) empty
+          schedule (subst (λ j. IsScheduleOf (next_state s (Begin j)) schedule) number (scheduled s h.schedule)) (limited ∙ h.limit),
+    )

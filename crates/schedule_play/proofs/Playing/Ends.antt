@@ -269,13 +269,19 @@ pub end_made : (code : FlatCode) (cells : ℕ) (v : PlayState) (h : IsPlay code 
     → schedule.limit ≡ v.schedule.limit
     → (next_event (pipeline_played v) (run_state v) i ≡ Some e)
     × IsPlay code cells (record v {
-    book = after_name_next v.book k.token k.next k.trace result; schedule = schedule; running = set v.running i None; events = v.events ++ e ∷ [] })
+      book = after_name_next v.book k.token k.next k.trace result;
+      schedule = schedule;
+      running = set v.running i None;
+      events = v.events ++ e ∷ [];
+    })
 end_made code cells v h i r k kept end at apart result answer e one schedule scheduled limited =
     let next = end_is_next code cells v h i r.frame r.is r.runs k kept (λ q. apart (sym at ∙ q)) e (ap (stage_end_events i) at ∙ one) in
     let allowed = allowed_here code cells v h i r.frame r.is r.runs k kept e (no_stop i end e one) next in
-    let control = subst (λ l. ControlAllows l (run_state v) e) (sym h.limit) allowed.control in
-    (next, end_on code cells v h i r.frame r.is r.runs k kept end at apart result (subst (λ x. NameReturns (state_of v.book) x result) at answer) e one schedule
-    (scheduled (run_state v) h.schedule control) (limited ∙ h.limit))
+    let control = subst (λ l. ControlAllows l (run_state v) e) (sym h.limit) allowed.control in (
+      next,
+      end_on code cells v h i r.frame r.is r.runs k kept end at apart result (subst (λ x. NameReturns (state_of v.book) x result) at answer) e one schedule
+          (scheduled (run_state v) h.schedule control) (limited ∙ h.limit),
+    )
   where
     no_stop : (i : ℕ) (end : StageEnd) (e : Event) → stage_end_events i end ≡ e ∷ [] → e ≢ Stop
     no_stop i (stage_ends.Wait n) e one q = absurd (cc)

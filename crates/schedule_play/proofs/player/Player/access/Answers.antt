@@ -3,7 +3,7 @@ use Rattle.std.proofs.lemmas.List.{get_or_default, set-set}
 use Rattle.pipe_model.specs.declared.event.Event.TheVariants as events
 use Rattle.pipe_model.specs.declared.stage.StageEnd.TheVariants as stage_ends
 use Rattle.pipe_model.specs.Language.SyntaxTree.{tree_of}
-use Rattle.frame_book.specs.BookStates.{item_or, replies_at}
+use Rattle.frame_book.specs.BookStates.{replies_at}
 use Rattle.schedule_play.specs.HeldInstances.{HeldState, IsHeld}
 use Rattle.pipe_model.specs.Runs.Allowed.{IsRunning}
 use Rattle.pipe_model.specs.Runs.NextEvents.{next_event}

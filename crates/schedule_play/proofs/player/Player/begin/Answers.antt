@@ -5,7 +5,7 @@ use Rattle.pipe_model.specs.Runs.NextEvents.{next_begin}
 use Rattle.frame_book.specs.BookStates.{BookState, state_of}
 use Rattle.frame_book.specs.GivenTokens.{IsGivenBy}
 use Rattle.schedule_play.specs.Runners.{IsAtInstance, no_tie}
-use Rattle.schedule_play.specs.PlayStates.{IsPlay, PlayState, pipeline_played, run_state}
+use Rattle.schedule_play.specs.PlayStates.{IsPlay, PlayState, run_state}
 use Rattle.schedule_play.proofs.Playing.Begins.{begin_fits, begin_possible, begun_made}
 use Rattle.schedule_play.proofs.player.Player.begin.Goals as goal
 

@@ -1,9 +1,7 @@
-use Rattle.std.proofs.Common.{◌≡◌, ◌≢◌, ◌∙◌, ◌<◌, ◌+◌, ◌++◌, ◌∷◌, [], arith, ap, sym, subst, length, List, ℤ, Some, None, IfSome, slice_index_or}
+use Rattle.std.proofs.Common.{◌≡◌, ◌∙◌, ◌<◌, ◌++◌, ◌∷◌, [], arith, ap, sym, subst, length, Some, None, IfSome, slice_index_or}
 use Rattle.std.proofs.lemmas.List.{get_or_default}
-use Rattle.pipe_model.specs.declared.event.Event.TheVariants as events
-use Rattle.pipe_model.specs.declared.stage.StageEnd.TheVariants as stage_ends
 use Rattle.pipe_model.specs.Language.SyntaxTree.{tree_of}
-use Rattle.frame_book.specs.BookStates.{BookState, item_or, replies_at}
+use Rattle.frame_book.specs.BookStates.{item_or, replies_at}
 use Rattle.frame_book.specs.GivenTokens.{IsOutOf}
 use Rattle.schedule_play.specs.HeldInstances.{HeldState, IsHeld}
 use Rattle.pipe_model.specs.Runs.Allowed.{IsRunning}

@@ -4,7 +4,6 @@ use Rattle.pipe_model.specs.declared.event.Event.TheVariants as events
 use Rattle.pipe_model.specs.Runs.Allowed.{MayEnter}
 use Rattle.pipe_model.specs.Runs.NextEvents.{next_event}
 use Rattle.frame_book.specs.BookStates.{BookState, state_of}
-use Rattle.frame_book.specs.CallEffects.{with_entered}
 use Rattle.frame_book.specs.GivenTokens.{IsGivenBy}
 use Rattle.schedule_play.specs.PlayStates.{IsPlay, PlayState, pipeline_played, run_state}
 use Rattle.schedule_play.specs.Runners.{IsAtInstance, no_tie}

@@ -1,9 +1,9 @@
-use Rattle.std.proofs.Common.{◌≡◌, ◌∙◌, ◌<◌, ap, sym, subst, refl, Option, Some, None, IfSome, true, false}
+use Rattle.std.proofs.Common.{◌≡◌, ◌∙◌, sym, subst, refl, Option, Some, None, IfSome, true, false}
 use Rattle.std.specs.Prelude.{option_map}
 use Rattle.pipe_model.specs.declared.stage.StageEnd.{StageEnd}
 use Rattle.frame_book.specs.BookStates.{item_or}
 use Rattle.schedule_play.specs.HeldInstances.{HeldState}
-use Rattle.schedule_play.specs.PlayStates.{PlayState, pipeline_played, run_state}
+use Rattle.schedule_play.specs.PlayStates.{pipeline_played, run_state}
 use Rattle.schedule_play.proofs.Playing.Accesses.{slot_within}
 use Rattle.schedule_play.proofs.Playing.Enters.{enters_next, frame_of_next, runs_by_slot}
 use Rattle.schedule_play.proofs.player.Player.next.Goals as goal
