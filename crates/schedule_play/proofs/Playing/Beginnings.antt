@@ -39,8 +39,9 @@ short_runs source tree input limit accepted ranges events s run going =
     let few = (accepted_programs_are_planned source tree input accepted).few in
     let steps : natural tree.limits.steps ≤ 1000000 = natural_most tree.limits.steps 1000000 ranges.steps.1 in
     let iterations : natural tree.limits.iterations ≤ 65536 = natural_most tree.limits.iterations 65536 ranges.iterations.1 in
+    let spent : 2 * natural tree.limits.steps + 2 ≤ 2 * 1000000 + 2 = omega (arith, steps) in
     let product : most_instances tree * (2 * natural tree.limits.steps + 2) ≤ 262145 * (2 * 1000000 + 2) =
-    le_trans (mul-le-mul_right (2 * natural tree.limits.steps + 2) few) (mul-le-mul_left 262145 (omega (arith, steps))) in
+    le_trans (mul-le-mul_right (2 * natural tree.limits.steps + 2) few) (mul-le-mul_left 262145 spent) in
     let a = bound.0 in
     let b = bound.1 in
     (omega (arith, a, product), omega (arith, b, iterations))
