@@ -4,3 +4,4 @@ pub mod TurnCandidates
 pub mod ChangedEntries
 pub mod ScheduleEvents
 pub mod Playing
+pub mod PlayedRuns

@@ -8,4 +8,5 @@ pub mod AliveChanges
 pub mod ScheduleStates
 pub mod Openings
 pub mod PlayStates
+pub mod LoopPlays
 pub mod ScheduleExamples

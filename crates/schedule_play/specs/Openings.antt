@@ -1,5 +1,5 @@
 -- What a play begins with.
-use Rattle.std.specs.Prelude.{◌≡◌, ℕ, []}
+use Rattle.std.specs.Prelude.{◌≡◌, []}
 use Rattle.order_2d.specs.OrderPairs.{OrderPair, OrderedList}
 use Rattle.pipe_frame.specs.Ties.{ListIdentities}
 use Rattle.schedule_play.specs.declared.opening.TheConstants.{MOST_ELEMENTS}

@@ -1,5 +1,5 @@
 -- What a player keeps of its run.
-use Rattle.std.specs.Prelude.{◌≡◌, ◌+◌, ◌<◌, ◌≤◌, ◌^◌, ◌++◌, ℕ, List, length, false, Option, Some, None}
+use Rattle.std.specs.Prelude.{◌≡◌, ◌<◌, ◌≤◌, ◌^◌, ◌++◌, ℕ, List, length, false, Option, Some, None}
 use Rattle.cell_store.specs.ShardState.{IsStateAfter, ShardState}
 use Rattle.pipe_frame.specs.Replies.{accessed}
 use Rattle.pipe_frame.specs.Ties.{BelongsTo}

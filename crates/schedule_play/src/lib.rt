@@ -7,6 +7,7 @@ pub mod examples;
 pub mod held;
 pub mod instance;
 pub mod law;
+pub mod loop_play;
 pub mod one_access;
 mod opening;
 pub mod play;

@@ -15,12 +15,14 @@ ghost use Rattle.pipe_model.specs.declared.event.Event.{Event as PlainEvent};
 ghost use Rattle.pipe_model.specs.declared.event.Event.TheVariants as events;
 ghost use Rattle.pipe_model.specs.Runs.Allowed.{IsRunning};
 ghost use Rattle.pipe_model.specs.Runs.NextEvents.{next_begin, next_event};
+ghost use Rattle.pipe_model.specs.Runs.Run.{IsFinished};
 ghost use Rattle.pipe_model.specs.Runs.Schedules.{candidates, chosen};
 ghost use Rattle.schedule_play.specs.HeldInstances.{HeldState};
 ghost use Rattle.schedule_play.specs.PlayStates.{IsPlay, KeepsProgram, pipeline_played, run_state};
 ghost use Rattle.schedule_play.specs.Turns.{turn_event};
 
 use crate::held::Held;
+use crate::instance::is_stopped;
 use crate::opening::open_book;
 use crate::runner::{PlayedCode, Runner};
 use crate::schedule::Schedule;
@@ -69,20 +71,6 @@ impl<B: PlayedCode> Model for Player<B> {
       events = p.events;
       accesses = p.accesses;
     } };
-}
-
-// Returns whether the instance was stopped, before an access.
-fn is_stopped(end: StageEnd) -> bool
-    ensures { IsTrue result ↔ (end ≡ StageEnd.Stopped) }
-{
-    match end {
-        StageEnd::Stopped => true,
-        StageEnd::Wait(_) => false,
-        StageEnd::Continue(_) => false,
-        StageEnd::End => false,
-        StageEnd::Closed => false,
-        StageEnd::Trap(_) => false,
-    }
 }
 
 impl<B: PlayedCode> Player<B> {
@@ -262,6 +250,24 @@ impl<B: PlayedCode> Player<B> {
             ≡ option_map Some (chosen choice (candidates (pipeline_played self.now) self.now.book.limit workers (run_state self.now))) }
     {
         self.schedule.choose(workers, choice)
+    }
+
+    /// Returns whether the run is finished: the loop is closed, and all iterations have ended.
+    pub fn is_finished(&self) -> bool
+        requires play { IsPlay B.code B.cells self.now }
+        requires limit { 0 < self.now.book.limit }
+        ensures { IsTrue result ↔ IsFinished (run_state self.now) }
+    {
+        self.schedule.choose(1, 0).is_none()
+    }
+
+    /// Returns the events so far, their accesses, and the cells.
+    pub fn into_run(self) -> (Events, NodeAccesses, Cells)
+        ensures events { result.0 ≡ self.events }
+        ensures accesses { result.1 ≡ self.accesses }
+        ensures cells { result.2 ≡ self.cells }
+    {
+        (self.events, self.accesses, self.cells)
     }
 
     /// Makes the event of a turn. Returns an error only if memory runs out.

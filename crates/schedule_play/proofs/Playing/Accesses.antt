@@ -7,8 +7,6 @@ use Rattle.pipe_model.specs.declared.access.Access.{Access as Cell_access}
 use Rattle.pipe_model.specs.declared.access.NodeAccess.{NodeAccess}
 use Rattle.pipe_model.specs.declared.event.Event.{Event}
 use Rattle.pipe_model.specs.declared.event.Event.TheVariants.{Access, Stop}
-use Rattle.pipe_model.specs.declared.node.Node.{Node}
-use Rattle.pipe_model.specs.declared.status.Status.{Status}
 use Rattle.pipe_model.specs.declared.status.Status.TheVariants.{Running}
 use Rattle.pipe_model.specs.declared.ticket.Entry.{Entry}
 use Rattle.pipe_model.specs.Language.Programs.{pipeline_of}
@@ -20,9 +18,8 @@ use Rattle.pipe_model.specs.Pipelines.Pipeline.{Pipeline}
 use Rattle.pipe_model.specs.Races.Columns.{at}
 use Rattle.pipe_model.specs.Runs.Allowed.{Allowed, IsRunning}
 use Rattle.pipe_model.specs.Runs.NextEvents.{event_of_behaviour, next_event}
-use Rattle.pipe_model.specs.Runs.RunLogs.{state_after}
 use Rattle.pipe_model.specs.Runs.State.{Frame, State, accesses_of, current_index, frame_at, next_state, update_frame, with_action}
-use Rattle.frame_book.specs.BookStates.{events_of, item_or, left_of, pipeline_in, replies_at, state_of}
+use Rattle.frame_book.specs.BookStates.{item_or, left_of, pipeline_in, replies_at, state_of}
 use Rattle.program_laws.proofs.AllowedEvents.{allowed_events_are_next, event_at_running}
 use Rattle.program_laws.proofs.ControlOutlines.{accesses_change_no_outline}
 use Rattle.order_2d.proofs.EventsSoFar.{without-append}
@@ -32,7 +29,6 @@ use Rattle.run_laws.proofs.RunStates.FrameMoves.{frame_at_moved}
 use Rattle.run_laws.proofs.RunStates.Frames.{frame_at_within, length-update_frame}
 use Rattle.stage_code.specs.FlatCode.{FlatCode}
 use Rattle.schedule_play.specs.HeldInstances.{HeldState, IsHeld}
-use Rattle.schedule_play.specs.OneAccess.{HasAllCells}
 use Rattle.schedule_play.specs.PlayStates.{FitsStatus, IsPlay, IsRunningAt, PlayState, pipeline_played, run_state}
 use Rattle.schedule_play.specs.RunningInstances.{next_of}
 use Rattle.schedule_play.proofs.Playing.Outlines.{schedule_of_control}

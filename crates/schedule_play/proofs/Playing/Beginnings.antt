@@ -1,30 +1,26 @@
 -- What a player begins with.
-use Rattle.std.proofs.Common.{◌≡◌, ◌≢◌, ◌∙◌, ap, ap₂, le_trans, negsuc, sym, subst, refl, ℕ, ℤ, pos, ◌+◌, ◌*◌, ◌<◌, ◌≤◌, ◌^◌, arith, List, [], ◌∷◌, ◌++◌, length, Option, Some, None, append-nil}
+use Rattle.std.proofs.Common.{◌≡◌, le_trans, negsuc, sym, subst, refl, ℕ, ℤ, pos, ◌+◌, ◌*◌, ◌≤◌, arith, List, [], Some, None, append-nil}
 use Rattle.std.specs.Prelude.{◌≤ℤ◌}
 use Rattle.std.proofs.Math.Nat.{mul-le-mul_left, mul-le-mul_right}
 use Rattle.cell_store.specs.ShardState.{IsStateAfter, ShardState}
 use Rattle.language_laws.proofs.WellFormed.{accepted_is_well_formed}
-use Rattle.pipe_model.specs.declared.bounds.TheConstants.{MOST_ITERATIONS, MOST_STEPS}
-use Rattle.pipe_model.specs.declared.event.Event.{Event}
 use Rattle.pipe_model.specs.declared.tree.Program.{Program}
-use Rattle.pipe_model.specs.Language.Programs.{natural, pipeline_of, store_of}
+use Rattle.pipe_model.specs.Language.Programs.{natural, store_of}
 use Rattle.pipe_model.specs.Language.ProgramsOfTrees.{pipeline_after_init, whole_of}
 use Rattle.pipe_model.specs.Language.SourceRefusals.{IsAccepted}
 use Rattle.pipe_model.specs.Language.SyntaxTree.{SyntaxTree, tree_of}
-use Rattle.pipe_model.specs.Pipelines.Pipeline.{IsWellFormed, Pipeline}
 use Rattle.pipe_model.specs.Pipelines.WholePrograms.{init_accesses}
 use Rattle.pipe_model.specs.Runs.Run.{EmptyRun}
-use Rattle.pipe_model.specs.Runs.State.{Frame, frame_at, initial_state}
+use Rattle.pipe_model.specs.Runs.State.{initial_state}
 use Rattle.program_laws.proofs.BoundedWork.{program_runs_are_bounded}
 use Rattle.program_laws.specs.WorkBounds.{most_instances}
-use Rattle.frame_book.specs.BookStates.{BookState}
-use Rattle.frame_book.specs.NewBooks.{IsPlannedProgram, new_book}
+use Rattle.frame_book.specs.NewBooks.{new_book}
 use Rattle.frame_book.proofs.PlannedPrograms.{accepted_programs_are_planned}
 use Rattle.stage_code.specs.FlatCode.{FlatCode}
 use Rattle.stage_code.specs.LimitRanges.{HasRangesOfLimits}
 use Rattle.schedule_play.specs.OneAccess.{HasAllCells}
 use Rattle.schedule_play.specs.Openings.{no_lists}
-use Rattle.schedule_play.specs.PlayStates.{HasShortRuns, IsPlay, PlayState, pipeline_played}
+use Rattle.schedule_play.specs.PlayStates.{HasShortRuns, IsPlay}
 use Rattle.schedule_play.specs.ScheduleStates.{IsScheduleOf, ScheduleState}
 
 natural_most : (z : ℤ) (n : ℕ) → z ≤ℤ pos n → natural z ≤ n

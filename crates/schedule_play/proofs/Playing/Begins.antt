@@ -1,9 +1,8 @@
 -- The beginning of an iteration in a run that is played.
-use Rattle.std.proofs.Common.{Bool, true, false, ◌&&◌, ◌-◌, nat_lt, ◌≡◌, ◌≢◌, ◌∙◌, ap, sym, subst, refl, ℕ, suc, ℤ, pos, ◌+◌, ◌≤◌, ◌<◌, ◌^◌, arith, inl, inr, List, [], ◌∷◌, ◌++◌, length, map, set, Option, Some, None}
-use Rattle.std.proofs.lemmas.List.{get_or-set_other, get_or-set_same, length-set, length_push}
+use Rattle.std.proofs.Common.{Bool, true, false, ◌&&◌, ◌-◌, nat_lt, ◌≡◌, ◌∙◌, ap, sym, subst, refl, ℕ, ℤ, ◌+◌, ◌<◌, arith, inl, inr, List, [], ◌∷◌, ◌++◌, length, map, Some, None}
+use Rattle.std.proofs.lemmas.List.{length_push}
 use Rattle.std.proofs.Math.ListN.{get_or-append}
 use Rattle.std.proofs.Math.Seq.{get_or-append_seam}
-use Rattle.cell_store.specs.ShardState.{IsStateAfter}
 use Rattle.pipe_frame.specs.Replies.{after_instances, replies_of}
 use Rattle.pipe_frame.specs.CallResults.{BeginReturns}
 use Rattle.pipe_frame.specs.TokenFields.{TokenFields, fields_of}
@@ -11,31 +10,28 @@ use Rattle.pipe_frame.specs.declared.results.Begun.{Begun}
 use Rattle.pipe_frame.specs.declared.results.Begun.TheVariants as results
 use Rattle.pipe_frame.specs.declared.token.FrameToken.{FrameToken}
 use Rattle.pipe_model.specs.declared.event.Event.{Event}
-use Rattle.pipe_model.specs.declared.event.Event.TheVariants.{Begin, Enter, Stop}
-use Rattle.pipe_model.specs.declared.node.Kind.{Kind}
-use Rattle.pipe_model.specs.declared.status.Status.{Status}
-use Rattle.pipe_model.specs.declared.status.Status.TheVariants.{Running, Pending}
+use Rattle.pipe_model.specs.declared.event.Event.TheVariants.{Begin}
+use Rattle.pipe_model.specs.declared.status.Status.TheVariants.{Running}
 use Rattle.pipe_model.specs.declared.ticket.BookEntry.{BookEntry}
 use Rattle.pipe_model.specs.declared.ticket.Entry.{Entry}
 use Rattle.pipe_model.specs.Language.SyntaxTree.{SyntaxTree, tree_of}
-use Rattle.pipe_model.specs.Pipelines.Behaviour.{Behaviour, behaviour_after_all}
+use Rattle.pipe_model.specs.Pipelines.Behaviour.{behaviour_after_all}
 use Rattle.pipe_model.specs.Pipelines.Pipeline.{Pipeline}
 use Rattle.pipe_model.specs.Runs.Allowed.{Allowed, IsClosed, LastEndedFirstInstance, MayBegin}
 use Rattle.pipe_model.specs.Runs.NextEvents.{event_if, frame_continues_loop, next_begin}
-use Rattle.pipe_model.specs.Runs.State.{Frame, State, accesses_of, alive, enter_pending, frame_at, fresh_frame, next_state, update_frame}
+use Rattle.pipe_model.specs.Runs.State.{Frame, State, alive, frame_at, fresh_frame, next_state}
 use Rattle.frame_book.specs.BookStates.{BookState, TokenState, Out, Spent, events_of, item_or, left_of, pipeline_in, replies_at, state_of, with_events}
 use Rattle.frame_book.specs.CallEffects.{after_begin}
 use Rattle.frame_book.specs.GivenTokens.{IsOutOf}
 use Rattle.frame_book.proofs.BookLogs.LogEntries.{events_of_with}
 use Rattle.program_laws.proofs.AllowedEvents.{begin_is_allowed}
-use Rattle.run_laws.proofs.RunStates.FrameMoves.{enter_pending_is, entered_frame, frame_at_begun, frame_at_moved}
+use Rattle.run_laws.proofs.RunStates.FrameMoves.{frame_at_begun}
 use Rattle.run_laws.proofs.RunStates.LoopEnds.{iterations_begin_in_turn}
-use Rattle.run_laws.proofs.RunStates.Frames.{frame_at_within, length-update_frame}
 use Rattle.stage_code.specs.FlatCode.{FlatCode}
 use Rattle.schedule_play.specs.HeldInstances.{HeldState, IsHeld}
 use Rattle.stage_interp.specs.MachineState.{MachineState}
 use Rattle.schedule_play.specs.Runners.{IsAtInstance}
-use Rattle.schedule_play.specs.PlayStates.{FitsStatus, IsPlay, IsRunningAt, KeepsRunning, PlayState, pipeline_played, run_state}
+use Rattle.schedule_play.specs.PlayStates.{FitsStatus, IsPlay, IsRunningAt, PlayState, pipeline_played, run_state}
 use Rattle.schedule_play.specs.ScheduleStates.{IsScheduleOf, ScheduleState}
 use Rattle.schedule_play.proofs.Playing.Steps.{agrees, book_run, fits_still, logged, played_on, same_control, still_short}
 use Rattle.schedule_play.proofs.ChangedEntries.{alive_count}

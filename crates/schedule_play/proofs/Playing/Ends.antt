@@ -1,11 +1,11 @@
 -- The end of an instance in a run that is played.
-use Rattle.std.proofs.Common.{◌≡◌, ◌≢◌, ◌∙◌, ap, sym, subst, refl, ℕ, suc, ℤ, ◌+◌, ◌≤◌, ◌<◌, arith, inl, inr, List, [], ◌∷◌, ◌++◌, true, false, length, map, max, set, Option, Some, None}
+use Rattle.std.proofs.Common.{◌≡◌, ◌≢◌, ◌∙◌, ap, sym, subst, refl, ℕ, ℤ, ◌+◌, ◌<◌, arith, inl, inr, List, [], ◌∷◌, ◌++◌, true, false, length, map, max, set, Option, Some, None}
 use Rattle.std.proofs.lemmas.List.{get_or-set_other, get_or-set_same, length-set, map-append}
 use Rattle.cell_store.specs.ShardState.{IsStateAfter}
 use Rattle.pipe_frame.specs.CallResults.{NameReturns}
 use Rattle.pipe_frame.specs.declared.results.Named.{Named}
 use Rattle.pipe_frame.specs.declared.results.Named.TheVariants as named
-use Rattle.pipe_frame.specs.Replies.{accessed, after_instance, after_instances, replies_of}
+use Rattle.pipe_frame.specs.Replies.{accessed, after_instances, replies_of}
 use Rattle.pipe_frame.specs.StageEndCases.{EndsIteration, NamesNextStage}
 use Rattle.pipe_model.specs.declared.column.ColumnEnd.{ColumnEnd}
 use Rattle.pipe_model.specs.declared.column.ColumnEnd.TheVariants as ends
@@ -26,7 +26,7 @@ use Rattle.pipe_model.specs.Runs.ControlRun.{is_access}
 use Rattle.pipe_model.specs.Runs.NextEvents.{next_event}
 use Rattle.pipe_model.specs.Runs.StageEnds.{stage_end_events}
 use Rattle.pipe_model.specs.Runs.State.{Frame, State, accesses_of, frame_at, next_state, update_frame, with_action}
-use Rattle.frame_book.specs.BookStates.{BookState, TokenState, Kept, Spent, events_of, item_or, last_ticket, left_of, pipeline_in, replies_at, state_of, with_events}
+use Rattle.frame_book.specs.BookStates.{TokenState, Kept, Spent, events_of, item_or, last_ticket, left_of, pipeline_in, replies_at, state_of, with_events}
 use Rattle.frame_book.specs.CallEffects.{after_name_next}
 use Rattle.frame_book.specs.TokenLaws.{EndsNoneOf}
 use Rattle.frame_book.proofs.BookLogs.LogEntries.{events_of_with}

@@ -1,36 +1,32 @@
 -- The entering of a stage in a run that is played.
-use Rattle.std.proofs.Common.{Bool, true, false, ◌⊎◌, ◌≡◌, ◌≢◌, ◌∙◌, ap, sym, subst, refl, ℕ, suc, ℤ, pos, ◌+◌, ◌≤◌, ◌<◌, ◌^◌, arith, inl, inr, List, [], ◌∷◌, ◌++◌, length, map, set, Option, Some, None}
-use Rattle.std.proofs.lemmas.List.{get_or-set_other, get_or-set_same, length-set, length_push}
-use Rattle.std.proofs.Math.ListN.{get_or-append}
-use Rattle.std.proofs.Math.Seq.{get_or-append_seam}
-use Rattle.cell_store.specs.ShardState.{IsStateAfter}
+use Rattle.std.proofs.Common.{Bool, true, false, ◌⊎◌, ◌≡◌, ◌∙◌, ap, sym, subst, refl, ℕ, ℤ, ◌<◌, arith, inl, inr, List, [], ◌∷◌, ◌++◌, length, set, Option, Some, None}
+use Rattle.std.proofs.lemmas.List.{get_or-set_other, get_or-set_same, length-set}
 use Rattle.pipe_frame.specs.Replies.{after_instances, replies_of}
 use Rattle.pipe_frame.specs.TokenFields.{TokenFields}
 use Rattle.pipe_model.specs.declared.event.Event.{Event}
-use Rattle.pipe_model.specs.declared.event.Event.TheVariants.{Begin, Enter, Stop}
+use Rattle.pipe_model.specs.declared.event.Event.TheVariants.{Enter}
 use Rattle.pipe_model.specs.declared.node.Kind.{Kind}
 use Rattle.pipe_model.specs.declared.status.Status.{Status}
 use Rattle.pipe_model.specs.declared.status.Status.TheVariants.{Running, Pending, Completed}
 use Rattle.pipe_model.specs.declared.ticket.BookEntry.{BookEntry}
-use Rattle.pipe_model.specs.declared.ticket.Entry.{Entry}
 use Rattle.pipe_model.specs.Language.SyntaxTree.{SyntaxTree, tree_of}
-use Rattle.pipe_model.specs.Pipelines.Behaviour.{Behaviour, behaviour_after_all}
+use Rattle.pipe_model.specs.Pipelines.Behaviour.{behaviour_after_all}
 use Rattle.pipe_model.specs.Pipelines.Pipeline.{Pipeline}
 use Rattle.pipe_model.specs.Runs.Allowed.{Allowed, IsRunning, MayEnter}
 use Rattle.pipe_model.specs.Runs.NextEvents.{event_if, event_of_frame, event_of_status, may_enter, next_event}
-use Rattle.pipe_model.specs.Runs.State.{Frame, State, accesses_of, enter_pending, frame_at, fresh_frame, next_state, update_frame}
-use Rattle.frame_book.specs.BookStates.{BookState, TokenState, Out, Spent, events_of, item_or, left_of, pipeline_in, replies_at, state_of, with_events}
+use Rattle.pipe_model.specs.Runs.State.{Frame, State, enter_pending, frame_at, next_state, update_frame}
+use Rattle.frame_book.specs.BookStates.{TokenState, Out, Spent, events_of, item_or, left_of, pipeline_in, replies_at, state_of, with_events}
 use Rattle.frame_book.specs.CallEffects.{kept_now, with_entered}
 use Rattle.frame_book.specs.GivenTokens.{IsOutOf}
 use Rattle.frame_book.proofs.BookLogs.LogEntries.{events_of_with}
 use Rattle.program_laws.proofs.AllowedEvents.{allowed_events_are_next}
-use Rattle.run_laws.proofs.RunStates.FrameMoves.{enter_pending_is, entered_frame, frame_at_begun, frame_at_moved}
+use Rattle.run_laws.proofs.RunStates.FrameMoves.{enter_pending_is, entered_frame, frame_at_moved}
 use Rattle.run_laws.proofs.RunStates.Frames.{frame_at_within, length-update_frame}
 use Rattle.stage_code.specs.FlatCode.{FlatCode}
 use Rattle.schedule_play.specs.HeldInstances.{HeldState, IsHeld}
 use Rattle.stage_interp.specs.MachineState.{MachineState}
 use Rattle.schedule_play.specs.Runners.{IsAtInstance}
-use Rattle.schedule_play.specs.PlayStates.{FitsStatus, IsPlay, IsRunningAt, KeepsRunning, PlayState, pipeline_played, run_state}
+use Rattle.schedule_play.specs.PlayStates.{FitsStatus, IsPlay, IsRunningAt, PlayState, pipeline_played, run_state}
 use Rattle.schedule_play.specs.ScheduleStates.{IsScheduleOf, ScheduleState}
 use Rattle.schedule_play.proofs.Playing.Steps.{agrees, fits_still, logged, played_on, same_control}
 

@@ -1,5 +1,5 @@
 -- A schedule is that of every run with the same control part.
-use Rattle.std.proofs.Common.{◌≡◌, ◌∙◌, ap, sym, subst, refl, ℕ, zero, suc, ℤ, ◌+◌, ◌-◌, ◌<◌, List, [], ◌∷◌, ◌++◌, Bool, length, map, Option, Some, if◌then◌else◌}
+use Rattle.std.proofs.Common.{◌≡◌, ◌∙◌, ap, sym, subst, refl, ℕ, zero, suc, ℤ, ◌+◌, ◌-◌, ◌<◌, List, [], ◌∷◌, ◌++◌, Bool, length, if◌then◌else◌}
 use Rattle.std.proofs.lemmas.List.{length-map}
 use Rattle.pipe_model.specs.declared.node.Kind.{Kind}
 use Rattle.pipe_model.specs.declared.node.Kind.TheVariants.{Zero, Wait, Continue}
@@ -10,10 +10,9 @@ use Rattle.pipe_model.specs.Runs.ControlParts.{HaveSameControl, outline_of, outl
 use Rattle.pipe_model.specs.Runs.NextEvents.{frame_continues_loop, frame_has_passed, left_has_passed, may_enter}
 use Rattle.pipe_model.specs.Runs.State.{Frame, State, frame_at}
 use Rattle.run_laws.proofs.LogMerge.ControlPart.{same_frame}
-use Rattle.schedule_play.specs.declared.turns.Alive.{Alive}
 use Rattle.schedule_play.specs.declared.turns.Standing.TheVariants.{MayEnter, MustWait}
 use Rattle.schedule_play.specs.ScheduleStates.{IsScheduleOf, ScheduleState}
-use Rattle.schedule_play.specs.Turns.{alive_entry, alive_from, alive_iterations}
+use Rattle.schedule_play.specs.Turns.{alive_entry, alive_from}
 
 passed_outline : (fs : List Frame) (j : ℕ) (n : ℤ) → frame_has_passed (frame_at (outlines_of fs) j) n ≡ frame_has_passed (frame_at fs j) n
 passed_outline [] j n = refl

@@ -1,5 +1,5 @@
 -- What one more event changes of what a player keeps.
-use Rattle.std.proofs.Common.{◌≡◌, ◌≢◌, ◌∙◌, ap, sym, subst, refl, ℕ, ℤ, ◌+◌, ◌≤◌, ◌<◌, ◌^◌, arith, List, [], ◌∷◌, ◌++◌, false, true, length, map, Option, Some, None}
+use Rattle.std.proofs.Common.{◌≡◌, ◌∙◌, ap, sym, subst, refl, ℕ, ◌+◌, ◌<◌, ◌^◌, arith, List, [], ◌∷◌, ◌++◌, false, length, map, Option, Some, None}
 use Rattle.cell_store.specs.ShardState.{IsStateAfter, ShardState}
 use Rattle.pipe_frame.specs.Replies.{accessed, after_instances, replies_of}
 use Rattle.pipe_frame.specs.TokenFields.{TokenFields}
@@ -17,8 +17,8 @@ use Rattle.pipe_model.specs.Runs.ControlParts.{HaveSameControl, control_after, w
 use Rattle.pipe_model.specs.Runs.ControlRun.{ControlRun, is_access}
 use Rattle.pipe_model.specs.Runs.Run.{Run, RunThen}
 use Rattle.pipe_model.specs.Runs.RunLogs.{state_after}
-use Rattle.pipe_model.specs.Runs.State.{Frame, State, accesses_of, initial_state, next_state}
-use Rattle.frame_book.specs.BookStates.{BookState, TokenState, Spent, events_of, item_or, left_of, pipeline_in, replies_at, state_of}
+use Rattle.pipe_model.specs.Runs.State.{State, accesses_of, initial_state, next_state}
+use Rattle.frame_book.specs.BookStates.{BookState, TokenState, Spent, events_of, item_or, pipeline_in, state_of}
 use Rattle.frame_book.specs.GivenTokens.{IsOutOf}
 use Rattle.frame_book.specs.TokenLaws.{EndsNoneOf}
 use Rattle.frame_book.proofs.BookLogs.LogEntries.{state_after-push}
@@ -29,7 +29,7 @@ use Rattle.program_laws.proofs.ControlOutlines.{control_goes_by_outlines, contro
 use Rattle.stage_code.specs.FlatCode.{FlatCode}
 use Rattle.schedule_play.specs.HeldInstances.{HeldState, IsHeld}
 use Rattle.schedule_play.specs.OneAccess.{HasAllCells}
-use Rattle.schedule_play.specs.PlayStates.{FitsStatus, IsPlay, IsRunningAt, KeepsRunning, PlayState, pipeline_played, run_state}
+use Rattle.schedule_play.specs.PlayStates.{FitsStatus, IsPlay, KeepsRunning, PlayState, pipeline_played, run_state}
 use Rattle.schedule_play.specs.ScheduleStates.{IsScheduleOf, ScheduleState}
 
 module _ (code : FlatCode) (cells : ℕ) (v : PlayState) (h : IsPlay code cells v) where

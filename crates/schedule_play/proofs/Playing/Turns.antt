@@ -1,13 +1,12 @@
 -- The events of a schedule, one a turn.
-use Rattle.std.proofs.Common.{◌≡◌, ◌∙◌, ap, ap₂, sym, subst, refl, ℕ, zero, suc, ◌+◌, ◌-◌, ◌<◌, ◌≤◌, arith, List, [], ◌∷◌, ◌++◌, length, Option, Some, None, append_assoc, append-nil}
+use Rattle.std.proofs.Common.{◌≡◌, ◌∙◌, ap, ap₂, sym, refl, ℕ, suc, ◌+◌, ◌-◌, ◌<◌, ◌≤◌, arith, List, [], ◌∷◌, ◌++◌, Option, Some, None, append_assoc, append-nil}
 use Rattle.pipe_model.specs.declared.event.Event.{Event}
-use Rattle.pipe_model.specs.declared.tree.Program.{Program}
 use Rattle.pipe_model.specs.Language.ProgramsOfTrees.{pipeline_after_init}
 use Rattle.pipe_model.specs.Language.SyntaxTree.{tree_of}
 use Rattle.pipe_model.specs.Pipelines.Pipeline.{Pipeline}
 use Rattle.pipe_model.specs.Runs.RunLogs.{state_after}
 use Rattle.pipe_model.specs.Runs.Schedules.{after_choice, candidates, choice_at, chosen, played, played_from}
-use Rattle.pipe_model.specs.Runs.State.{State, initial_state, next_state}
+use Rattle.pipe_model.specs.Runs.State.{initial_state, next_state}
 use Rattle.frame_book.proofs.BookLogs.LogEntries.{state_after-push}
 use Rattle.stage_code.specs.FlatCode.{FlatCode}
 use Rattle.schedule_play.specs.PlayStates.{IsPlay, KeepsProgram, PlayState, pipeline_played, run_state}

@@ -1,10 +1,7 @@
-use Rattle.std.proofs.Common.{◌≡◌, ◌∙◌, [], ap, sym, subst}
+use Rattle.std.proofs.Common.{◌∙◌, subst}
 use Rattle.pipe_model.specs.declared.tree.Limits.{Limits}
 use Rattle.pipe_model.specs.Language.SyntaxTree.{tree_of}
-use Rattle.stage_code.specs.FlatCode.{FlatCode}
 use Rattle.stage_code.specs.LimitRanges.{HasRangesOfLimits}
-use Rattle.frame_book.specs.BookStates.{BookState}
-use Rattle.schedule_play.specs.PlayStates.{IsPlay}
 use Rattle.schedule_play.proofs.Playing.Beginnings.{new_play}
 use Rattle.schedule_play.proofs.player.Player.new.Goals as goal
 
