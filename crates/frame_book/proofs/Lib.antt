@@ -5,4 +5,4 @@ pub mod Actions
 pub mod Conditions
 pub mod Keeping
 mod CopiedStatements
-mod PlannedPrograms
+pub mod PlannedPrograms

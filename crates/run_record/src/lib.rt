@@ -6,4 +6,4 @@ pub mod examples;
 pub mod law;
 pub mod log_text;
 pub mod merge;
-mod own_columns;
+pub mod own_columns;

@@ -120,8 +120,9 @@ fn into_columns(alloc: Global, iterations: Vec<Iteration>) -> Result<Columns, No
     Ok(ListOf::from_vec(columns))
 }
 
-// The columns that the events make, with the ends of the iterations that have ended.
-pub(crate) fn columns_of(alloc: Global, events: &[Event]) -> Result<Columns, NoMemory>
+/// Returns the columns that the events make, with the ends of the iterations that have ended. Returns
+/// an error only if memory runs out.
+pub fn columns_of(alloc: Global, events: &[Event]) -> Result<Columns, NoMemory>
     ensures { IfOk result (λ columns. columns ≡ made_columns events.now) }
 {
     let iterations = iterations_of(alloc, events)?;

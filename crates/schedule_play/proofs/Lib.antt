@@ -3,3 +3,5 @@ pub mod UnderWay
 pub mod TurnCandidates
 pub mod ChangedEntries
 pub mod ScheduleEvents
+pub mod Playing
+pub mod PlayedRuns

@@ -1,6 +1,6 @@
 -- The turns are the candidates, in their order.
 use Rattle.std.proofs.Common.{◌≡◌, ◌∙◌, ap, sym, refl, arith, ℕ, ℤ, zero, suc, ◌+◌, ◌<◌, List, [], ◌∷◌, ◌++◌, Bool, true, false, not, ◌&&◌, ◌||◌, if◌then◌else◌, Option, Some, None, length, ◌-◌, map, filter, count_by, take, nat_lt, slice_index_or}
-use Rattle.std.specs.Prelude.{◌%◌, cond, is_some, option_and_then, option_map, slice_get}
+use Rattle.std.specs.Prelude.{◌%◌, cond, is_some, option_map, slice_get}
 use Rattle.std.proofs.lemmas.List.{length-append, length-map, map-append}
 use Rattle.std.proofs.lemmas.List.Elements.{filter-append}
 use Rattle.std.proofs.lemmas.List.Sums.{length-filter}
@@ -171,13 +171,13 @@ pub count_is : (p : Pipeline) (limit workers : ℕ) (s : State) (ts : List Turn)
 count_is p limit workers s ts q = same_length (turn_event p limit s) ts (candidates p limit workers s) q
 
 pub chosen_is : (event : Turn → Option Event) (ts : List Turn) (es : List Event) (choice : ℕ) → map event ts ≡ map Some es
-    → option_and_then event (chosen_turn choice ts) ≡ chosen choice es
+    → option_map event (chosen_turn choice ts) ≡ option_map Some (chosen choice es)
 chosen_is event [] [] choice q = refl
 chosen_is event [] (e ∷ es) choice q = absurd (cc (q))
 chosen_is event (t ∷ ts) [] choice q = absurd (cc (q))
 chosen_is event (t ∷ ts) (e ∷ es) choice q =
-    event_at event (t ∷ ts) (e ∷ es) (choice % length (t ∷ ts)) t e q (cc (q))
-    ∙ ap (λ n. Some (slice_index_or (e ∷ es) (choice % n) e)) (same_length event (t ∷ ts) (e ∷ es) q)
+    ap Some (event_at event (t ∷ ts) (e ∷ es) (choice % length (t ∷ ts)) t e q (cc (q))
+    ∙ ap (λ n. Some (slice_index_or (e ∷ es) (choice % n) e)) (same_length event (t ∷ ts) (e ∷ es) q))
 
 -- past the turns of the iterations comes that of the next one
 begin_past : (ts : List Turn) (b : Bool) (n : ℕ) (d : Turn) → n < length (ts ++ (if b then Begin ∷ [] else []))

@@ -86,7 +86,7 @@ access_is_next code cells input t r' trace e a p before i ran reply =
 -- ---- the end
 
 -- the naming of a stage leaves the same by the actions and by the replies
-after_trace : (d : Behaviour) (trace : List Entry) (k : Kind) (n : ℤ) (rest : Behaviour) → Performs d (accessed trace)
+pub after_trace : (d : Behaviour) (trace : List Entry) (k : Kind) (n : ℤ) (rest : Behaviour) → Performs d (accessed trace)
     → behaviour_after_all d (accessed trace) ≡ Staging k n rest → rest ≡ after_instance d (replies_of trace)
 after_trace (Reading c go) [] k n rest h e = absurd (cc)
 after_trace (Writing c v d) [] k n rest h e = absurd (cc)

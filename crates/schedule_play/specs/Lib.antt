@@ -6,4 +6,7 @@ pub mod HeldInstances
 pub mod Turns
 pub mod AliveChanges
 pub mod ScheduleStates
+pub mod Openings
+pub mod PlayStates
+pub mod LoopPlays
 pub mod ScheduleExamples

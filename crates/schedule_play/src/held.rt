@@ -1,6 +1,6 @@
 //! An iteration that runs in a schedule.
 
-ghost use Rattle.std.specs.Prelude.{◌≡◌, ◌≢◌, ◌≤◌, ◌++◌, ◌∷◌, [], ℕ, ℤ, List, IfOk};
+ghost use Rattle.std.specs.Prelude.{◌≡◌, ◌≢◌, ◌≤◌, ◌++◌, ◌∷◌, [], ℤ, List, IfOk};
 ghost use Rattle.cell_store.specs.ShardState.{IsStateAfter};
 ghost use Rattle.pipe_frame.specs.CallResults.{NameReturns};
 ghost use Rattle.pipe_frame.specs.Replies.{after_instances};
@@ -30,18 +30,33 @@ use pipe_frame::token::FrameToken;
 use pipe_model::access::Access;
 use pipe_model::list::Numbers;
 use pipe_model::memory::NoMemory;
+use pipe_model::node::NodeId;
 use pipe_model::stage::StageEnd;
 use pipe_model::ticket::Trace;
 use stage_code::code::Code;
 use std::alloc::Global;
+use std::marker::Model;
 
-/// A running iteration: the token of its instance, and how far the instance is.
+/// A running iteration: the token of its instance, and how far the instance is. Contracts see the
+/// fields of the token, the machine, the accesses of the instance and its next event.
 #[derive(Drop)]
 pub struct Held<B: PlayedCode> {
-    /// The token.
-    pub token: FrameToken<Runner<B>>,
-    /// The instance.
-    pub running: RunningInstance,
+    token: FrameToken<Runner<B>>,
+    running: RunningInstance,
+}
+
+impl<B: PlayedCode> Model for Held<B> {
+    ghost use Rattle.pipe_frame.specs.TokenFields.{fields_of};
+    ghost use Rattle.schedule_play.specs.HeldInstances.{HeldState};
+
+    ghost Value = { HeldState };
+
+    ghost view = { λ h. record {
+      token = fields_of h.token;
+      machine = h.token.payload.machine;
+      trace = h.running.trace.items;
+      next = h.running.next;
+    } };
 }
 
 impl<B: PlayedCode> Held<B> {
@@ -58,12 +73,29 @@ impl<B: PlayedCode> Held<B> {
         requires few { cells.now.shard.cells ≤ 4294967296 }
         requires stands { (tree : SyntaxTree) × ((replies : List (List ℤ)) × IsAtInstance B.code B.cells tree input.now token.payload.machine token.iteration replies) }
         ensures held { (tree : SyntaxTree) (replies : List (List ℤ)) → IsAtInstance B.code B.cells tree input.now token.payload.machine token.iteration replies
-            → IsHeld B.code B.cells tree input.now token.iteration replies result.token.payload.machine result.running.trace.items result.running.next }
-        ensures fields { fields_of result.token ≡ fields_of token }
-        ensures empty { result.running.trace.items ≡ [] }
+            → IsHeld B.code B.cells tree input.now replies result }
+        ensures fields { result.token ≡ fields_of token }
+        ensures empty { result.trace ≡ [] }
     {
         let running = RunningInstance::new(alloc, &mut token.payload.machine, code, input, cells);
         Held { token, running }
+    }
+
+    /// Returns the instance.
+    pub fn node(&self) -> NodeId
+        ensures { result ≡ record { iteration = self.now.token.iteration; index = self.now.token.index } }
+    {
+        NodeId {
+            iteration: self.token.iteration,
+            index: self.token.index,
+        }
+    }
+
+    /// Returns how the instance ends, or `Stopped` if its next event is an access.
+    pub fn next(&self) -> StageEnd
+        ensures { result ≡ self.now.next }
+    {
+        self.running.next
     }
 
     /// Makes the access that is the instance's next event, with this ticket, which the token then has too.
@@ -79,19 +111,16 @@ impl<B: PlayedCode> Held<B> {
         requires cells { cells.old.shard.cells ≡ B.cells }
         requires all { HasAllCells cells.old }
         requires few { cells.old.shard.cells ≤ 4294967296 }
-        requires stopped { self.old.running.next ≡ StageEnd.Stopped }
-        requires held { (tree : SyntaxTree) × ((replies : List (List ℤ)) × IsHeld B.code B.cells tree input.now self.old.token.iteration replies
-            self.old.token.payload.machine self.old.running.trace.items self.old.running.next) }
-        ensures held { IfOk result (λ a. (tree : SyntaxTree) (replies : List (List ℤ))
-            → IsHeld B.code B.cells tree input.now self.old.token.iteration replies self.old.token.payload.machine self.old.running.trace.items self.old.running.next
-            → IsHeld B.code B.cells tree input.now self.old.token.iteration replies self.new.token.payload.machine self.new.running.trace.items self.new.running.next) }
+        requires stopped { self.old.next ≡ StageEnd.Stopped }
+        requires held { (tree : SyntaxTree) × ((replies : List (List ℤ)) × IsHeld B.code B.cells tree input.now replies self.old) }
+        ensures held { IfOk result (λ a. (tree : SyntaxTree) (replies : List (List ℤ)) → IsHeld B.code B.cells tree input.now replies self.old
+            → IsHeld B.code B.cells tree input.now replies self.new) }
         ensures event { IfOk result (λ a. (tree : SyntaxTree) (replies : List (List ℤ)) (p : Pipeline) (before : List Accessed)
-            → IsHeld B.code B.cells tree input.now self.old.token.iteration replies self.old.token.payload.machine self.old.running.trace.items self.old.running.next
-            → IsStateAfter p.store before cells.old
+            → IsHeld B.code B.cells tree input.now replies self.old → IsStateAfter p.store before cells.old
             → next_of p before self.old.token.iteration (after_instances ((pipeline_of tree input.now).behaviour self.old.token.iteration) replies)
-            self.old.running.trace.items ≡ events.Access self.old.token.iteration a) }
-        ensures fields { IfOk result (λ a. fields_of self.new.token ≡ record (fields_of self.old.token) { now = ticket }) }
-        ensures trace { IfOk result (λ a. self.new.running.trace.items ≡ self.old.running.trace.items ++ record { ticket = ticket; access = a } ∷ []) }
+            self.old.trace ≡ events.Access self.old.token.iteration a) }
+        ensures fields { IfOk result (λ a. self.new.token ≡ record self.old.token { now = ticket }) }
+        ensures trace { IfOk result (λ a. self.new.trace ≡ self.old.trace ++ record { ticket = ticket; access = a } ∷ []) }
         ensures state { IfOk result (λ a. (store : InitialStore) (before : List Accessed) → IsStateAfter store before cells.old
             → IsStateAfter store (before ++ a ∷ []) cells.new) }
         ensures shard { cells.new.shard ≡ cells.old.shard }
@@ -104,13 +133,12 @@ impl<B: PlayedCode> Held<B> {
 
     /// Ends the instance, which is at its end: the event `Advance` or `Finish` of the book.
     pub fn end(self, book: &mut Book<Runner<B>, OmList>) -> Named
-        requires out { IsOutOf book.old (fields_of self.token) }
-        requires ends { self.running.next ≢ StageEnd.Stopped }
+        requires out { IsOutOf book.old self.token }
+        requires ends { self.next ≢ StageEnd.Stopped }
         requires lists { BelongsTo no_tie book.old.lists }
-        requires held { IsHeld B.code B.cells (tree_of book.old.program) book.old.input self.token.iteration (replies_at book.old self.token.iteration)
-            self.token.payload.machine self.running.trace.items self.running.next }
-        ensures answer { NameReturns (state_of book.old) self.running.next result }
-        ensures book { book.new ≡ after_name_next book.old (fields_of self.token) self.running.next self.running.trace.items result }
+        requires held { IsHeld B.code B.cells (tree_of book.old.program) book.old.input (replies_at book.old self.token.iteration) self }
+        ensures answer { NameReturns (state_of book.old) self.next result }
+        ensures book { book.new ≡ after_name_next book.old self.token self.next self.trace result }
     {
         book.name_next(
             self.token,

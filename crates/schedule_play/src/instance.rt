@@ -1,6 +1,6 @@
 //! Stage instances, one access at a time.
 
-ghost use Rattle.std.specs.Prelude.{◌≡◌, ◌≤◌, ◌<◌, ◌++◌, ◌∷◌, [], List, Some};
+ghost use Rattle.std.specs.Prelude.{◌≡◌, ◌↔◌, ◌≤◌, ◌<◌, IsTrue, ◌++◌, ◌∷◌, [], List, Some};
 ghost use Rattle.cell_store.specs.ShardState.{IsOfShard, IsStateAfter};
 ghost use Rattle.pipe_model.specs.declared.access.Access.{Access as Accessed};
 ghost use Rattle.pipe_model.specs.Language.Programs.{natural};
@@ -20,6 +20,20 @@ use pipe_model::stage::StageEnd;
 use stage_code::code::Code;
 use stage_interp::machine::Machine;
 use std::marker::Brand;
+
+/// Returns whether an instance with this end was stopped, before an access.
+pub(crate) fn is_stopped(end: StageEnd) -> bool
+    ensures { IsTrue result ↔ (end ≡ StageEnd.Stopped) }
+{
+    match end {
+        StageEnd::Stopped => true,
+        StageEnd::Wait(_) => false,
+        StageEnd::Continue(_) => false,
+        StageEnd::End => false,
+        StageEnd::Closed => false,
+        StageEnd::Trap(_) => false,
+    }
+}
 
 /// Runs a stage instance from its beginning up to its first access, which it does not make. Returns
 /// `Stopped` if the instance makes an access, and otherwise its end. It does not allocate.

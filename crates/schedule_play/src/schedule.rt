@@ -1,12 +1,13 @@
 //! What a schedule keeps of its run, for the choice of the next event.
 
-ghost use Rattle.std.specs.Prelude.{◌≡◌, ◌<◌, ◌+◌, ◌-◌, ◌^◌, IfOk, is_some, length, ◌==◌, option_and_then};
+ghost use Rattle.std.specs.Prelude.{◌≡◌, ◌≢◌, ◌<◌, ◌+◌, ◌-◌, ◌^◌, ◌∷◌, [], IfOk, is_some, length, ◌==◌, option_map, Some};
 ghost use Rattle.pipe_model.specs.declared.event.Event.TheVariants as events;
 ghost use Rattle.pipe_model.specs.Pipelines.Pipeline.{Pipeline};
-ghost use Rattle.pipe_model.specs.Runs.Allowed.{IsRunning, MayAdvance, MayEnter};
+ghost use Rattle.pipe_model.specs.Runs.Allowed.{ControlAllows, IsRunning, MayAdvance, MayEnter};
 ghost use Rattle.pipe_model.specs.Pipelines.Behaviour.{closes_at_once};
 ghost use Rattle.pipe_model.specs.Runs.NextEvents.{may_enter, next_begin};
 ghost use Rattle.pipe_model.specs.Runs.Schedules.{candidates, chosen};
+ghost use Rattle.pipe_model.specs.Runs.StageEnds.{stage_end_events};
 ghost use Rattle.pipe_model.specs.Runs.State.{State, initial_state, next_state};
 ghost use Rattle.schedule_play.specs.ScheduleStates.{IsScheduleOf, goes_on};
 ghost use Rattle.schedule_play.specs.Turns.{turn_event};
@@ -14,8 +15,10 @@ ghost use Rattle.schedule_play.specs.Turns.{turn_event};
 use crate::changes::{Change, change_each, passes_left};
 use crate::turns::{Alive, Standing, Turn, choose};
 use pipe_model::column::ColumnEnd;
+use pipe_model::event::Event;
 use pipe_model::memory::NoMemory;
 use pipe_model::node::Kind;
+use pipe_model::stage::StageEnd;
 use std::alloc::Global;
 use std::marker::Model;
 
@@ -86,7 +89,7 @@ impl Schedule {
     /// if there is no candidate.
     pub fn choose(&self, workers: u32, choice: u32) -> Option<Turn>
         ensures { (p : Pipeline) (s : State) → IsScheduleOf s self.now
-            → option_and_then (turn_event p self.now.limit s) result ≡ chosen choice (candidates p self.now.limit workers s) }
+            → option_map (turn_event p self.now.limit s) result ≡ option_map Some (chosen choice (candidates p self.now.limit workers s)) }
     {
         choose(self.alive.as_slice(), self.may_begin(), workers, choice)
     }
@@ -155,5 +158,44 @@ impl Schedule {
         change_each(&mut self.alive, Change::Ended(iteration));
         self.alive.retain(|a| a.iteration != iteration);
         self.continues = goes_on(self.continues, last, closes(end));
+    }
+
+    /// Notes that the running instance of an iteration ends, and returns the event.
+    pub fn end_instance(&mut self, iteration: u32, end: StageEnd) -> Event
+        requires ends { end ≢ StageEnd.Stopped }
+        ensures event { stage_end_events iteration end ≡ result ∷ [] }
+        ensures schedule { (s : State) → IsScheduleOf s self.old → ControlAllows self.old.limit s result → IsScheduleOf (next_state s result) self.new }
+        ensures limit { self.new.limit ≡ self.old.limit }
+    {
+        match end {
+            StageEnd::Wait(number) => self.named(iteration, Kind::Wait, number),
+            StageEnd::Continue(number) => self.named(iteration, Kind::Continue, number),
+            StageEnd::End => self.ended(iteration, ColumnEnd::End),
+            StageEnd::Closed => self.ended(iteration, ColumnEnd::Closed),
+            StageEnd::Trap(trap) => self.ended(iteration, ColumnEnd::Trapped(trap)),
+            StageEnd::Stopped => unreachable!(),
+        }
+    }
+
+    // Notes that an iteration names this stage, and returns the event.
+    fn named(&mut self, iteration: u32, kind: Kind, number: i64) -> Event
+        ensures event { result ≡ events.Advance iteration kind number }
+        ensures schedule { (s : State) → IsScheduleOf s self.old → MayAdvance s iteration kind number
+            → IsScheduleOf (next_state s (events.Advance iteration kind number)) self.new }
+        ensures limit { self.new.limit ≡ self.old.limit }
+    {
+        self.advance(iteration, kind, number);
+        Event::Advance(iteration, kind, number)
+    }
+
+    // Notes that an iteration ends, and returns the event.
+    fn ended(&mut self, iteration: u32, end: ColumnEnd) -> Event
+        ensures event { result ≡ events.Finish iteration end }
+        ensures schedule { (s : State) → IsScheduleOf s self.old → IsRunning s iteration
+            → IsScheduleOf (next_state s (events.Finish iteration end)) self.new }
+        ensures limit { self.new.limit ≡ self.old.limit }
+    {
+        self.finish(iteration, end);
+        Event::Finish(iteration, end)
     }
 }

@@ -1,7 +1,7 @@
 //! The turns that a choice chooses between: the next events of the iterations, and the beginning of
 //! the next one.
 
-ghost use Rattle.std.specs.Prelude.{◌≡◌, ◌&&◌, ◌<◌, ◌^◌, ℕ, count_by, length, nat_lt, is_some, option_and_then, slice_index_or};
+ghost use Rattle.std.specs.Prelude.{◌≡◌, ◌&&◌, ◌<◌, ◌^◌, ℕ, count_by, length, nat_lt, is_some, option_map, slice_index_or, Some};
 ghost use Rattle.pipe_model.specs.Pipelines.Pipeline.{Pipeline};
 ghost use Rattle.pipe_model.specs.Runs.NextEvents.{next_begin};
 ghost use Rattle.pipe_model.specs.Runs.Schedules.{candidates, chosen};
@@ -125,7 +125,7 @@ pub fn count(alive: &[Alive], begins: bool, workers: u32) -> usize
 pub fn choose(alive: &[Alive], begins: bool, workers: u32, choice: u32) -> Option<Turn>
     requires few { length alive.now < 2 ^ 63 }
     ensures { (p : Pipeline) (limit : ℕ) (s : State) → alive.now ≡ alive_iterations s → begins ≡ is_some (next_begin limit s)
-        → option_and_then (turn_event p limit s) result ≡ chosen choice (candidates p limit workers s) }
+        → option_map (turn_event p limit s) result ≡ option_map Some (chosen choice (candidates p limit workers s)) }
 {
     let room = has_room(alive, workers);
     let count = count_turns(alive, room, begins);

@@ -2,6 +2,7 @@ use Rattle.std.proofs.Common.{ℕ, subst, sym}
 use Rattle.pipe_frame.specs.Replies.{after_instances}
 use Rattle.pipe_model.specs.Language.Programs.{pipeline_of}
 use Rattle.stage_code.specs.FlatCode.{FlatCode}
+use Rattle.schedule_play.specs.HeldInstances.{IsHeld}
 use Rattle.schedule_play.specs.RunningInstances.{IsUnderWay}
 use Rattle.schedule_play.proofs.held.Held.access.Goals as goal
 
@@ -11,15 +12,16 @@ returns-clause-held g c = λ tree replies held.
     let cells = g.B.PlayedCode.cells in
     let served = c.args.cells.now.shard.cells in
     let input = c.args.input.now in
-    let old = c.args.self.now in
+    let old = c.self.inside in
     let new = c.access.new.self in
     let run = c.access.new.machine.run in
     let t = after_instances ((pipeline_of tree input).behaviour old.token.iteration) replies in
+    let here = subst (IsHeld code cells tree input replies) (sym c.self.view_is) held in
     let before = subst (λ (x : FlatCode). IsUnderWay x served input t old.token.payload.machine.run old.running.trace.items old.running.next) (sym c.requires.code)
-    (subst (λ (n : ℕ). IsUnderWay code n input t old.token.payload.machine.run old.running.trace.items old.running.next) (sym c.requires.cells) held.under_way) in
+    (subst (λ (n : ℕ). IsUnderWay code n input t old.token.payload.machine.run old.running.trace.items old.running.next) (sym c.requires.cells) here.under_way) in
     let after = c.in_ok-access.ensures.goes_on t before in
     record {
-      whole = record { code_of = held.whole.code_of; made = c.access.ensures.made code held.whole.made; served = held.whole.served };
+      whole = record { code_of = here.whole.code_of; made = c.access.ensures.made code here.whole.made; served = here.whole.served };
       under_way = subst (λ (n : ℕ). IsUnderWay code n input t run new.trace.items new.next) c.requires.cells
           (subst (λ (x : FlatCode). IsUnderWay x served input t run new.trace.items new.next) c.requires.code after);
     }

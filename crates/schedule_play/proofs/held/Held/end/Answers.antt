@@ -1,9 +1,11 @@
-use Rattle.std.proofs.Common.{◌++◌, ◌∷◌, [], List, subst, sym}
+use Rattle.std.proofs.Common.{◌≢◌, ◌++◌, ◌∷◌, [], List, subst, sym}
 use Rattle.pipe_frame.specs.Replies.{IsPerformed, after_instances, replies_of}
 use Rattle.pipe_model.specs.declared.ticket.Entry.{Entry}
 use Rattle.pipe_model.specs.Language.SyntaxTree.{tree_of}
 use Rattle.stage_interp.specs.Standing.{StandsFor}
 use Rattle.frame_book.specs.BookStates.{pipeline_in, replies_at}
+use Rattle.pipe_model.specs.declared.stage.StageEnd.TheVariants as stage_ends
+use Rattle.schedule_play.specs.HeldInstances.{HeldState, IsHeld}
 use Rattle.schedule_play.specs.Runners.{IsAtInstance}
 use Rattle.schedule_play.proofs.UnderWay.{after_instances-push, instance_ends}
 use Rattle.schedule_play.proofs.held.Held.end.Goals as goal
@@ -14,11 +16,14 @@ name_next-requires-clause-belongs g c = c.requires.lists
 pub name_next-requires-clause-performs : goal.name_next-requires-clause-performs
 name_next-requires-clause-performs g c =
     let book = c.args.book.now in
-    let i = c.args.self.token.iteration in
+    let inside = c.self.inside in
+    let i = inside.token.iteration in
     let replies = replies_at book i in
-    let next = c.args.self.running.next in
+    let held = subst (λ (h : HeldState). IsHeld g.B.PlayedCode.code g.B.PlayedCode.cells (tree_of book.program) book.input (replies_at book h.token.iteration) h) (sym c.self.view_is) c.requires.held in
+    let apart = subst (λ (h : HeldState). h.next ≢ stage_ends.Stopped) (sym c.self.view_is) c.requires.ends in
+    let next = inside.running.next in
     let ends = instance_ends g.B.PlayedCode.code g.B.PlayedCode.cells book.input (after_instances ((pipeline_in book).behaviour i) replies)
-    c.args.self.token.payload.machine.run c.args.self.running.trace.items next c.requires.held.under_way c.requires.ends in
+    inside.token.payload.machine.run inside.running.trace.items next held.under_way apart in
     subst (λ (l : List Entry). IsPerformed (pipeline_in book) i replies l next) (sym c.from_vec.ensures) ends.performs
 
 pub name_next-requires-clause-stands : goal.name_next-requires-clause-stands
@@ -26,14 +31,17 @@ name_next-requires-clause-stands g c = λ names.
     let code = g.B.PlayedCode.code in
     let cells = g.B.PlayedCode.cells in
     let book = c.args.book.now in
-    let i = c.args.self.token.iteration in
+    let inside = c.self.inside in
+    let i = inside.token.iteration in
     let replies = replies_at book i in
-    let machine = c.args.self.token.payload.machine in
-    let trace = c.args.self.running.trace.items in
+    let held = subst (λ (h : HeldState). IsHeld g.B.PlayedCode.code g.B.PlayedCode.cells (tree_of book.program) book.input (replies_at book h.token.iteration) h) (sym c.self.view_is) c.requires.held in
+    let apart = subst (λ (h : HeldState). h.next ≢ stage_ends.Stopped) (sym c.self.view_is) c.requires.ends in
+    let machine = inside.token.payload.machine in
+    let trace = inside.running.trace.items in
     let d = (pipeline_in book).behaviour i in
-    let ends = instance_ends code cells book.input (after_instances d replies) machine.run trace c.args.self.running.next c.requires.held.under_way c.requires.ends in
+    let ends = instance_ends code cells book.input (after_instances d replies) machine.run trace inside.running.next held.under_way apart in
     subst (λ (l : List Entry). IsAtInstance code cells (tree_of book.program) book.input machine i (replies ++ replies_of l ∷ [])) (sym c.from_vec.ensures)
     (record {
-      whole = c.requires.held.whole;
+      whole = held.whole;
       stands = subst (StandsFor code cells book.input machine.run) (sym (after_instances-push d replies (replies_of trace))) (ends.stands names);
     })

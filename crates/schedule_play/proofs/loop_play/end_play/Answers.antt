@@ -1,0 +1,57 @@
+use Rattle.std.proofs.Common.{◌∙◌, ap, ap₂, sym, subst}
+use Rattle.pipe_model.specs.Language.SyntaxTree.{tree_of}
+use Rattle.pipe_model.specs.Orders.Starts.{starts_of}
+use Rattle.pipe_model.specs.Runs.Run.{Run}
+use Rattle.pipe_model.specs.Runs.RunLogs.{columns_after, ended_columns_after, state_after}
+use Rattle.race_detection.specs.FoundReports.{found_reports}
+use Rattle.run_record.specs.OwnColumns.{made_columns}
+use Rattle.schedule_play.specs.PlayStates.{pipeline_played}
+use Rattle.schedule_play.proofs.PlayedRuns.{detectable}
+use Rattle.schedule_play.proofs.loop_play.end_play.Goals as goal
+
+pub detect-requires-clause-own : goal.detect-requires-clause-own
+detect-requires-clause-own g c =
+    let v = c.args.player in
+    let accepted = c.requires.accepted in
+    let told = c.into_run-events.ensures in
+    let can = detectable accepted.0 (tree_of v.book.program) v.book.input v.book.limit c.into_run-events.result.0 c.in_ok-columns.columns c.into_run-events.result.1
+    accepted.1 (subst (λ es. Run (pipeline_played v) v.book.limit es (state_after es)) (sym told.events) c.requires.play.run)
+    (c.in_ok-columns.ensures ∙ ap made_columns c.as_slice.ensures) (told.accesses ∙ c.requires.play.accesses ∙ ap (λ es. (state_after es).accesses) (sym told.events)) in
+    can.own
+
+pub detect-requires-clause-few : goal.detect-requires-clause-few
+detect-requires-clause-few g c =
+    let v = c.args.player in
+    let accepted = c.requires.accepted in
+    let told = c.into_run-events.ensures in
+    let can = detectable accepted.0 (tree_of v.book.program) v.book.input v.book.limit c.into_run-events.result.0 c.in_ok-columns.columns c.into_run-events.result.1
+    accepted.1 (subst (λ es. Run (pipeline_played v) v.book.limit es (state_after es)) (sym told.events) c.requires.play.run)
+    (c.in_ok-columns.ensures ∙ ap made_columns c.as_slice.ensures) (told.accesses ∙ c.requires.play.accesses ∙ ap (λ es. (state_after es).accesses) (sym told.events)) in
+    can.few
+
+pub detect-requires-clause-inside : goal.detect-requires-clause-inside
+detect-requires-clause-inside g c =
+    let v = c.args.player in
+    let accepted = c.requires.accepted in
+    let told = c.into_run-events.ensures in
+    let can = detectable accepted.0 (tree_of v.book.program) v.book.input v.book.limit c.into_run-events.result.0 c.in_ok-columns.columns c.into_run-events.result.1
+    accepted.1 (subst (λ es. Run (pipeline_played v) v.book.limit es (state_after es)) (sym told.events) c.requires.play.run)
+    (c.in_ok-columns.ensures ∙ ap made_columns c.as_slice.ensures) (told.accesses ∙ c.requires.play.accesses ∙ ap (λ es. (state_after es).accesses) (sym told.events)) in
+    can.inside
+
+pub returns : goal.returns
+returns g c =
+    let v = c.args.player in
+    let accepted = c.requires.accepted in
+    let told = c.into_run-events.ensures in
+    let can = detectable accepted.0 (tree_of v.book.program) v.book.input v.book.limit c.into_run-events.result.0 c.in_ok-columns.columns c.into_run-events.result.1
+    accepted.1 (subst (λ es. Run (pipeline_played v) v.book.limit es (state_after es)) (sym told.events) c.requires.play.run)
+    (c.in_ok-columns.ensures ∙ ap made_columns c.as_slice.ensures) (told.accesses ∙ c.requires.play.accesses ∙ ap (λ es. (state_after es).accesses) (sym told.events)) in
+    record {
+      events = told.events;
+      columns = can.ended ∙ ap ended_columns_after told.events;
+      accesses = told.accesses;
+      reports = c.in_ok-reports.ensures ∙ can.found ∙ ap₂ (λ es l. found_reports (columns_after es) (starts_of es) l) told.events told.accesses;
+      finished = c.is_finished-finished.ensures;
+      cells = told.cells;
+    }

@@ -1,0 +1,51 @@
+use Rattle.std.proofs.Common.{◌≡◌, ℕ, List, arith, ap, ap₂, get_or, sym, subst}
+use Rattle.std.specs.Result.{IfOk}
+use Rattle.pipe_frame.specs.Ties.{BelongsTo, ListIdentities}
+use Rattle.pipe_model.specs.declared.tree.Program.{Program}
+use Rattle.pipe_model.specs.Language.SyntaxTree.{tree_of}
+use Rattle.program_laws.specs.WorkBounds.{most_instances}
+use Rattle.stage_code.specs.FlatCode.{FlatCode}
+use Rattle.stage_interp.specs.Standing.{IsCodeOf}
+use Rattle.frame_book.specs.NewBooks.{IsPlannedProgram, new_book}
+use Rattle.frame_book.proofs.PlannedPrograms.{accepted_programs_are_planned}
+use Rattle.schedule_play.specs.Runners.{CanRun, no_tie}
+use Rattle.schedule_play.proofs.opening.open_book.Goals as goal
+
+pub new-requires-clause-planned : goal.new-requires-clause-planned
+new-requires-clause-planned g c =
+    let accepted = c.requires.accepted in
+    subst (λ (p : Program). IsPlannedProgram (tree_of p) c.args.input.now) (sym c.program.ensures.program)
+    (accepted_programs_are_planned accepted.0 (tree_of c.args.checked.now) c.args.input.now accepted.1)
+
+pub new-requires-clause-whole : goal.new-requires-clause-whole
+new-requires-clause-whole g c = λ k d less.
+    let code = g.B.PlayedCode.code in
+    let cells = g.B.PlayedCode.cells in
+    let machine = (get_or c.in_ok-runners.runners.items k d).machine in
+    let lists = c.in_ok-orders.ensures.down.identity in (
+      subst (λ (p : Program). CanRun code cells (tree_of p) machine) (sym c.program.ensures.program) (record {
+        code_of = subst (λ (x : FlatCode). IsCodeOf (tree_of c.args.checked.now) x) c.requires.code c.requires.code_of;
+        made = c.in_ok-runners.ensures.made k d less;
+        served = c.requires.served;
+      }),
+      subst (λ (l : List ℕ). BelongsTo no_tie (record { down = l; right = c.in_ok-orders.orders.right.identity })) (sym lists) tt,
+    )
+
+pub new-requires-clause-room : goal.new-requires-clause-room
+new-requires-clause-room g c =
+    let accepted = c.requires.accepted in
+    let planned = accepted_programs_are_planned accepted.0 (tree_of c.args.checked.now) c.args.input.now accepted.1 in
+    let few = planned.few in
+    let same : most_instances (tree_of c.program.result.now) ≡ most_instances (tree_of c.args.checked.now) =
+    ap (λ (p : Program). most_instances (tree_of p)) c.program.ensures.program in
+    let down = c.in_ok-orders.ensures.down.capacity in
+    let right = c.in_ok-orders.ensures.right.capacity in
+    (omega (arith, few, same, down), omega (arith, few, same, right))
+
+pub returns-clause-tree : goal.returns-clause-tree
+returns-clause-tree g c = subst (λ (p : Program). IfOk c.new.result (λ book. tree_of book.program ≡ tree_of p)) c.program.ensures.program c.new.ensures.tree
+
+pub returns-clause-book : goal.returns-clause-book
+returns-clause-book g c =
+    let lists = ap₂ (λ a b. record { down = a; right = b }) c.in_ok-orders.ensures.down.identity c.in_ok-orders.ensures.right.identity in
+    subst (λ (l : ListIdentities). IfOk c.new.result (λ book. book ≡ new_book book.program c.args.input.now c.args.throttle l)) lists c.new.ensures.book

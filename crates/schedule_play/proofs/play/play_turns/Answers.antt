@@ -1,0 +1,45 @@
+use Rattle.std.proofs.Common.{◌≡◌, ◌∙◌, ap, sym, refl, Option, Some, None}
+use Rattle.std.specs.Prelude.{option_map}
+use Rattle.pipe_model.specs.declared.event.Event.{Event}
+use Rattle.pipe_model.specs.Runs.Schedules.{candidates, chosen}
+use Rattle.schedule_play.specs.PlayStates.{pipeline_played, run_state}
+use Rattle.schedule_play.specs.Turns.{turn_event}
+use Rattle.schedule_play.specs.declared.turns.Turn.{Turn}
+use Rattle.schedule_play.proofs.Playing.Turns.{ends_early, goes_on}
+use Rattle.schedule_play.proofs.play.play_turns.Goals as goal
+
+-- the chosen event, by the turn that was found
+no_event : (f : Turn → Option Event) (t : Option Turn) (o : Option Event) → t ≡ None → option_map f t ≡ option_map Some o → o ≡ None
+no_event f t None e q = refl
+no_event f t (Some x) e q = absurd (let z : None ≡ Some (Some x) = sym (ap (option_map f) e) ∙ q in cc)
+
+event_of : (f : Turn → Option Event) (t : Option Turn) (turn : Turn) (o : Option Event) → t ≡ Some turn → option_map f t ≡ option_map Some o
+    → (e : Event) × (o ≡ Some e) × (f turn ≡ Some e)
+event_of f t turn None e q = absurd (let z : Some (f turn) ≡ None = sym (ap (option_map f) e) ∙ q in cc)
+event_of f t turn (Some x) e q = (x, refl, (let z : Some (f turn) ≡ Some (Some x) = sym (ap (option_map f) e) ∙ q in cc))
+
+pub choose-requires : goal.choose-requires
+choose-requires g c = record { play = c.loop-turn.invariant.play }
+
+pub returns-in_default-clause-events : goal.returns-in_default-clause-events
+returns-in_default-clause-events g c =
+    let code = g.B.PlayedCode.code in
+    let cells = g.B.PlayedCode.cells in
+    let v = c.loop-turn.player in
+    let choice = c.choice_at-choice.result in
+    let made = chosen choice (candidates (pipeline_played v) v.book.limit c.args.workers (run_state v)) in
+    let none = no_event (turn_event (pipeline_played v) v.book.limit (run_state v)) c.choose.result made c.in_default.is c.choose.ensures in
+    ends_early code cells c.args.player.now v c.args.workers c.args.choices.now c.args.turns c.loop-turn.turn c.loop-turn.invariant choice c.loop-turn-test.true
+    c.choice_at-choice.ensures none
+
+pub loop-turn-preserved : goal.loop-turn-preserved
+loop-turn-preserved g c =
+    let code = g.B.PlayedCode.code in
+    let cells = g.B.PlayedCode.cells in
+    let v = c.loop-turn.player in
+    let choice = c.choice_at-choice.result in
+    let made = chosen choice (candidates (pipeline_played v) v.book.limit c.args.workers (run_state v)) in
+    let event = event_of (turn_event (pipeline_played v) v.book.limit (run_state v)) c.choose.result c.in-Some.next made c.in-Some.is c.choose.ensures in
+    let told = c.in_ok-take_turn.ensures in
+    goes_on code cells c.args.player.now v c.args.workers c.args.choices.now c.args.turns c.loop-turn.turn c.loop-turn.invariant choice event.0 c.take_turn.new.self
+    c.loop-turn-test.true c.choice_at-choice.ensures event.1 (told.event event.0 event.2) told.play told.keeps

@@ -1,0 +1,113 @@
+use Rattle.std.proofs.Common.{◌≡◌, ◌∙◌, ◌<◌, ◌+◌, ◌++◌, ◌∷◌, [], arith, ap, sym, subst, length, List, ℤ, Some, None, IfSome, slice_index_or}
+use Rattle.std.proofs.lemmas.List.{get_or_default, set-set}
+use Rattle.pipe_model.specs.declared.event.Event.TheVariants as events
+use Rattle.pipe_model.specs.declared.stage.StageEnd.TheVariants as stage_ends
+use Rattle.pipe_model.specs.Language.SyntaxTree.{tree_of}
+use Rattle.frame_book.specs.BookStates.{replies_at}
+use Rattle.schedule_play.specs.HeldInstances.{HeldState, IsHeld}
+use Rattle.pipe_model.specs.Runs.Allowed.{IsRunning}
+use Rattle.pipe_model.specs.Runs.NextEvents.{next_event}
+use Rattle.schedule_play.specs.PlayStates.{IsPlay, PlayState, pipeline_played, run_state}
+use Rattle.schedule_play.proofs.Playing.Accesses.{access_made, fits, slot_taken, slot_within}
+use Rattle.schedule_play.proofs.player.Player.access.Goals as goal
+
+pub index_mut-requires : goal.index_mut-requires
+index_mut-requires g c =
+    let code = g.B.PlayedCode.code in
+    let cells = g.B.PlayedCode.cells in
+    let v = c.args.self.now in
+    let i = c.args.iteration in
+    let long = c.self.inside.running.ok.0 in
+    let same = ap (λ (x : PlayState). length x.running) c.self.view_is in
+    let within = slot_within code cells v c.requires.play i c.requires.runs.frame c.requires.runs.is in
+    let here : i < c.self.inside.running.len = omega (arith, long, same, within) in
+    here
+
+pub unreachable-requires : goal.unreachable-requires
+unreachable-requires g c =
+    let code = g.B.PlayedCode.code in
+    let cells = g.B.PlayedCode.cells in
+    let v = c.args.self.now in
+    let i = c.args.iteration in
+    let running = ap (λ (x : PlayState). x.running) c.self.view_is in
+    let within = slot_within code cells v c.requires.play i c.requires.runs.frame c.requires.runs.is in
+    let slot = c.take.ensures.value ∙ c.index_mut.ensures.value ∙ ap (λ l. slice_index_or l i c.index_mut.result.now) running
+    ∙ get_or_default v.running i c.index_mut.result.now None within in
+    slot_taken code cells v c.requires.play i c.requires.runs (sym slot ∙ c.in_default.is)
+
+pub access-requires-clause-stopped : goal.access-requires-clause-stopped
+access-requires-clause-stopped g c =
+    let code = g.B.PlayedCode.code in
+    let cells = g.B.PlayedCode.cells in
+    let v = c.args.self.now in
+    let i = c.args.iteration in
+    let running = ap (λ (x : PlayState). x.running) c.self.view_is in
+    let within = slot_within code cells v c.requires.play i c.requires.runs.frame c.requires.runs.is in
+    let slot = c.take.ensures.value ∙ c.index_mut.ensures.value ∙ ap (λ l. slice_index_or l i c.index_mut.result.now) running
+    ∙ get_or_default v.running i c.index_mut.result.now None within in
+    subst (λ o. IfSome o (λ (h : HeldState). h.next ≡ stage_ends.Stopped)) (sym slot ∙ c.in-Some.is) c.requires.next
+
+pub access-requires-clause-held : goal.access-requires-clause-held
+access-requires-clause-held g c =
+    let code = g.B.PlayedCode.code in
+    let cells = g.B.PlayedCode.cells in
+    let v = c.args.self.now in
+    let i = c.args.iteration in
+    let running = ap (λ (x : PlayState). x.running) c.self.view_is in
+    let within = slot_within code cells v c.requires.play i c.requires.runs.frame c.requires.runs.is in
+    let slot = c.take.ensures.value ∙ c.index_mut.ensures.value ∙ ap (λ l. slice_index_or l i c.index_mut.result.now) running
+    ∙ get_or_default v.running i c.index_mut.result.now None within in
+    let at = fits code cells v c.requires.play i c.requires.runs.frame c.requires.runs.is c.requires.runs.runs c.in-Some.held (sym slot ∙ c.in-Some.is) in
+    (tree_of v.book.program, (replies_at v.book i, subst (λ (l : List ℤ). IsHeld code cells (tree_of v.book.program) l (replies_at v.book i) c.in-Some.held) (sym c.requires.input) at.held))
+
+pub index_mut-requires-2 : goal.index_mut-requires-2
+index_mut-requires-2 g c =
+    let code = g.B.PlayedCode.code in
+    let cells = g.B.PlayedCode.cells in
+    let v = c.args.self.now in
+    let i = c.args.iteration in
+    let long = c.self.inside.running.ok.0 in
+    let same = ap (λ (x : PlayState). length x.running) c.self.view_is in
+    let within = slot_within code cells v c.requires.play i c.requires.runs.frame c.requires.runs.is in
+    let here : i < c.self.inside.running.len = omega (arith, long, same, within) in
+    here
+
+pub returns-clause-play : goal.returns-clause-play
+returns-clause-play g c =
+    let code = g.B.PlayedCode.code in
+    let cells = g.B.PlayedCode.cells in
+    let inside = c.self.inside in
+    let w : PlayState = record { book = inside.book; schedule = inside.schedule; running = inside.running.items; cells = inside.cells; events = inside.events; accesses = inside.accesses } in
+    let h = subst (IsPlay code cells) (sym c.self.view_is) c.requires.play in
+    let i = c.args.iteration in
+    let runs = subst (λ (x : PlayState). IsRunning (run_state x) i) (sym c.self.view_is) c.requires.runs in
+    let within = slot_within code cells w h i runs.frame runs.is in
+    let kept = sym (get_or_default inside.running.items i c.index_mut.result.now None within) ∙ sym (c.take.ensures.value ∙ c.index_mut.ensures.value) ∙ c.in-Some.is in
+    let input = c.requires.input ∙ ap (λ (x : PlayState). x.book.input) (sym c.self.view_is) in
+    let told = c.in_ok-access.ensures in
+    let ticket = c.len.ensures in
+    let made = access_made code cells w h i runs c.in-Some.held kept c.args.input.now input c.in_ok-access.access c.access.new.self c.access.new.cells
+    told.held told.event (subst (λ n. c.access.new.self.token ≡ record c.in-Some.held.token { now = n + 1 }) ticket told.fields)
+    (subst (λ n. c.access.new.self.trace ≡ c.in-Some.held.trace ++ record { ticket = n + 1; access = c.in_ok-access.access } ∷ []) ticket told.trace) told.state told.shard in
+    rw (set-set inside.running.items i c.take.new.self (Some c.access.new.self), c.in_ok-push-2.ensures.ok, c.in_ok-push.ensures.ok, c.node-node.ensures) made.1
+
+pub returns-clause-event : goal.returns-clause-event
+returns-clause-event g c = λ e next.
+    let code = g.B.PlayedCode.code in
+    let cells = g.B.PlayedCode.cells in
+    let inside = c.self.inside in
+    let w : PlayState = record { book = inside.book; schedule = inside.schedule; running = inside.running.items; cells = inside.cells; events = inside.events; accesses = inside.accesses } in
+    let h = subst (IsPlay code cells) (sym c.self.view_is) c.requires.play in
+    let i = c.args.iteration in
+    let runs = subst (λ (x : PlayState). IsRunning (run_state x) i) (sym c.self.view_is) c.requires.runs in
+    let within = slot_within code cells w h i runs.frame runs.is in
+    let kept = sym (get_or_default inside.running.items i c.index_mut.result.now None within) ∙ sym (c.take.ensures.value ∙ c.index_mut.ensures.value) ∙ c.in-Some.is in
+    let input = c.requires.input ∙ ap (λ (x : PlayState). x.book.input) (sym c.self.view_is) in
+    let told = c.in_ok-access.ensures in
+    let ticket = c.len.ensures in
+    let made = access_made code cells w h i runs c.in-Some.held kept c.args.input.now input c.in_ok-access.access c.access.new.self c.access.new.cells
+    told.held told.event (subst (λ n. c.access.new.self.token ≡ record c.in-Some.held.token { now = n + 1 }) ticket told.fields)
+    (subst (λ n. c.access.new.self.trace ≡ c.in-Some.held.trace ++ record { ticket = n + 1; access = c.in_ok-access.access } ∷ []) ticket told.trace) told.state told.shard in
+    let there = subst (λ (x : PlayState). next_event (pipeline_played x) (run_state x) i ≡ Some e) (sym c.self.view_is) next in
+    let same : events.Access i c.in_ok-access.access ≡ e = (let q = sym made.0 ∙ there in cc) in
+    c.in_ok-push-2.ensures.ok ∙ (ap (λ x. inside.events ++ x ∷ []) same ∙ ap (λ (x : PlayState). x.events ++ e ∷ []) c.self.view_is)

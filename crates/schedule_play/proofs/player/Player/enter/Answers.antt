@@ -1,0 +1,40 @@
+use Rattle.std.proofs.Common.{◌≡◌, ◌∙◌, ◌++◌, ◌∷◌, [], ap, sym, subst, true, ◌⊎◌, Some}
+use Rattle.pipe_frame.specs.TokenFields.{fields_of}
+use Rattle.pipe_model.specs.declared.event.Event.TheVariants as events
+use Rattle.pipe_model.specs.Runs.Allowed.{MayEnter}
+use Rattle.pipe_model.specs.Runs.NextEvents.{next_event}
+use Rattle.frame_book.specs.BookStates.{BookState, state_of}
+use Rattle.frame_book.specs.GivenTokens.{IsGivenBy}
+use Rattle.schedule_play.specs.PlayStates.{IsPlay, PlayState, pipeline_played, run_state}
+use Rattle.schedule_play.specs.Runners.{IsAtInstance, no_tie}
+use Rattle.schedule_play.proofs.Playing.Enters.{enter_possible, entered_made}
+use Rattle.schedule_play.proofs.player.Player.enter.Goals as goal
+
+pub unreachable-requires : goal.unreachable-requires
+unreachable-requires g c =
+    let code = g.B.PlayedCode.code in
+    let cells = g.B.PlayedCode.cells in
+    let answer = subst (λ (x : PlayState). ((state_of x.book).stopped ≡ true) ⊎ (MayEnter (state_of x.book) c.args.iteration → ⊥)) c.self.view_is c.in_default.ensures.answer in
+    enter_possible code cells c.args.self.now c.requires.play c.args.iteration c.requires.next answer
+
+pub returns-clause-play : goal.returns-clause-play
+returns-clause-play g c =
+    let code = g.B.PlayedCode.code in
+    let cells = g.B.PlayedCode.cells in
+    let inside = c.self.inside in
+    let w : PlayState = record { book = inside.book; schedule = inside.schedule; running = inside.running.items; cells = inside.cells; events = inside.events; accesses = inside.accesses } in
+    let h = subst (IsPlay code cells) (sym c.self.view_is) c.requires.play in
+    let i = c.args.iteration in
+    let next = subst (λ (x : PlayState). next_event (pipeline_played x) (run_state x) i ≡ Some (events.Enter i)) (sym c.self.view_is) c.requires.next in
+    let input = c.requires.input ∙ ap (λ (x : PlayState). x.book.input) (sym c.self.view_is) in
+    let token = c.in-Some.token in
+    let given = subst (λ (b : BookState). IsGivenBy (λ tree numbers x j replies. IsAtInstance code cells tree numbers x.machine j replies) (λ x. no_tie) b token) c.in-Some.ensures.book c.in-Some.ensures.token in
+    let told = c.new-held.ensures in
+    let made = entered_made code cells w h i next (fields_of token) c.in-Some.ensures.answer.2 given.out token.payload.machine given.payload.stands c.new-held.result
+    told.fields told.empty c.args.input.now input told.held c.enter-2.new.self c.enter-2.ensures.schedule c.enter-2.ensures.limit in
+    rw (c.in-Some.ensures.book, c.in_ok-push.ensures.ok) made
+
+pub returns-clause-event : goal.returns-clause-event
+returns-clause-event g c = λ e next.
+    let same : events.Enter c.args.iteration ≡ e = (let q = sym c.requires.next ∙ next in cc) in
+    c.in_ok-push.ensures.ok ∙ (ap (λ x. c.self.inside.events ++ x ∷ []) same ∙ ap (λ (x : PlayState). x.events ++ e ∷ []) c.self.view_is)

@@ -1,0 +1,146 @@
+//! The loop of a program, played on one thread by a schedule.
+
+ghost use Rattle.std.specs.Prelude.{◌≡◌, ◌↔◌, ◌<◌, ◌≤◌, ◌+◌, ◌++◌, ℕ, List, IfOk, IsTrue, false, length};
+ghost use Rattle.cell_store.specs.ShardState.{IsStateAfter};
+ghost use Rattle.pipe_model.specs.declared.event.Event.{Event};
+ghost use Rattle.pipe_model.specs.Language.CheckingRules.{cell_total};
+ghost use Rattle.pipe_model.specs.Language.Programs.{store_of};
+ghost use Rattle.pipe_model.specs.Language.ProgramsOfTrees.{pipeline_after_init, whole_of};
+ghost use Rattle.pipe_model.specs.Language.SourceRefusals.{IsAccepted};
+ghost use Rattle.pipe_model.specs.Language.SyntaxTree.{tree_of};
+ghost use Rattle.pipe_model.specs.Orders.Starts.{starts_of};
+ghost use Rattle.pipe_model.specs.Pipelines.WholePrograms.{init_accesses};
+ghost use Rattle.pipe_model.specs.Races.Reports.{AreRight};
+ghost use Rattle.pipe_model.specs.Runs.Run.{IsFinished, Run};
+ghost use Rattle.pipe_model.specs.Runs.RunLogs.{accesses_after, columns_after, ended_columns_after, state_after};
+ghost use Rattle.pipe_model.specs.Runs.Schedules.{played, running_instances};
+ghost use Rattle.pipe_model.specs.Runs.State.{accesses_of};
+ghost use Rattle.pipe_model.specs.Runs.Throttling.{IsThrottled};
+ghost use Rattle.race_detection.specs.FoundReports.{found_reports};
+ghost use Rattle.schedule_play.specs.LoopPlays.{IsEndOf, IsLoopPlay};
+ghost use Rattle.schedule_play.specs.OneAccess.{HasAllCells};
+ghost use Rattle.schedule_play.specs.PlayStates.{IsPlay, pipeline_played, run_state};
+ghost use Rattle.stage_interp.specs.Standing.{IsCodeOf};
+
+use crate::play::play_turns;
+use crate::player::Player;
+use crate::runner::PlayedCode;
+use cell_store::cells::Cells;
+use pipe_check::checked::Checked;
+use pipe_model::access::NodeAccesses;
+use pipe_model::event::RunLog;
+use pipe_model::list::Numbers;
+use pipe_model::memory::NoMemory;
+use pipe_model::report::Reports;
+use race_detection::detect::detect;
+use run_record::own_columns::columns_of;
+use stage_code::code::Code;
+use std::alloc::Global;
+use std::marker::Brand;
+
+/// How a loop is played: at most `workers` instances run at a time, at most `throttle` iterations are
+/// alive, and at most `turns` events are made.
+#[derive(Clone, Copy, PartialEq, Eq, Debug)]
+pub struct PlayLimits {
+    pub workers: u32,
+    pub throttle: u32,
+    pub turns: u64,
+}
+
+/// A loop that was played.
+#[derive(Drop)]
+pub struct LoopPlay {
+    /// The events in the order in which they were made, and their columns.
+    pub run_log: RunLog,
+    /// The accesses of the events, with their instances.
+    pub accesses: NodeAccesses,
+    /// A race of each cell for which its access history found one, rising by cell.
+    pub reports: Reports,
+    /// Whether the run is finished.
+    pub finished: bool,
+    /// The cells after the accesses.
+    pub cells: Cells,
+}
+
+// Finds the races of a run that was played.
+fn end_play<B: PlayedCode>(alloc: Global, player: Player<B>) -> Result<LoopPlay, NoMemory>
+    requires play { IsPlay B.code B.cells player }
+    requires accepted { (source : List ℕ) × IsAccepted source (tree_of player.book.program) }
+    requires limit { 0 < player.book.limit }
+    ensures { IfOk result (IsEndOf player) }
+{
+    let finished = player.is_finished();
+    let (events, accesses, cells) = player.into_run();
+    let columns = columns_of(alloc, events.as_slice())?;
+    let run_log = RunLog { columns, events };
+    let reports = detect(alloc, &run_log, &accesses)?;
+    Ok(LoopPlay {
+        run_log,
+        accesses,
+        reports,
+        finished,
+        cells,
+    })
+}
+
+// Plays a loop, with the code and the number of cells of `B`.
+fn play_coded<B: PlayedCode>(
+    alloc: Global,
+    checked: &Checked,
+    code: &Code,
+    input: &Numbers,
+    limits: PlayLimits,
+    choices: &[u32],
+    cells: Cells,
+) -> Result<LoopPlay, NoMemory>
+    requires code { code.now ≡ B.code }
+    requires count { cells.shard.cells ≡ B.cells }
+    requires code_of { IsCodeOf (tree_of checked.now) code.now }
+    requires accepted { (source : List ℕ) × IsAccepted source (tree_of checked.now) }
+    requires workers { 0 < limits.workers }
+    requires throttle { 0 < limits.throttle }
+    requires served { cell_total (tree_of checked.now).cells + 2 ≤ cells.shard.cells }
+    requires few { cells.shard.cells ≤ 4294967296 }
+    requires all { HasAllCells cells }
+    requires state { IsStateAfter (store_of (tree_of checked.now)) (init_accesses (whole_of (tree_of checked.now) input.now)) cells }
+    ensures { IfOk result (IsLoopPlay (tree_of checked.now) input.now limits choices.now) }
+{
+    let mut player = Player::<B>::new(alloc, checked, code, input, limits.throttle, cells)?;
+    play_turns(
+        alloc,
+        &mut player,
+        code,
+        input,
+        limits.workers,
+        choices,
+        limits.turns,
+    )?;
+    end_play(alloc, player)
+}
+
+/// Plays the loop of an accepted program by a schedule, over cells that `init` has left, on one thread
+/// (Lee et al. 2013). Event number `j`, counted from 0, is the candidate whose index is choice `j` modulo
+/// the number of candidates; after the last choice the first is used again, and without choices the
+/// index is 0. The candidates are the next event of each iteration, by rising number, and then the
+/// beginning of the next one. Returns an error only if memory runs out.
+pub fn play_loop(
+    alloc: Global,
+    checked: &Checked,
+    code: &Code,
+    input: &Numbers,
+    limits: PlayLimits,
+    choices: &[u32],
+    cells: Cells,
+) -> Result<LoopPlay, NoMemory>
+    requires code_of { IsCodeOf (tree_of checked.now) code.now }
+    requires accepted { (source : List ℕ) × IsAccepted source (tree_of checked.now) }
+    requires workers { 0 < limits.workers }
+    requires throttle { 0 < limits.throttle }
+    requires served { cell_total (tree_of checked.now).cells + 2 ≤ cells.shard.cells }
+    requires few { cells.shard.cells ≤ 4294967296 }
+    requires all { HasAllCells cells }
+    requires state { IsStateAfter (store_of (tree_of checked.now)) (init_accesses (whole_of (tree_of checked.now) input.now)) cells }
+    ensures { IfOk result (IsLoopPlay (tree_of checked.now) input.now limits choices.now) }
+{
+    play_coded::<Brand>(alloc, checked, code, input, limits, choices, cells)
+}

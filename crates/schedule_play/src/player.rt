@@ -1,0 +1,295 @@
+//! A run that is made event by event, on one thread.
+
+ghost use Rattle.std.specs.Prelude.{◌≡◌, ◌≢◌, ◌↔◌, ◌<◌, ◌≤◌, ◌+◌, ℕ, List, ◌++◌, ◌∷◌, [], IfOk, IfSome, IsTrue, None, Some, length, option_map};
+ghost use Rattle.cell_store.specs.ShardState.{IsStateAfter};
+ghost use Rattle.frame_book.specs.BookStates.{item_or};
+ghost use Rattle.pipe_model.specs.Language.CheckingRules.{cell_total};
+ghost use Rattle.pipe_model.specs.Language.Programs.{store_of};
+ghost use Rattle.pipe_model.specs.Language.ProgramsOfTrees.{whole_of};
+ghost use Rattle.pipe_model.specs.Language.SourceRefusals.{IsAccepted};
+ghost use Rattle.pipe_model.specs.Language.SyntaxTree.{tree_of};
+ghost use Rattle.pipe_model.specs.Pipelines.WholePrograms.{init_accesses};
+ghost use Rattle.stage_interp.specs.Standing.{IsCodeOf};
+ghost use Rattle.schedule_play.specs.OneAccess.{HasAllCells};
+ghost use Rattle.pipe_model.specs.declared.event.Event.{Event as PlainEvent};
+ghost use Rattle.pipe_model.specs.declared.event.Event.TheVariants as events;
+ghost use Rattle.pipe_model.specs.Runs.Allowed.{IsRunning};
+ghost use Rattle.pipe_model.specs.Runs.NextEvents.{next_begin, next_event};
+ghost use Rattle.pipe_model.specs.Runs.Run.{IsFinished};
+ghost use Rattle.pipe_model.specs.Runs.Schedules.{candidates, chosen};
+ghost use Rattle.schedule_play.specs.HeldInstances.{HeldState};
+ghost use Rattle.schedule_play.specs.PlayStates.{IsPlay, KeepsProgram, pipeline_played, run_state};
+ghost use Rattle.schedule_play.specs.Turns.{turn_event};
+
+use crate::held::Held;
+use crate::instance::is_stopped;
+use crate::opening::open_book;
+use crate::runner::{PlayedCode, Runner};
+use crate::schedule::Schedule;
+use crate::turns::Turn;
+use cell_store::cells::Cells;
+use frame_book::book::Book;
+use om_list::om_list::OmList;
+use pipe_check::checked::Checked;
+use pipe_frame::results::Begun;
+use pipe_model::access::{NodeAccess, NodeAccesses};
+use pipe_model::event::{Event, Events};
+use pipe_model::list::Numbers;
+use pipe_model::memory::NoMemory;
+use pipe_model::stage::StageEnd;
+use stage_code::code::Code;
+use std::alloc::Global;
+use std::marker::Model;
+
+/// A run of a program. Contracts see the book, the schedule, for each iteration that has begun its
+/// running instance if there is one, the cells, and the events so far with their accesses.
+#[derive(Drop)]
+pub struct Player<B: PlayedCode> {
+    book: Book<Runner<B>, OmList>,
+    schedule: Schedule,
+    running: Vec<Option<Held<B>>>,
+    cells: Cells,
+    events: Events,
+    accesses: NodeAccesses,
+}
+
+impl<B: PlayedCode> Model for Player<B> {
+    ghost use Rattle.pipe_model.specs.contracts.tree.Expr as expr;
+    ghost use Rattle.pipe_model.specs.contracts.tree.Stmt as stmt;
+    ghost use Rattle.std.specs.Coded.{codes};
+    ghost use Rattle.schedule_play.specs.PlayStates.{PlayState};
+
+    ghost Value = { PlayState };
+
+    ghost coded = { Prim.hlevel (codes, expr.the_row.coded, stmt.the_row.coded) };
+
+    ghost view = { λ p. record {
+      book = p.book;
+      schedule = p.schedule;
+      running = p.running.items;
+      cells = p.cells;
+      events = p.events;
+      accesses = p.accesses;
+    } };
+}
+
+impl<B: PlayedCode> Player<B> {
+    /// Returns a player at the beginning of the loop of a program, over cells that `init` has left. At
+    /// most `throttle` iterations may be alive. Returns an error only if memory runs out.
+    pub fn new(
+        alloc: Global,
+        checked: &Checked,
+        code: &Code,
+        input: &Numbers,
+        throttle: u32,
+        cells: Cells,
+    ) -> Result<Self, NoMemory>
+        requires code { code.now ≡ B.code }
+        requires code_of { IsCodeOf (tree_of checked.now) code.now }
+        requires accepted { (source : List ℕ) × IsAccepted source (tree_of checked.now) }
+        requires throttle { 0 < throttle }
+        requires cells { cells.shard.cells ≡ B.cells }
+        requires served { cell_total (tree_of checked.now).cells + 2 ≤ cells.shard.cells }
+        requires few { cells.shard.cells ≤ 4294967296 }
+        requires all { HasAllCells cells }
+        requires state { IsStateAfter (store_of (tree_of checked.now)) (init_accesses (whole_of (tree_of checked.now) input.now)) cells }
+        ensures play { IfOk result (λ player. IsPlay B.code B.cells player) }
+        ensures new { IfOk result (λ player. player.events ≡ []) }
+        ensures tree { IfOk result (λ player. tree_of player.book.program ≡ tree_of checked.now) }
+        ensures input { IfOk result (λ player. player.book.input ≡ input.now) }
+        ensures limit { IfOk result (λ player. player.book.limit ≡ throttle) }
+    {
+        let _limits = code.limits();
+        Ok(Player {
+            book: open_book(alloc, checked, code, input, throttle)?,
+            schedule: Schedule::new(alloc, throttle)?,
+            running: Vec::new(alloc),
+            cells,
+            events: Events::new(alloc),
+            accesses: NodeAccesses::new(alloc),
+        })
+    }
+
+    // The event `Begin` of the next iteration.
+    fn begin(&mut self, alloc: Global, code: &Code, input: &Numbers) -> Result<(), NoMemory>
+        requires code { code.now ≡ B.code }
+        requires input { input.now ≡ self.old.book.input }
+        requires play { IsPlay B.code B.cells self.old }
+        requires next { (e : PlainEvent) × (next_begin self.old.book.limit (run_state self.old) ≡ Some e) }
+        ensures play { IfOk result (λ u. IsPlay B.code B.cells self.new) }
+        ensures event { IfOk result (λ u. (e : PlainEvent) → next_begin self.old.book.limit (run_state self.old) ≡ Some e
+            → self.new.events ≡ self.old.events ++ e ∷ []) }
+        ensures keeps { IfOk result (λ u. KeepsProgram self.old self.new) }
+    {
+        let Begun::Started(token) = self.book.begin() else {
+            unreachable!()
+        };
+        let iteration = token.iteration;
+        let held = Held::new(alloc, token, code, input, &self.cells);
+        self.running.push(Some(held))?;
+        self.schedule.begin();
+        self.events.push(Event::Begin(iteration))?;
+        Ok(())
+    }
+
+    // The event `Enter` of an iteration.
+    fn enter(
+        &mut self,
+        alloc: Global,
+        code: &Code,
+        input: &Numbers,
+        iteration: u32,
+    ) -> Result<(), NoMemory>
+        requires code { code.now ≡ B.code }
+        requires input { input.now ≡ self.old.book.input }
+        requires play { IsPlay B.code B.cells self.old }
+        requires next { next_event (pipeline_played self.old) (run_state self.old) iteration ≡ Some (events.Enter iteration) }
+        ensures play { IfOk result (λ u. IsPlay B.code B.cells self.new) }
+        ensures event { IfOk result (λ u. (e : PlainEvent) → next_event (pipeline_played self.old) (run_state self.old) iteration ≡ Some e
+            → self.new.events ≡ self.old.events ++ e ∷ []) }
+        ensures keeps { IfOk result (λ u. KeepsProgram self.old self.new) }
+    {
+        let Some(token) = self.book.enter(iteration) else {
+            unreachable!()
+        };
+        let held = Held::new(alloc, token, code, input, &self.cells);
+        self.running[iteration as usize] = Some(held);
+        self.schedule.enter(iteration);
+        self.events.push(Event::Enter(iteration))?;
+        Ok(())
+    }
+
+    // Returns the next event of the running instance of an iteration, as its end, or `Stopped` for an
+    // access. Returns `None` if none runs.
+    fn end_of_running(&self, iteration: u32) -> Option<StageEnd>
+        requires there { iteration < length self.now.running }
+        ensures { result ≡ option_map (λ (h : HeldState). h.next) (item_or None self.now.running iteration) }
+    {
+        match &self.running[iteration as usize] {
+            Some(held) => Some(held.next()),
+            None => None,
+        }
+    }
+
+    // The access that is the next event of an iteration.
+    fn access(&mut self, code: &Code, input: &Numbers, iteration: u32) -> Result<(), NoMemory>
+        requires code { code.now ≡ B.code }
+        requires input { input.now ≡ self.old.book.input }
+        requires play { IsPlay B.code B.cells self.old }
+        requires runs { IsRunning (run_state self.old) iteration }
+        requires next { IfSome (item_or None self.old.running iteration) (λ (h : HeldState). h.next ≡ StageEnd.Stopped) }
+        ensures play { IfOk result (λ u. IsPlay B.code B.cells self.new) }
+        ensures event { IfOk result (λ u. (e : PlainEvent) → next_event (pipeline_played self.old) (run_state self.old) iteration ≡ Some e
+            → self.new.events ≡ self.old.events ++ e ∷ []) }
+        ensures keeps { IfOk result (λ u. KeepsProgram self.old self.new) }
+    {
+        let ticket = self.events.len() as u64 + 1;
+        let Some(mut held) = self.running[iteration as usize].take() else {
+            unreachable!()
+        };
+        let access = held.access(code, input, &mut self.cells, ticket)?;
+        let node = held.node();
+        self.running[iteration as usize] = Some(held);
+        self.accesses.push(NodeAccess { node, access })?;
+        self.events.push(Event::Access(iteration, access))?;
+        Ok(())
+    }
+
+    // The end of the running instance of an iteration.
+    fn end(&mut self, iteration: u32, end: StageEnd) -> Result<(), NoMemory>
+        requires play { IsPlay B.code B.cells self.old }
+        requires runs { IsRunning (run_state self.old) iteration }
+        requires next { IfSome (item_or None self.old.running iteration) (λ (h : HeldState). h.next ≡ end) }
+        requires ends { end ≢ StageEnd.Stopped }
+        ensures play { IfOk result (λ u. IsPlay B.code B.cells self.new) }
+        ensures event { IfOk result (λ u. (e : PlainEvent) → next_event (pipeline_played self.old) (run_state self.old) iteration ≡ Some e
+            → self.new.events ≡ self.old.events ++ e ∷ []) }
+        ensures keeps { IfOk result (λ u. KeepsProgram self.old self.new) }
+    {
+        let Some(held) = self.running[iteration as usize].take() else {
+            unreachable!()
+        };
+        held.end(&mut self.book);
+        let event = self.schedule.end_instance(iteration, end);
+        self.events.push(event)?;
+        Ok(())
+    }
+
+    // The next event of an iteration.
+    fn next(
+        &mut self,
+        alloc: Global,
+        code: &Code,
+        input: &Numbers,
+        iteration: u32,
+    ) -> Result<(), NoMemory>
+        requires code { code.now ≡ B.code }
+        requires input { input.now ≡ self.old.book.input }
+        requires play { IsPlay B.code B.cells self.old }
+        requires next { (e : PlainEvent) × (next_event (pipeline_played self.old) (run_state self.old) iteration ≡ Some e) }
+        ensures play { IfOk result (λ u. IsPlay B.code B.cells self.new) }
+        ensures event { IfOk result (λ u. (e : PlainEvent) → next_event (pipeline_played self.old) (run_state self.old) iteration ≡ Some e
+            → self.new.events ≡ self.old.events ++ e ∷ []) }
+        ensures keeps { IfOk result (λ u. KeepsProgram self.old self.new) }
+    {
+        let Some(end) = self.end_of_running(iteration) else {
+            return self.enter(alloc, code, input, iteration);
+        };
+        if is_stopped(end) {
+            self.access(code, input, iteration)
+        } else {
+            self.end(iteration, end)
+        }
+    }
+
+    /// Returns whose turn it is by this choice, if at most `workers` instances may run. Returns `None`
+    /// if there is no candidate for the next event.
+    pub fn choose(&self, workers: u32, choice: u32) -> Option<Turn>
+        requires play { IsPlay B.code B.cells self.now }
+        ensures { option_map (turn_event (pipeline_played self.now) self.now.book.limit (run_state self.now)) result
+            ≡ option_map Some (chosen choice (candidates (pipeline_played self.now) self.now.book.limit workers (run_state self.now))) }
+    {
+        self.schedule.choose(workers, choice)
+    }
+
+    /// Returns whether the run is finished: the loop is closed, and all iterations have ended.
+    pub fn is_finished(&self) -> bool
+        requires play { IsPlay B.code B.cells self.now }
+        requires limit { 0 < self.now.book.limit }
+        ensures { IsTrue result ↔ IsFinished (run_state self.now) }
+    {
+        self.schedule.choose(1, 0).is_none()
+    }
+
+    /// Returns the events so far, their accesses, and the cells.
+    pub fn into_run(self) -> (Events, NodeAccesses, Cells)
+        ensures events { result.0 ≡ self.events }
+        ensures accesses { result.1 ≡ self.accesses }
+        ensures cells { result.2 ≡ self.cells }
+    {
+        (self.events, self.accesses, self.cells)
+    }
+
+    /// Makes the event of a turn. Returns an error only if memory runs out.
+    pub fn take_turn(
+        &mut self,
+        alloc: Global,
+        code: &Code,
+        input: &Numbers,
+        turn: Turn,
+    ) -> Result<(), NoMemory>
+        requires code { code.now ≡ B.code }
+        requires input { input.now ≡ self.old.book.input }
+        requires play { IsPlay B.code B.cells self.old }
+        requires turn { (e : PlainEvent) × (turn_event (pipeline_played self.old) self.old.book.limit (run_state self.old) turn ≡ Some e) }
+        ensures play { IfOk result (λ u. IsPlay B.code B.cells self.new) }
+        ensures event { IfOk result (λ u. (e : PlainEvent) → turn_event (pipeline_played self.old) self.old.book.limit (run_state self.old) turn ≡ Some e
+            → self.new.events ≡ self.old.events ++ e ∷ []) }
+        ensures keeps { IfOk result (λ u. KeepsProgram self.old self.new) }
+    {
+        match turn {
+            Turn::Next(iteration) => self.next(alloc, code, input, iteration),
+            Turn::Begin => self.begin(alloc, code, input),
+        }
+    }
+}
