@@ -1,2 +1,3 @@
 pub mod OwnStarts
 pub mod PlayedEvents
+pub mod LabelledTests
