@@ -1,0 +1,18 @@
+use Rattle.std.proofs.Common.{subst, sym}
+use Rattle.language_laws.proofs.SpellablePrograms.{spelled_is_spellable}
+use Rattle.pipe_model.specs.declared.tree.Program.{Program}
+use Rattle.pipe_model.specs.Language.SourceRefusals.{IsAccepted}
+use Rattle.pipe_model.specs.Language.SyntaxTree.{tree_of}
+use Rattle.play_tests.proofs.play_rows.accepted.Goals as goal
+
+pub check-requires : goal.check-requires
+check-requires c =
+    record { spellable = spelled_is_spellable _ _ (record { tokens = _; lexed = c.in-Ok.ensures.tokens; spelled = c.in-Ok-parse.ensures.program }) }
+
+pub returns : goal.returns
+returns c =
+    let told = c.in-Ok-check.ensures in
+    (c.args.source.now, subst (λ (p : Program). IsAccepted c.args.source.now (tree_of p)) (sym told.program) (record {
+      spelled = record { tokens = _; lexed = c.in-Ok.ensures.tokens; spelled = c.in-Ok-parse.ensures.program };
+      obeys = told.ok;
+    }))

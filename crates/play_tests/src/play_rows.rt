@@ -1,0 +1,189 @@
+//! Loops, played by given choices.
+
+ghost use Rattle.std.specs.Prelude.{◌≡◌, ◌<◌, ℕ, List, IfOk};
+ghost use Rattle.pipe_model.specs.Language.SourceRefusals.{IsAccepted};
+ghost use Rattle.pipe_model.specs.Language.SyntaxTree.{tree_of};
+
+use cell_store::cells::Cells;
+use pipe_check::checked::Checked;
+use pipe_check::program::check;
+use pipe_lexer::scan::tokens;
+use pipe_model::access::CellId;
+use pipe_model::list::{Bytes, Numbers};
+use pipe_model::memory::NoMemory;
+use pipe_parser::parse::parse;
+use run_record::log_text::text;
+use schedule_play::choices::choices;
+use schedule_play::loop_play::{LoopPlay, PlayLimits, play_loop};
+use stage_code::lower::lower;
+use std::alloc::Global;
+use std::test::Fail;
+
+// Counts to 1, waits, and emits the count.
+const COUNTING: &str = "limits iterations 1, stages 2, steps 50, emits 1; \
+    cell n = 0; pipe_while (n < 1) { n = 1; pipe_wait(1); emit n; }";
+
+// Iterations 0 and 1 wait for no one, and both use `f`; the second reads it in stage 0.
+const RACING: &str = "limits iterations 2, stages 3, steps 50, emits 2; \
+    cell n = 0; cell f = 0; cell c = 0; pipe_while (n < 2) { n = n + 1; if (iter() == 0) { \
+    pipe_continue(1); f = 1; } else { if (f == 0) { pipe_continue(1); } pipe_continue(2); c = 1; } }";
+
+// Two iterations, of which each waits in its stage 1.
+const WAITING: &str = "limits iterations 2, stages 2, steps 50, emits 0; \
+    cell n = 0; pipe_while (n < 2) { n = n + 1; pipe_wait(1); }";
+
+const LINES: [&str; 12] = [
+    "begin 0\n",
+    "read 0 n 0\n",
+    "write 0 n 1\n",
+    "wait 0 1\n",
+    "enter 0\n",
+    "read 0 n 1\n",
+    "read 0 output 0\n",
+    "write 0 output 1\n",
+    "end 0\n",
+    "begin 1\n",
+    "read 1 n 1\n",
+    "closed 1\n",
+];
+
+const WAITING_LINES: [&str; 17] = [
+    "begin 0\n",
+    "read 0 n 0\n",
+    "read 0 n 0\n",
+    "write 0 n 1\n",
+    "wait 0 1\n",
+    "begin 1\n",
+    "read 1 n 1\n",
+    "read 1 n 1\n",
+    "write 1 n 2\n",
+    "wait 1 1\n",
+    "enter 0\n",
+    "end 0\n",
+    "begin 2\n",
+    "read 2 n 2\n",
+    "closed 2\n",
+    "enter 1\n",
+    "end 1\n",
+];
+
+fn refused() -> Fail {
+    Fail::new(format_args!("the source is refused"))
+}
+
+fn accepted(alloc: Global, source: &[u8]) -> Result<Checked, Fail>
+    ensures { IfOk result (λ checked. (source : List ℕ) × IsAccepted source (tree_of checked)) }
+{
+    let Ok(tokens) = tokens(alloc, source) else {
+        return Err(refused());
+    };
+    let Ok(parsed) = parse(alloc, source, &tokens) else {
+        return Err(refused());
+    };
+    let Ok(checked) = check(alloc, parsed.program) else {
+        return Err(refused());
+    };
+    Ok(checked)
+}
+
+fn limits(workers: u32, throttle: u32, turns: u64) -> PlayLimits
+    ensures workers { result.workers ≡ workers }
+    ensures throttle { result.throttle ≡ throttle }
+{
+    PlayLimits {
+        workers,
+        throttle,
+        turns,
+    }
+}
+
+// A loop that was played, and the lines of its log.
+#[derive(Drop)]
+struct Seen {
+    play: LoopPlay,
+    lines: Bytes,
+}
+
+// Plays the loop of a source without `init`, without an input.
+fn played(alloc: Global, source: &str, limits: PlayLimits, choices: &[u32]) -> Result<Seen, Fail>
+    requires workers { 0 < limits.workers }
+    requires throttle { 0 < limits.throttle }
+{
+    let checked = accepted(alloc, source.as_bytes())?;
+    if !checked.program().init.statements.is_empty() {
+        return Err(refused());
+    }
+    let code = lower(alloc, &checked)?;
+    let cells = Cells::new(alloc, &checked, 0, 1)?;
+    let input = Numbers::new(alloc);
+    let play = play_loop(alloc, &checked, &code, &input, limits, choices, cells)?;
+    let lines = text(alloc, &play.run_log, &checked)?;
+    Ok(Seen { play, lines })
+}
+
+fn joined(alloc: Global, lines: &[&str]) -> Result<Bytes, NoMemory> {
+    let mut text = Vec::new(alloc);
+    for line in lines {
+        text.extend_from_slice(line.as_bytes())?;
+    }
+    Ok(Bytes::from_vec(text))
+}
+
+#[test]
+fn a_loop_is_played_to_its_end(rt: HostRuntime) -> Result<(), Fail> {
+    let alloc = rt.alloc();
+    let seen = played(alloc, COUNTING, limits(1, 2, 100), &[])?;
+    assert_eq!(rt; seen.lines.as_slice(), joined(alloc, &LINES)?.as_slice());
+    assert!(rt; seen.play.finished && seen.play.reports.is_empty());
+    let front = played(alloc, COUNTING, limits(1, 2, 11), &[])?;
+    assert_eq!(rt;
+        front.lines.as_slice(),
+        joined(alloc, &LINES[..11])?.as_slice()
+    );
+    assert!(rt; !front.play.finished);
+    let none = played(alloc, COUNTING, limits(1, 2, 0), &[])?;
+    assert!(rt; none.lines.is_empty() && !none.play.finished);
+    Ok(())
+}
+
+#[test]
+fn each_schedule_has_the_race(rt: HostRuntime) -> Result<(), Fail> {
+    let alloc = rt.alloc();
+    for seed in 0..100 {
+        let choices = choices(alloc, seed)?;
+        let seen = played(alloc, RACING, limits(2, 2, 10_000), choices.as_slice())?;
+        assert!(rt; seen.play.finished, "{seed}");
+        let reports = seen.play.reports.as_slice();
+        assert_eq!(rt; reports.len(), 1, "{seed}");
+        assert_eq!(rt; reports[0].cell, CellId(3), "{seed}");
+    }
+    Ok(())
+}
+
+// With one iteration alive at a time there is one order.
+#[test]
+fn throttled_loops_are_serial(rt: HostRuntime) -> Result<(), Fail> {
+    let alloc = rt.alloc();
+    let serial = played(alloc, WAITING, limits(1, 1, 1000), &[])?;
+    for seed in 0..10 {
+        let choices = choices(alloc, seed)?;
+        let seen = played(alloc, WAITING, limits(4, 1, 1000), choices.as_slice())?;
+        assert!(rt; seen.play.finished, "{seed}");
+        assert_eq!(rt; seen.lines.as_slice(), serial.lines.as_slice(), "{seed}");
+    }
+    Ok(())
+}
+
+// Choice 1 begins iteration 1 as soon as it may begin, and lets it go on up to its wait. It enters its stage
+// once iteration 0 has ended, after iteration 2, which closes the loop.
+#[test]
+fn an_iteration_waits_and_goes_on(rt: HostRuntime) -> Result<(), Fail> {
+    let alloc = rt.alloc();
+    let seen = played(alloc, WAITING, limits(2, 2, 1000), &[1])?;
+    assert_eq!(rt;
+        seen.lines.as_slice(),
+        joined(alloc, &WAITING_LINES)?.as_slice()
+    );
+    assert!(rt; seen.play.finished);
+    Ok(())
+}
