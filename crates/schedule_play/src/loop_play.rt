@@ -1,25 +1,16 @@
 //! The loop of a program, played on one thread by a schedule.
 
-ghost use Rattle.std.specs.Prelude.{◌≡◌, ◌↔◌, ◌<◌, ◌≤◌, ◌+◌, ◌++◌, ℕ, List, IfOk, IsTrue, false, length};
+ghost use Rattle.std.specs.Prelude.{◌≡◌, ◌<◌, ◌≤◌, ◌+◌, ℕ, List, IfOk};
 ghost use Rattle.cell_store.specs.ShardState.{IsStateAfter};
-ghost use Rattle.pipe_model.specs.declared.event.Event.{Event};
 ghost use Rattle.pipe_model.specs.Language.CheckingRules.{cell_total};
 ghost use Rattle.pipe_model.specs.Language.Programs.{store_of};
-ghost use Rattle.pipe_model.specs.Language.ProgramsOfTrees.{pipeline_after_init, whole_of};
+ghost use Rattle.pipe_model.specs.Language.ProgramsOfTrees.{whole_of};
 ghost use Rattle.pipe_model.specs.Language.SourceRefusals.{IsAccepted};
 ghost use Rattle.pipe_model.specs.Language.SyntaxTree.{tree_of};
-ghost use Rattle.pipe_model.specs.Orders.Starts.{starts_of};
 ghost use Rattle.pipe_model.specs.Pipelines.WholePrograms.{init_accesses};
-ghost use Rattle.pipe_model.specs.Races.Reports.{AreRight};
-ghost use Rattle.pipe_model.specs.Runs.Run.{IsFinished, Run};
-ghost use Rattle.pipe_model.specs.Runs.RunLogs.{accesses_after, columns_after, ended_columns_after, state_after};
-ghost use Rattle.pipe_model.specs.Runs.Schedules.{played, running_instances};
-ghost use Rattle.pipe_model.specs.Runs.State.{accesses_of};
-ghost use Rattle.pipe_model.specs.Runs.Throttling.{IsThrottled};
-ghost use Rattle.race_detection.specs.FoundReports.{found_reports};
 ghost use Rattle.schedule_play.specs.LoopPlays.{IsEndOf, IsLoopPlay};
 ghost use Rattle.schedule_play.specs.OneAccess.{HasAllCells};
-ghost use Rattle.schedule_play.specs.PlayStates.{IsPlay, pipeline_played, run_state};
+ghost use Rattle.schedule_play.specs.PlayStates.{IsPlay};
 ghost use Rattle.stage_interp.specs.Standing.{IsCodeOf};
 
 use crate::play::play_turns;
@@ -38,12 +29,14 @@ use stage_code::code::Code;
 use std::alloc::Global;
 use std::marker::Brand;
 
-/// How a loop is played: at most `workers` instances run at a time, at most `throttle` iterations are
-/// alive, and at most `turns` events are made.
+/// How a loop is played.
 #[derive(Clone, Copy, PartialEq, Eq, Debug)]
 pub struct PlayLimits {
+    /// The most instances that run at a time, at least 1.
     pub workers: u32,
+    /// The most iterations that are alive at a time, at least 1.
     pub throttle: u32,
+    /// The most events that are made.
     pub turns: u64,
 }
 

@@ -1,6 +1,6 @@
 //! Schedules, played on one thread.
 
-ghost use Rattle.std.specs.Prelude.{◌≡◌, ◌<◌, [], IfOk, length};
+ghost use Rattle.std.specs.Prelude.{◌≡◌, ◌<◌, [], IfOk};
 ghost use Rattle.pipe_model.specs.Runs.Schedules.{choice_at, played};
 ghost use Rattle.schedule_play.specs.PlayStates.{IsPlay, KeepsProgram, pipeline_played};
 

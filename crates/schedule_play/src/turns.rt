@@ -6,7 +6,7 @@ ghost use Rattle.pipe_model.specs.Pipelines.Pipeline.{Pipeline};
 ghost use Rattle.pipe_model.specs.Runs.NextEvents.{next_begin};
 ghost use Rattle.pipe_model.specs.Runs.Schedules.{candidates, chosen};
 ghost use Rattle.pipe_model.specs.Runs.State.{State};
-ghost use Rattle.schedule_play.specs.Turns.{alive_iterations, chosen_turn, is_running, iteration_turns, may_go, turn_event, turns};
+ghost use Rattle.schedule_play.specs.Turns.{alive_iterations, is_running, iteration_turns, may_go, turn_event, turns};
 ghost use Rattle.schedule_play.specs.declared.turns.Alive.{Alive as Kept};
 
 /// How far an iteration is that has not ended.
