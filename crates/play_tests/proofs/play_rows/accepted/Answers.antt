@@ -11,8 +11,10 @@ check-requires c =
 
 pub returns : goal.returns
 returns c =
-    let told = c.in-Ok-check.ensures in
-    (c.args.source.now, subst (λ (p : Program). IsAccepted c.args.source.now (tree_of p)) (sym told.program) (record {
-      spelled = record { tokens = _; lexed = c.in-Ok.ensures.tokens; spelled = c.in-Ok-parse.ensures.program };
-      obeys = told.ok;
-    }))
+    let told = c.in-Ok-check.ensures in (
+      c.args.source.now,
+      subst (λ (p : Program). IsAccepted c.args.source.now (tree_of p)) (sym told.program) (record {
+        spelled = record { tokens = _; lexed = c.in-Ok.ensures.tokens; spelled = c.in-Ok-parse.ensures.program };
+        obeys = told.ok;
+      }),
+    )
