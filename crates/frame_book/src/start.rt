@@ -16,7 +16,7 @@ use order_2d::two_orders::TwoOrders;
 use pipe_model::marks::Marks;
 use pipe_model::node::Kind;
 
-/// Starts instance 0 of the next iteration, tells its payload, and returns its marks.
+/// Starts instance 0 of the next iteration, notifies its payload, and returns its marks.
 pub fn start_head<M: Payload<L>, L: ListWriter + Drop>(
     rows: &[Iteration<M>],
     orders: &mut TwoOrders<L>,
@@ -79,7 +79,7 @@ pub fn left_place<M>(
     }
 }
 
-/// Starts the instance below an instance, tells its payload, and returns its marks; `left` is the
+/// Starts the instance below an instance, notifies its payload, and returns its marks; `left` is the
 /// index of its left parent.
 pub fn start_below<M: Payload<L>, L: ListWriter + Drop>(
     rows: &[Iteration<M>],

@@ -149,7 +149,7 @@ module _ (code : FlatCode) (cells : ℕ) (v : PlayState) (h : IsPlay code cells 
         ∙ ap (λ (n : Rattle.pipe_model.specs.declared.node.NodeId.NodeId). s.accesses ++ record { node = n; access = a } ∷ [])
         (Rattle.std.proofs.Common.ap₂ at fits.iteration index_here))
 
--- ---- what the calls of the player tell
+-- ---- the results of the player's calls
 
 -- the slot of a running iteration is there, and holds its instance
 pub slot_within : (code : FlatCode) (cells : ℕ) (v : PlayState) → IsPlay code cells v → (i : ℕ) (f : Frame) → frame_at (run_state v).frames i ≡ Some f

@@ -126,7 +126,7 @@ module _ (code : FlatCode) (cells : ℕ) (v : PlayState) (h : IsPlay code cells 
         })
         h.state h.all h.count h.accesses
 
--- ---- what the calls of the player tell
+-- ---- the results of the player's calls
 
 begin_event : (limit : ℕ) (s : State) (e : Event) → next_begin limit s ≡ Some e → e ≡ Begin (length s.frames)
 begin_event limit s e next = by_test (nat_lt (alive s) limit && frame_continues_loop (frame_at s.frames (length s.frames - 1))) next

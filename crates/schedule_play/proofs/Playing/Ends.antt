@@ -261,7 +261,7 @@ module _ (code : FlatCode) (cells : ℕ) (v : PlayState) (h : IsPlay code cells 
       by (stage_ends.Trap t) at apart answer one = ended_by (ends.Trapped t) (stage_ends.Trap t) at apart tt answer refl one
       by stage_ends.Stopped at apart answer one = absurd (apart refl)
 
--- what a call of the player tells: the event is the next one, and the play goes on with it
+-- the result of a call of the player: the event is the next one, and the play goes on with it
 pub end_made : (code : FlatCode) (cells : ℕ) (v : PlayState) (h : IsPlay code cells v) (i : ℕ) (r : IsRunning (run_state v) i) (k : HeldState)
     → item_or None v.running i ≡ Some k → (end : StageEnd) → k.next ≡ end → end ≢ stage_ends.Stopped → (result : Named)
     → NameReturns (state_of v.book) k.next result → (e : Event) → stage_end_events i end ≡ e ∷ [] → (schedule : ScheduleState)

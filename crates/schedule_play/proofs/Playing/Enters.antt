@@ -102,7 +102,7 @@ module _ (code : FlatCode) (cells : ℕ) (v : PlayState) (h : IsPlay code cells 
         })
         h.state h.all h.count h.accesses
 
--- ---- what the calls of the player tell
+-- ---- the results of the player's calls
 
 -- an iteration with a next event has begun
 pub frame_of_next : (p : Pipeline) (s : State) (i : ℕ) (e : Event) → next_event p s i ≡ Some e → (f : Frame) × (frame_at s.frames i ≡ Some f)
