@@ -1,5 +1,5 @@
 -- A row that runs a program meets the headline.
-use Rattle.std.proofs.Common.{◌≡◌, ◌≢◌, ◌≤◌, ◌∙◌, ◌↔◌, ◌++◌, ℕ, ℤ, List, [], Option, Some, None, IfSome, append-nil, arith, refl, sym}
+use Rattle.std.proofs.Common.{◌≡◌, ◌≢◌, ◌≤◌, ◌∙◌, ◌↔◌, ◌++◌, Bool, ℕ, ℤ, List, [], Option, Some, None, IfSome, append-nil, arith, refl, sym}
 use Rattle.pipe_model.specs.declared.event.RunLog.{RunLog}
 use Rattle.pipe_model.specs.declared.report.Report.{Report}
 use Rattle.pipe_model.specs.Language.SourceRefusals.{IsAccepted}
@@ -13,22 +13,27 @@ use Rattle.pipe_model.specs.declared.trap.TrapAt.{TrapAt}
 use Rattle.pipe_model.specs.Races.Reports.{AreRight}
 use Rattle.pipe_model.specs.Runs.RunLogs.{accesses_after, columns_after}
 use Rattle.pipe_model.specs.Texts.{output_lines, trap_lines}
+use Rattle.pipe_model.specs.Language.ProgramsOfTrees.{whole_of}
+use Rattle.pipe_model.specs.Runs.Throttling.{IsThrottled}
+use Rattle.pipe_model.specs.Runs.WholeProgramRuns.{IsFinishedProgramRun}
 use Rattle.cilkp_program.proofs.DetectedRaces.{detectable}
 use Rattle.cilkp_program.proofs.GreaterLimits.{meets_more}
 use Rattle.cilkp_program.specs.RunReports.{run_reports}
 use Rattle.cilkp_program.specs.RunTexts.{IsPrintedAs, WithRaces, ToItsEnd, WithTrap}
-use Rattle.cilkp_program.proofs.OneCommand.{no_command, one_limit, run_is_not_bench, run_is_not_format, run_is_not_serial}
+use Rattle.cilkp_program.proofs.OneCommand.{one_limit, runs_no_command, runs_nothing}
 use Rattle.cilkp_program.proofs.OneContent.{one_input, one_source, refused_no_input, refused_not_accepted_file}
 use Rattle.cilkp_program.proofs.SerialDags.{serial_log}
 use Rattle.cilkp_program.specs.CallResults.{IsCallResult, OfRow, SourceFault, InputFault, IsPrinted}
-use Rattle.cilkp_program.specs.Headline.{AgreesWithElision, ReturnsRun, IsToRun, MeetsHeadline}
+use Rattle.cilkp_program.specs.Headline.{AgreesWithElision, IsToRun, MeetsHeadline}
+use Rattle.cilkp_program.specs.CommandFiles.{asks_record}
+use Rattle.cilkp_program.specs.RecordedRuns.{IsRecordedRun, ReturnsRun}
 use Rattle.cilkp_program.specs.ProgramFiles.{FileContents}
 use Rattle.cilkp_program.specs.Rows.{Row, NoCommand, SourceRefused, Formats, Benches, InputRefused, Runs, RunsSerially}
 use Rattle.cilkp_program.specs.SerialResults.{ElisionHasNoRace, elision_log, elision_output, elision_trap}
 
 -- what is printed for the elision's output and trap, or for reports that are there exactly if the elision has a race, agrees with the elision
 printed_agrees : (tree : SyntaxTree) (numbers output : List ℤ) (trap : Option TrapAt) (reports : List Report) {status : ℕ} {text : List ℕ}
-    → (reports ≡ []) ↔ ElisionHasNoRace tree numbers → output ≡ elision_output tree numbers → trap ≡ elision_trap tree numbers
+    → (reports ≡ []) ↔ ElisionHasNoRace tree numbers → (reports ≡ [] → output ≡ elision_output tree numbers) → (reports ≡ [] → trap ≡ elision_trap tree numbers)
     → IsPrintedAs tree.cells output trap reports status text → AgreesWithElision tree numbers reports status text
 printed_agrees tree numbers output trap reports silent o t (WithRaces some) =
     let racy : ElisionHasNoRace tree numbers → ⊥ = λ free. some (silent.1 free) in
@@ -42,27 +47,39 @@ printed_agrees tree numbers output trap reports silent o t (WithRaces some) =
     }
 printed_agrees tree numbers output trap reports silent o t (ToItsEnd none ends) =
     let free = silent.0 none in
-    let no_trap : elision_trap tree numbers ≡ None = sym t ∙ ends in
+    let all = o none in
+    let no_trap : elision_trap tree numbers ≡ None = sym (t none) ∙ ends in
     record {
       silent = silent;
       racy = ((λ e. absurd (omega (arith, e))), λ some. absurd (some free));
       races = λ e. absurd (omega (arith, e));
-      otherwise = λ e. sym (append-nil (output_lines output)) ∙ (λ i. output_lines (o i) ++ trap_lines (sym no_trap i));
+      otherwise = λ e. sym (append-nil (output_lines output)) ∙ (λ i. output_lines (all i) ++ trap_lines (sym no_trap i));
       trapped = ((λ e. absurd (omega (arith, e))), λ some. absurd (some.1 no_trap));
       untrapped = (λ e. (free, no_trap), λ e. refl);
     }
 printed_agrees tree numbers output trap reports silent o t (WithTrap at none ends) =
     let free = silent.0 none in
-    let is : elision_trap tree numbers ≡ Some at = sym t ∙ ends in
+    let all = o none in
+    let is : elision_trap tree numbers ≡ Some at = sym (t none) ∙ ends in
     let some : elision_trap tree numbers ≢ None = λ none. (let d : None ≡ Some at = sym none ∙ is in cc (d)) in
     record {
       silent = silent;
       racy = ((λ e. absurd (omega (arith, e))), λ racy. absurd (racy free));
       races = λ e. absurd (omega (arith, e));
-      otherwise = λ e. λ i. output_lines (o i) ++ trap_lines (sym is i);
+      otherwise = λ e. λ i. output_lines (all i) ++ trap_lines (sym is i);
       trapped = (λ e. (free, some), λ e. refl);
       untrapped = ((λ e. absurd (omega (arith, e))), λ none. absurd (some none.1));
     }
+
+-- a finished run of the program, and what is printed for it, meet the headline
+pub run_meets : (source : List ℕ) (tree : SyntaxTree) (numbers : List ℤ) (limit : ℕ) (log : RunLog) (output : List ℤ) (trap : Option TrapAt)
+    (reports : List Report) {status : ℕ} {text : List ℕ} → IsAccepted source tree → IsFinishedProgramRun (whole_of tree numbers) limit log
+    → IsThrottled limit log.events → AreRight (columns_after log.events) (accesses_after log.events) reports
+    → (reports ≡ [] → output ≡ elision_output tree numbers) → (reports ≡ [] → trap ≡ elision_trap tree numbers)
+    → IsPrintedAs tree.cells output trap reports status text → MeetsHeadline tree numbers limit log reports status text
+run_meets source tree numbers limit log output trap reports form run throttled right o t printed =
+    let whole = runs_meet_the_headline source tree numbers limit log reports [] form run right in
+    record { run = run; reported = right; agrees = printed_agrees tree numbers output trap reports whole.silent o t printed; throttled = throttled }
 
 -- the serial elision as a run, and what its histories report, meet the headline for every limit of at least 1
 pub elision_meets : (source : List ℕ) (tree : SyntaxTree) (numbers : List ℤ) (limit : ℕ) (output : List ℤ) (trap : Option TrapAt) (reports : List Report)
@@ -73,44 +90,44 @@ elision_meets source tree numbers limit output trap reports form room o t is pri
     let log = elision_log tree numbers in
     let h = serial_log source tree numbers limit form room in
     let right : AreRight (columns_after log.events) (accesses_after log.events) reports = rw is (detectable source tree numbers form).right in
-    let whole = runs_meet_the_headline source tree numbers limit log reports [] form h.run right in
-    record {
-      run = h.run;
-      reported = right;
-      agrees = printed_agrees tree numbers output trap reports whole.silent o t printed;
-      throttled = h.rules.throttled;
-    }
+    run_meets source tree numbers limit log output trap reports form h.run h.rules.throttled right (λ none. o) (λ none. t) printed
 
 -- the result is that of a run of the program
-record IsRunOf (tree : SyntaxTree) (numbers : List ℤ) (limit status : ℕ) (text : List ℕ) (run_log : Option RunLog) (reports : List Report) : Type 0 where
+record IsRunOf (recording : Bool) (tree : SyntaxTree) (numbers : List ℤ) (limit status : ℕ) (text : List ℕ) (run_log : Option RunLog) (reports : List Report)
+    : Type 0 where
   log : RunLog
   logged : run_log ≡ Some log
-  meets : MeetsHeadline tree numbers limit log reports status text
+  meets : IsRecordedRun recording tree numbers limit log reports status text
+
+-- what meets the headline under a limit meets it under a greater one
+recorded_more : {recording : Bool} {tree : SyntaxTree} {numbers : List ℤ} (limit more : ℕ) {log : RunLog} {reports : List Report} {status : ℕ} {text : List ℕ}
+    → limit ≤ more → IsRecordedRun recording tree numbers limit log reports status text → IsRecordedRun recording tree numbers more log reports status text
+recorded_more limit more le h = record { outcome = h.outcome; text_is = h.text_is; meets = meets_more limit more le h.meets }
 
 accepted_row : {asked : Option Command} {content : Content} {held : FileContents} {status : ℕ} {text : List ℕ} {log : Option RunLog}
     {reports : List Report} (tree : SyntaxTree) (numbers : List ℤ) (limit : ℕ)
     → (a : IsToRun asked content tree numbers limit) → content a.source ≡ held.source → content a.input ≡ held.input
-    → Row asked held status text log reports → IsRunOf tree numbers limit status text log reports
-accepted_row tree numbers limit a s i (NoCommand none) = absurd (no_command none a.command)
+    → Row asked held status text log reports → IsRunOf (asks_record asked) tree numbers limit status text log reports
+accepted_row tree numbers limit a s i (NoCommand none) = absurd (runs_no_command none a.runs)
 accepted_row tree numbers limit a s i (SourceRefused source w r) = absurd (refused_not_accepted_file tree r (rw (← s) a.program))
-accepted_row tree numbers limit a s i (Formats source other w o) = absurd (run_is_not_format a.command w)
-accepted_row tree numbers limit a s i (Benches seed size other others w g) = absurd (run_is_not_bench a.command w)
+accepted_row tree numbers limit a s i (Formats source other w o) = absurd (runs_nothing w refl a.runs)
+accepted_row tree numbers limit a s i (Benches seed size other others w g) = absurd (runs_nothing w refl a.runs)
 accepted_row tree numbers limit a s i (InputRefused input other w o r) = absurd (refused_no_input numbers r (rw (← i) a.read))
-accepted_row tree numbers limit a s i (Runs source input workers throttle log other others w o m found) =
+accepted_row tree numbers limit a s i (Runs throttle log other others w o m found) =
     let same : other ≡ tree = one_source other tree o.program (rw (← s) a.program) in
     let also : others ≡ numbers = one_input others numbers o.read (rw (← i) a.read) in
-    let bound : throttle ≡ a.throttle = one_limit w a.command in
+    let bound : throttle ≡ a.throttle = one_limit w a.runs in
     let within = a.within in
-    record { log = log; logged = refl; meets = meets_more throttle limit (omega (arith, bound, within)) (rw (← same, ← also) m) }
-accepted_row tree numbers limit a s i (RunsSerially source input other others w o r) = absurd (run_is_not_serial a.command w)
+    record { log = log; logged = refl; meets = recorded_more throttle limit (omega (arith, bound, within)) (rw (← same, ← also) m) }
+accepted_row tree numbers limit a s i (RunsSerially source input other others w o r) = absurd (runs_nothing w refl a.runs)
 
 -- the result of a call that runs an accepted program, if no read failed
 result_meets : {asked : Option Command} {content : Content} {before now status : ℕ} {text : List ℕ} {log : Option RunLog} {reports : List Report}
     (tree : SyntaxTree) (numbers : List ℤ) (limit : ℕ)
     → ¬ (CountRose before now) → IsToRun asked content tree numbers limit → IsCallResult asked (Some content) before now status text log reports
-    → IsRunOf tree numbers limit status text log reports
+    → IsRunOf (asks_record asked) tree numbers limit status text log reports
 result_meets tree numbers limit calm a (OfRow same row) =
-    accepted_row tree numbers limit a (row.known.source a.source (rw a.command refl)) (row.known.input a.input (rw a.command refl)) row.row
+    accepted_row tree numbers limit a (row.known.source a.source a.names_source) (row.known.input a.input a.names_input) row.row
 result_meets tree numbers limit calm a (SourceFault s grew rose w) = absurd (calm rose)
 result_meets tree numbers limit calm a (InputFault s i file other grew rose w v known of) = absurd (calm rose)
 
@@ -118,7 +135,7 @@ result_meets tree numbers limit calm a (InputFault s i file other grew rose w v 
 pub printed_meets : (asked : Option Command) (holds : Option Content) (before now status written : ℕ) (log : Option RunLog) (reports : List Report)
     (taken_before taken_now : Option (List ℕ)) → ¬ (CountRose before now) → IsPrinted asked holds before now status written log reports taken_before taken_now
     → IfSome holds (λ content. (tree : SyntaxTree) (numbers : List ℤ) (limit : ℕ) → IsToRun asked content tree numbers limit
-    → ReturnsRun tree numbers limit status written log reports taken_before taken_now)
+    → ReturnsRun (asks_record asked) tree numbers limit status written log reports taken_before taken_now)
 printed_meets asked None before now status written log reports taken_before taken_now calm printed = tt
 printed_meets asked (Some content) before now status written log reports taken_before taken_now calm printed = λ tree numbers limit a. (
     let h = result_meets tree numbers limit calm a printed.outcome in
@@ -128,6 +145,6 @@ printed_meets asked (Some content) before now status written log reports taken_b
       text = printed.text;
       whole = printed.whole;
       taken = printed.taken;
-      complete = agreed_status h.meets.agrees;
+      complete = agreed_status h.meets.meets.agrees;
       meets = h.meets;
     })

@@ -17,4 +17,5 @@ pub mod FormatLaws
 pub mod SourceFaults
 pub mod ElisionOutcomes
 pub mod SerialCallLaws
+pub mod SeededPlays
 pub mod GreaterLimits

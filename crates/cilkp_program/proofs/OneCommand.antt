@@ -1,23 +1,54 @@
 -- The words of a call are at most one command, which names at most one source and one input.
-use Rattle.std.proofs.Common.{◌≡◌, ◌∙◌, ℕ, List, Option, Some, None, sym, true, false}
-use Rattle.cilkp_program.specs.CommandFiles.{KeepsLog, NamesInput, NamesSource}
-use Rattle.cilkp_words.specs.Commands.{Command, Run, Serial, Format, Bench}
+use Rattle.std.proofs.Common.{◌≡◌, ◌∙◌, refl, ℕ, ℤ, List, Option, Some, None, sym, true, false}
+use Rattle.pipe_model.specs.declared.event.RunLog.{RunLog}
+use Rattle.pipe_model.specs.Language.SyntaxTree.{SyntaxTree}
+use Rattle.cilkp_program.specs.CommandFiles.{KeepsLog, NamesInput, NamesSource, RunsUnder, throttle_in}
+use Rattle.cilkp_program.specs.Rows.{IsLogOf, OfPlay, OfRun}
+use Rattle.cilkp_words.specs.Commands.{Command, Run, Play, Serial, Format, Bench}
 
 -- the command of the words is unique
 pub one_command : {asked : Option Command} {c d : Command} → asked ≡ Some c → asked ≡ Some d → c ≡ d
 one_command {asked} {c} {d} w v = let e : Some c ≡ Some d = sym w ∙ v in cc (e)
 
--- a `run` command is not a `serial` command
-pub run_is_not_serial : {asked : Option Command} {source input other other_input : List ℕ} {workers throttle : ℕ}
-    → asked ≡ Some (Run source input workers throttle) → asked ≡ Some (Serial other other_input) → ⊥
-run_is_not_serial {asked} {source} {input} {other} {other_input} {workers} {throttle} w v =
-    let e : Run source input workers throttle ≡ Serial other other_input = one_command w v in cc (e)
+-- a command that makes a run is not a `serial` command
+pub run_is_not_serial : {asked : Option Command} {tree : SyntaxTree} {numbers : List ℤ} {throttle : ℕ} {log : RunLog} {other other_input : List ℕ}
+    → IsLogOf asked tree numbers throttle log → asked ≡ Some (Serial other other_input) → ⊥
+run_is_not_serial {throttle = throttle} {other = other} {other_input = other_input} (OfRun source input workers recording w) v =
+    let e : Run source input workers throttle recording ≡ Serial other other_input = one_command w v in cc (e)
+run_is_not_serial {throttle = throttle} {other = other} {other_input = other_input} (OfPlay source input workers seed recording w is) v =
+    let e : Play source input workers throttle seed recording ≡ Serial other other_input = one_command w v in cc (e)
 
--- a `run` command is not a `format` command
-pub run_is_not_format : {asked : Option Command} {source input other : List ℕ} {workers throttle : ℕ}
-    → asked ≡ Some (Run source input workers throttle) → asked ≡ Some (Format other) → ⊥
-run_is_not_format {asked} {source} {input} {other} {workers} {throttle} w v =
-    let e : Run source input workers throttle ≡ Format other = one_command w v in cc (e)
+-- it is not a `format` command
+pub run_is_not_format : {asked : Option Command} {tree : SyntaxTree} {numbers : List ℤ} {throttle : ℕ} {log : RunLog} {other : List ℕ}
+    → IsLogOf asked tree numbers throttle log → asked ≡ Some (Format other) → ⊥
+run_is_not_format {throttle = throttle} {other = other} (OfRun source input workers recording w) v =
+    let e : Run source input workers throttle recording ≡ Format other = one_command w v in cc (e)
+run_is_not_format {throttle = throttle} {other = other} (OfPlay source input workers seed recording w is) v =
+    let e : Play source input workers throttle seed recording ≡ Format other = one_command w v in cc (e)
+
+-- it is not a `bench` command
+pub run_is_not_bench : {asked : Option Command} {tree : SyntaxTree} {numbers : List ℤ} {throttle : ℕ} {log : RunLog} {seed size : ℕ}
+    → IsLogOf asked tree numbers throttle log → asked ≡ Some (Bench seed size) → ⊥
+run_is_not_bench {throttle = throttle} {seed = seed} {size = size} (OfRun source input workers recording w) v =
+    let e : Run source input workers throttle recording ≡ Bench seed size = one_command w v in cc (e)
+run_is_not_bench {throttle = throttle} {seed = seed} {size = size} (OfPlay source input workers number recording w is) v =
+    let e : Play source input workers throttle number recording ≡ Bench seed size = one_command w v in cc (e)
+
+-- it returns the log of its run
+pub run_keeps_log : {asked : Option Command} {tree : SyntaxTree} {numbers : List ℤ} {throttle : ℕ} {log : RunLog} → IsLogOf asked tree numbers throttle log
+    → KeepsLog asked
+run_keeps_log (OfRun source input workers recording w) = rw w refl
+run_keeps_log (OfPlay source input workers seed recording w is) = rw w refl
+
+-- it has one throttling limit
+pub one_limit : {asked : Option Command} {tree : SyntaxTree} {numbers : List ℤ} {throttle other : ℕ} {log : RunLog} → IsLogOf asked tree numbers throttle log
+    → RunsUnder asked other → throttle ≡ other
+one_limit {throttle = throttle} {other = other} (OfRun source input workers recording w) v = let e : Some throttle ≡ Some other = rw w at v in cc (e)
+one_limit {throttle = throttle} {other = other} (OfPlay source input workers seed recording w is) v = let e : Some throttle ≡ Some other = rw w at v in cc (e)
+
+-- a command without a run makes none
+pub runs_nothing : {asked : Option Command} {c : Command} {throttle : ℕ} → asked ≡ Some c → throttle_in c ≡ None → RunsUnder asked throttle → ⊥
+runs_nothing {asked} {c} {throttle} w none v = let e : None ≡ Some throttle = sym none ∙ rw w at v in cc (e)
 
 -- a `serial` command is not a `format` command
 pub serial_is_not_format : {asked : Option Command} {source input other : List ℕ} → asked ≡ Some (Serial source input)
@@ -44,18 +75,17 @@ format_has_no_input {asked} {source} {input} v w = let e : None ≡ Some input =
 pub format_keeps_no_log : {asked : Option Command} {source : List ℕ} → asked ≡ Some (Format source) → KeepsLog asked → ⊥
 format_keeps_no_log w keeps = let d : false ≡ true = rw w at keeps in cc (d)
 
--- a `run` command has one throttling limit
-pub one_limit : {asked : Option Command} {source input other other_input : List ℕ} {workers throttle others other_throttle : ℕ}
-    → asked ≡ Some (Run source input workers throttle) → asked ≡ Some (Run other other_input others other_throttle) → throttle ≡ other_throttle
-one_limit {asked} {source} {input} {other} {other_input} {workers} {throttle} {others} {other_throttle} w v =
-    let e : Run source input workers throttle ≡ Run other other_input others other_throttle = one_command w v in cc (e)
+-- words that are no command make no run
+pub no_run : {asked : Option Command} {tree : SyntaxTree} {numbers : List ℤ} {throttle : ℕ} {log : RunLog} → asked ≡ None
+    → IsLogOf asked tree numbers throttle log → ⊥
+no_run n (OfRun source input workers recording w) = no_command n w
+no_run n (OfPlay source input workers seed recording w is) = no_command n w
+
+-- and are under no throttling limit
+pub runs_no_command : {asked : Option Command} {throttle : ℕ} → asked ≡ None → RunsUnder asked throttle → ⊥
+runs_no_command {asked} {throttle} n w = let e : None ≡ Some throttle = rw n at w in cc (e)
 
 -- `bench` is none of the other commands
-pub run_is_not_bench : {asked : Option Command} {source input : List ℕ} {workers throttle seed size : ℕ} → asked ≡ Some (Run source input workers throttle)
-    → asked ≡ Some (Bench seed size) → ⊥
-run_is_not_bench {asked} {source} {input} {workers} {throttle} {seed} {size} w v =
-    let e : Run source input workers throttle ≡ Bench seed size = one_command w v in cc (e)
-
 pub serial_is_not_bench : {asked : Option Command} {source input : List ℕ} {seed size : ℕ} → asked ≡ Some (Serial source input)
     → asked ≡ Some (Bench seed size) → ⊥
 serial_is_not_bench {asked} {source} {input} {seed} {size} w v = let e : Serial source input ≡ Bench seed size = one_command w v in cc (e)

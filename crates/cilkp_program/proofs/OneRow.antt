@@ -1,5 +1,5 @@
--- A call has at most one row of the table, but for the runs of `run`, which have at least one status, and one text where the status is not 2.
-use Rattle.std.proofs.Common.{◌≡◌, ◌≢◌, ◌∙◌, ℕ, ℤ, List, ◌++◌, Option, Some, None, refl, ap, ap₂, sym}
+-- A call has at most one row of the table, but for the runs of `run` and `play`, which have one status, and one text if the status is not 2 and no log is printed.
+use Rattle.std.proofs.Common.{◌≡◌, ◌≢◌, ◌∙◌, Bool, true, false, ℕ, ℤ, List, ◌++◌, Option, Some, None, refl, ap, ap₂, sym}
 use Rattle.pipe_model.specs.declared.event.RunLog.{RunLog}
 use Rattle.pipe_model.specs.declared.report.Report.{Report}
 use Rattle.pipe_model.specs.Language.SyntaxTree.{SyntaxTree}
@@ -10,14 +10,15 @@ use Rattle.pipe_io.proofs.OneReading.{one_reading}
 use Rattle.grammar_laws.proofs.SourceRefusals.{one_accepted}
 use Rattle.cilkp_words.specs.Commands.{Command}
 use Rattle.cilkp_program.proofs.Agreements.{one_agreement}
-use Rattle.cilkp_program.proofs.OneCommand.{bench_has_no_input, bench_has_no_source, format_has_no_input, format_is_not_bench, no_command, no_input, no_source, one_bench, run_is_not_bench, run_is_not_format, run_is_not_serial, serial_is_not_bench, serial_is_not_format}
+use Rattle.cilkp_program.proofs.OneCommand.{bench_has_no_input, bench_has_no_source, format_has_no_input, format_is_not_bench, no_command, no_input, no_run, no_source, one_bench, run_is_not_bench, run_is_not_format, run_is_not_serial, run_keeps_log, serial_is_not_bench, serial_is_not_format}
 use Rattle.cilkp_program.proofs.OneContent.{one_held, one_input, one_input_refusal, one_source, one_source_refusal, refused_no_input, refused_not_accepted_file}
 use Rattle.cilkp_program.proofs.OneReports.{one_first_races}
 use Rattle.cilkp_program.specs.Benchmarks.{IsGenerated, elision_summary}
 use Rattle.race_report.specs.CellNames.{race_lines}
-use Rattle.cilkp_program.specs.CommandFiles.{KeepsLog}
+use Rattle.cilkp_program.specs.CommandFiles.{KeepsLog, asks_record}
 use Rattle.cilkp_program.specs.Headline.{MeetsHeadline}
 use Rattle.cilkp_program.specs.ProgramFiles.{AreAccepted, FileContents}
+use Rattle.cilkp_program.specs.RecordedRuns.{recorded}
 use Rattle.cilkp_program.specs.Rows.{Row, NoCommand, SourceRefused, Formats, Benches, InputRefused, Runs, RunsSerially}
 use Rattle.cilkp_program.specs.SerialResults.{ElisionResult, Races, Finishes, Traps, elision_columns, elision_accesses, elision_output_text}
 
@@ -72,6 +73,12 @@ one_run tree other_tree numbers others {reports = reports} {other_reports = othe
     let also : numbers ≡ others = one_input numbers others a.read b.read in
     one_agreement {reports = reports} {other_reports = other_reports} m.agrees (rw (same, also) m'.agrees)
 
+-- a text without the lines of a log
+unrecorded : (recording : Bool) (tree : SyntaxTree) (log : RunLog) (outcome : List ℕ) {text : List ℕ} → recording ≡ false
+    → text ≡ recorded recording tree.cells log outcome → text ≡ outcome
+unrecorded true tree log outcome silent is = absurd (let d : true ≡ false = silent in cc (d))
+unrecorded false tree log outcome silent is = is
+
 -- ---- the rows
 
 -- two rows of a command: they are the same, or both are runs
@@ -79,7 +86,7 @@ data AreAlike (asked : Option Command) (status other : ℕ) (text other_text : L
     : Type 0 where
   Same : status ≡ other → text ≡ other_text → log ≡ other_log → reports ≡ other_reports
       → AreAlike asked status other text other_text log other_log reports other_reports
-  BothRun : KeepsLog asked → status ≡ other → (status ≢ 2 → text ≡ other_text)
+  BothRun : KeepsLog asked → status ≡ other → (asks_record asked ≡ false → status ≢ 2 → text ≡ other_text)
       → AreAlike asked status other text other_text log other_log reports other_reports
 
 alike : {asked : Option Command} {held : FileContents} {status other : ℕ} {text other_text : List ℕ} {log other_log : Option RunLog}
@@ -91,49 +98,49 @@ alike (NoCommand n) (SourceRefused s' w' r') = absurd (no_source n w')
 alike (NoCommand n) (Formats s' tree' w' o') = absurd (no_command n w')
 alike (NoCommand n) (Benches n' m' tree' xs' w' g') = absurd (no_command n w')
 alike (NoCommand n) (InputRefused i' tree' w' o' r') = absurd (no_input n w')
-alike (NoCommand n) (Runs s' i' p' k' l' tree' xs' w' a' m' f') = absurd (no_command n w')
+alike (NoCommand n) (Runs k' l' tree' xs' w' a' m' f') = absurd (no_run n w')
 alike (NoCommand n) (RunsSerially s' i' tree' xs' w' a' r') = absurd (no_command n w')
 alike (SourceRefused s w r) (NoCommand n') = absurd (no_source n' w)
 alike (SourceRefused s w r) (SourceRefused s' w' r') = Same refl (one_source_refusal r (rw (one_held _ s s' w w') r')) refl refl
 alike (SourceRefused s w r) (Formats s' tree' w' o') = absurd (refused_not_accepted_file tree' r o')
 alike (SourceRefused s w r) (Benches n' m' tree' xs' w' g') = absurd (bench_has_no_source w' w)
 alike (SourceRefused s w r) (InputRefused i' tree' w' o' r') = absurd (refused_not_accepted_file tree' r o')
-alike (SourceRefused s w r) (Runs s' i' p' k' l' tree' xs' w' a' m' f') = absurd (refused_not_accepted_file tree' r a'.program)
+alike (SourceRefused s w r) (Runs k' l' tree' xs' w' a' m' f') = absurd (refused_not_accepted_file tree' r a'.program)
 alike (SourceRefused s w r) (RunsSerially s' i' tree' xs' w' a' r') = absurd (refused_not_accepted_file tree' r a'.program)
 alike (Formats s tree w o) (NoCommand n') = absurd (no_command n' w)
 alike (Formats s tree w o) (SourceRefused s' w' r') = absurd (refused_not_accepted_file tree r' o)
 alike (Formats s tree w o) (Formats s' tree' w' o') = Same refl (ap program_text (one_source tree tree' o o')) refl refl
 alike (Formats s tree w o) (Benches n' m' tree' xs' w' g') = absurd (format_is_not_bench w w')
 alike (Formats s tree w o) (InputRefused i' tree' w' o' r') = absurd (format_has_no_input w w')
-alike (Formats s tree w o) (Runs s' i' p' k' l' tree' xs' w' a' m' f') = absurd (run_is_not_format w' w)
+alike (Formats s tree w o) (Runs k' l' tree' xs' w' a' m' f') = absurd (run_is_not_format w' w)
 alike (Formats s tree w o) (RunsSerially s' i' tree' xs' w' a' r') = absurd (serial_is_not_format w' w)
 alike (Benches n m tree xs w g) (NoCommand n') = absurd (no_command n' w)
 alike (Benches n m tree xs w g) (SourceRefused s' w' r') = absurd (bench_has_no_source w w')
 alike (Benches n m tree xs w g) (Formats s' tree' w' o') = absurd (format_is_not_bench w' w)
 alike (Benches n m tree xs w g) (Benches n' m' tree' xs' w' g') = let one = one_bench w w' in Same refl (one_summary tree tree' xs xs' one.0 one.1 g g') refl refl
 alike (Benches n m tree xs w g) (InputRefused i' tree' w' o' r') = absurd (bench_has_no_input w w')
-alike (Benches n m tree xs w g) (Runs s' i' p' k' l' tree' xs' w' a' m' f') = absurd (run_is_not_bench w' w)
+alike (Benches n m tree xs w g) (Runs k' l' tree' xs' w' a' m' f') = absurd (run_is_not_bench w' w)
 alike (Benches n m tree xs w g) (RunsSerially s' i' tree' xs' w' a' r') = absurd (serial_is_not_bench w' w)
 alike (InputRefused i tree w o r) (NoCommand n') = absurd (no_input n' w)
 alike (InputRefused i tree w o r) (SourceRefused s' w' r') = absurd (refused_not_accepted_file tree r' o)
 alike (InputRefused i tree w o r) (Formats s' tree' w' o') = absurd (format_has_no_input w' w)
 alike (InputRefused i tree w o r) (Benches n' m' tree' xs' w' g') = absurd (bench_has_no_input w' w)
 alike (InputRefused i tree w o r) (InputRefused i' tree' w' o' r') = Same refl (one_input_refusal r (rw (one_held _ i i' w w') r')) refl refl
-alike (InputRefused i tree w o r) (Runs s' i' p' k' l' tree' xs' w' a' m' f') = absurd (refused_no_input xs' r a'.read)
+alike (InputRefused i tree w o r) (Runs k' l' tree' xs' w' a' m' f') = absurd (refused_no_input xs' r a'.read)
 alike (InputRefused i tree w o r) (RunsSerially s' i' tree' xs' w' a' r') = absurd (refused_no_input xs' r a'.read)
-alike (Runs s i p k l tree xs w a m f) (NoCommand n') = absurd (no_command n' w)
-alike (Runs s i p k l tree xs w a m f) (SourceRefused s' w' r') = absurd (refused_not_accepted_file tree r' a.program)
-alike (Runs s i p k l tree xs w a m f) (Formats s' tree' w' o') = absurd (run_is_not_format w w')
-alike (Runs s i p k l tree xs w a m f) (Benches n' m' tree' xs' w' g') = absurd (run_is_not_bench w w')
-alike (Runs s i p k l tree xs w a m f) (InputRefused i' tree' w' o' r') = absurd (refused_no_input xs r' a.read)
-alike (Runs s i p k l tree xs w a m f) (Runs s' i' p' k' l' tree' xs' w' a' m' f') = let one = one_run tree tree' xs xs' a a' m m' in BothRun (rw w refl) one.0 one.1
-alike (Runs s i p k l tree xs w a m f) (RunsSerially s' i' tree' xs' w' a' r') = absurd (run_is_not_serial w w')
+alike (Runs k l tree xs w a m f) (NoCommand n') = absurd (no_run n' w)
+alike (Runs k l tree xs w a m f) (SourceRefused s' w' r') = absurd (refused_not_accepted_file tree r' a.program)
+alike (Runs k l tree xs w a m f) (Formats s' tree' w' o') = absurd (run_is_not_format w w')
+alike (Runs k l tree xs w a m f) (Benches n' m' tree' xs' w' g') = absurd (run_is_not_bench w w')
+alike (Runs k l tree xs w a m f) (InputRefused i' tree' w' o' r') = absurd (refused_no_input xs r' a.read)
+alike (Runs k l tree xs w a m f) (Runs k' l' tree' xs' w' a' m' f') = let one = one_run tree tree' xs xs' a a' m.meets m'.meets in BothRun (run_keeps_log w) one.0 (λ silent apart. unrecorded _ tree l _ silent m.text_is ∙ one.1 apart ∙ sym (unrecorded _ tree' l' _ silent m'.text_is))
+alike (Runs k l tree xs w a m f) (RunsSerially s' i' tree' xs' w' a' r') = absurd (run_is_not_serial w w')
 alike (RunsSerially s i tree xs w a r) (NoCommand n') = absurd (no_command n' w)
 alike (RunsSerially s i tree xs w a r) (SourceRefused s' w' r') = absurd (refused_not_accepted_file tree r' a.program)
 alike (RunsSerially s i tree xs w a r) (Formats s' tree' w' o') = absurd (serial_is_not_format w w')
 alike (RunsSerially s i tree xs w a r) (Benches n' m' tree' xs' w' g') = absurd (serial_is_not_bench w w')
 alike (RunsSerially s i tree xs w a r) (InputRefused i' tree' w' o' r') = absurd (refused_no_input xs r' a.read)
-alike (RunsSerially s i tree xs w a r) (Runs s' i' p' k' l' tree' xs' w' a' m' f') = absurd (run_is_not_serial w' w)
+alike (RunsSerially s i tree xs w a r) (Runs k' l' tree' xs' w' a' m' f') = absurd (run_is_not_serial w' w)
 alike (RunsSerially s i tree xs w a r) (RunsSerially s' i' tree' xs' w' a' r') = let one = one_elision tree tree' xs xs' a a' r r' in Same one.0 one.1 refl one.2
 
 -- two rows of a command that keeps no log are equal
@@ -146,12 +153,12 @@ one_row silent r r' = elim (alike r r') [
   | BothRun keeps s t ↦ absurd (silent keeps)
 ]
 
--- two rows of a command have the same status, and the same text unless the status is 2
+-- two rows of a command have the same status, and the same text unless the status is 2 or the log is printed
 pub one_status : {asked : Option Command} {held : FileContents} {status other : ℕ} {text other_text : List ℕ} {log other_log : Option RunLog}
     {reports other_reports : List Report}
     → Row asked held status text log reports → Row asked held other other_text other_log other_reports
-    → (status ≡ other) × (status ≢ 2 → text ≡ other_text)
+    → (status ≡ other) × (asks_record asked ≡ false → status ≢ 2 → text ≡ other_text)
 one_status r r' = elim (alike r r') [
-  | Same s t l p ↦ (s, λ other. t)
+  | Same s t l p ↦ (s, λ silent other. t)
   | BothRun keeps s t ↦ (s, t)
 ]

@@ -11,7 +11,7 @@ use Rattle.cilkp_program.specs.CommandFiles.{KeepsLog}
 use Rattle.cilkp_program.specs.ProgramFiles.{FileContents}
 use Rattle.cilkp_program.specs.Rows.{Row, NoCommand, SourceRefused, Formats, Benches, InputRefused, Runs, RunsSerially}
 use Rattle.cilkp_program.proofs.Agreements.{agreed_status}
-use Rattle.cilkp_program.proofs.OneCommand.{bench_keeps_no_log, format_keeps_no_log}
+use Rattle.cilkp_program.proofs.OneCommand.{bench_keeps_no_log, format_keeps_no_log, run_keeps_log}
 use Rattle.cilkp_program.specs.Headline.{IsRunStatus}
 use Rattle.cilkp_program.proofs.ElisionOutcomes.{outcome_status}
 
@@ -76,7 +76,7 @@ row_status (SourceRefused s w r) = refusal
 row_status (Formats s tree w o) = without_log (format_keeps_no_log w) (inl refl)
 row_status (Benches seed size tree numbers w g) = without_log (bench_keeps_no_log w) (inl refl)
 row_status (InputRefused i tree w o r) = refusal
-row_status (Runs s i p k log tree numbers w a m f) = with_run log (rw w refl) (agreed_status m.agrees)
+row_status (Runs k log tree numbers w a m f) = with_run log (run_keeps_log w) (agreed_status m.meets.agrees)
 row_status (RunsSerially s i tree numbers w a r) = without_log (λ keeps. let d : false ≡ true = rw w at keeps in cc (d)) (outcome_status r)
 
 -- the status of a result

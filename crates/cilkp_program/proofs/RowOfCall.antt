@@ -1,6 +1,7 @@
 -- Which row a call has.
-use Rattle.std.proofs.Common.{◌≡◌, ◌∙◌, ◌≤◌, ℕ, ℤ, true, false, List, [], Option, Some, None, Result, Ok, Err, IfOk, IfSome, refl, ap}
+use Rattle.std.proofs.Common.{◌≡◌, ◌∙◌, ◌≤◌, ℕ, ℤ, Bool, true, false, List, [], Option, Some, None, Result, Ok, Err, IfOk, IfSome, refl, ap}
 use Rattle.std.specs.Prelude.{option_and_then}
+use Rattle.pipe_model.specs.declared.event.RunLog.{RunLog}
 use Rattle.pipe_model.specs.declared.memory.NoMemory.{NoMemory}
 use Rattle.pipe_model.specs.Language.CanonicalText.{program_text}
 use Rattle.pipe_model.specs.Language.SyntaxTree.{SyntaxTree, tree_of}
@@ -13,19 +14,20 @@ use Rattle.workload_laws.proofs.ReadInputs.{inputs_are_read}
 use Rattle.workload_laws.specs.GeneratedNumbers.{items_from}
 use Rattle.workload_laws.specs.GeneratedPrograms.{generated_tree}
 use Rattle.cilkp_words.specs.CommandRanges.{IsInRange}
-use Rattle.cilkp_words.specs.Commands.{Command, Run, Serial, Format, Bench}
+use Rattle.cilkp_words.specs.Commands.{Command, Run, Play, Serial, Format, Bench}
 use Rattle.cilkp_program.specs.declared.call.CommandResult.{CommandResult}
 use Rattle.cilkp_program.specs.declared.load.Source.TheVariants as sources
 use Rattle.cilkp_program.specs.declared.load.Input.TheVariants as inputs
 use Rattle.cilkp_program.specs.CallResults.{IsCallResult, OfRow, SourceFault, InputFault}
-use Rattle.cilkp_program.specs.CommandFiles.{NamesInput, NamesSource, input_in, source_in}
+use Rattle.cilkp_program.specs.CommandFiles.{NamesInput, NamesSource, asks_record, input_in, source_in}
 use Rattle.cilkp_program.specs.LoadedFiles.{IsInputResult, IsSourceResult}
 use Rattle.cilkp_program.specs.ProgramFiles.{AreHeldBy, FileContents}
 use Rattle.cilkp_program.specs.SerialResults.{ElisionResult, elision_log}
 use Rattle.cilkp_program.specs.Benchmarks.{IsGenerated, elision_summary}
-use Rattle.cilkp_program.specs.Rows.{NoCommand, SourceRefused, Formats, Benches, InputRefused, Runs, RunsSerially}
+use Rattle.cilkp_program.specs.Rows.{IsLogOf, OfPlay, OfRun, NoCommand, SourceRefused, Formats, Benches, InputRefused, Runs, RunsSerially}
 use Rattle.cilkp_program.specs.PreparedFiles.{AreReady}
-use Rattle.cilkp_program.specs.Headline.{MeetsHeadline}
+use Rattle.cilkp_program.specs.RecordedRuns.{IsRecordedRun}
+use Rattle.cilkp_program.specs.RunResults.{IsPlayResult, IsRunResult}
 use Rattle.cilkp_program.specs.RunReports.{run_reports}
 use Rattle.cilkp_program.proofs.OneCommand.{bench_has_no_input, bench_has_no_source, no_input, no_source}
 use Rattle.cilkp_program.proofs.OneContent.{one_held}
@@ -134,28 +136,38 @@ files_ready holds later before mid now source input checked numbers keeps same s
 
 -- ---- a program that is run
 
--- by `run`, with the run log
-pub result_of_run : (holds : Option Content) (before now : ℕ) (source input : List ℕ) (workers : ℕ) (tree : SyntaxTree) (numbers : List ℤ)
-    (r : Result CommandResult NoMemory)
-    → AreReady holds before now source input tree numbers
-    → IfOk r (λ a. (limit : ℕ) → 1 ≤ limit → MeetsHeadline tree numbers limit (elision_log tree numbers) a.reports a.status a.text)
-    → IfOk r (λ a. a.run_log ≡ Some (elision_log tree numbers)) → IfOk r (λ a. a.reports ≡ run_reports (elision_log tree numbers))
-    → IfOk r (λ a. (throttle : ℕ) → 1 ≤ throttle
-    → IsCallResult (Some (Run source input workers throttle)) holds before now a.status a.text a.run_log a.reports)
-result_of_run holds before now source input workers tree numbers (Ok a) ready meets log found = λ throttle room. rw log (OfRow ready.calm (record {
+-- by `run` or `play`, with the run log
+row_of_run : (holds : Option Content) (before now : ℕ) (source input : List ℕ) (asked : Option Command) (throttle : ℕ) (tree : SyntaxTree)
+    (numbers : List ℤ) (log : RunLog) (a : CommandResult) → NamesSource asked source → NamesInput asked input
+    → AreReady holds before now source input tree numbers → IsLogOf asked tree numbers throttle log → a.run_log ≡ Some log
+    → IsRecordedRun (asks_record asked) tree numbers throttle log a.reports a.status a.text → a.reports ≡ run_reports log
+    → IsCallResult asked holds before now a.status a.text a.run_log a.reports
+row_of_run holds before now source input asked throttle tree numbers log a n m ready of logged meets found = rw logged (OfRow ready.calm (record {
   held = ready.held;
-  known = files_known _ holds source input _ refl refl ready.source_known ready.input_known;
-  row = Runs source input workers throttle (elision_log tree numbers) tree numbers refl ready.accepted (meets throttle room) found;
+  known = files_known asked holds source input ready.held n m ready.source_known ready.input_known;
+  row = Runs throttle log tree numbers of ready.accepted meets found;
 }))
-result_of_run holds before now source input workers tree numbers (Err m) ready meets log found = log
 
--- for each throttling limit
-pub result_with_options : (holds : Option Content) (before now : ℕ) (source input : List ℕ) (r : Result CommandResult NoMemory) (workers throttle : ℕ)
-    → 1 ≤ throttle → IfOk r (λ a. (throttle : ℕ) → 1 ≤ throttle
-    → IsCallResult (Some (Run source input workers throttle)) holds before now a.status a.text a.run_log a.reports)
-    → IfOk r (λ a. IsCallResult (Some (Run source input workers throttle)) holds before now a.status a.text a.run_log a.reports)
-result_with_options holds before now source input (Ok a) workers throttle room h = h throttle room
-result_with_options holds before now source input (Err m) workers throttle room h = h
+-- by `run`, under each throttling limit
+pub result_of_run : (holds : Option Content) (before now : ℕ) (source input : List ℕ) (workers : ℕ) (recording : Bool) (tree : SyntaxTree)
+    (numbers : List ℤ) (r : Result CommandResult NoMemory) → AreReady holds before now source input tree numbers
+    → IfOk r (IsRunResult tree numbers recording)
+    → IfOk r (λ a. (throttle : ℕ) → 1 ≤ throttle
+    → IsCallResult (Some (Run source input workers throttle recording)) holds before now a.status a.text a.run_log a.reports)
+result_of_run holds before now source input workers recording tree numbers (Ok a) ready h = λ throttle room.
+    row_of_run holds before now source input (Some (Run source input workers throttle recording)) throttle tree numbers (elision_log tree numbers) a refl refl
+    ready (OfRun source input workers recording refl) h.logged (h.meets throttle room) h.found
+result_of_run holds before now source input workers recording tree numbers (Err m) ready h = h
+
+-- by `play`
+pub result_of_play : (holds : Option Content) (before now : ℕ) (source input : List ℕ) (workers throttle seed : ℕ) (recording : Bool) (tree : SyntaxTree)
+    (numbers : List ℤ) (r : Result CommandResult NoMemory) → AreReady holds before now source input tree numbers
+    → IfOk r (IsPlayResult tree numbers workers throttle seed recording)
+    → IfOk r (λ a. IsCallResult (Some (Play source input workers throttle seed recording)) holds before now a.status a.text a.run_log a.reports)
+result_of_play holds before now source input workers throttle seed recording tree numbers (Ok a) ready h =
+    row_of_run holds before now source input (Some (Play source input workers throttle seed recording)) throttle tree numbers h.log a refl refl
+    ready (OfPlay source input workers seed recording refl h.events) h.logged h.meets h.found
+result_of_play holds before now source input workers throttle seed recording tree numbers (Err m) ready h = h
 
 -- by `serial`, without it
 pub result_of_serial : (holds : Option Content) (before now : ℕ) (source input : List ℕ) (tree : SyntaxTree) (numbers : List ℤ)

@@ -1,5 +1,5 @@
 -- The headline: what a call guarantees for an accepted program, its input, and every limit from its throttling limit on.
-use Rattle.std.specs.Prelude.{◌≡◌, ◌≢◌, ◌≤◌, ◌⊎◌, ◌↔◌, ◌++◌, ℕ, ℤ, List, [], length, Option, Some, None}
+use Rattle.std.specs.Prelude.{◌≡◌, ◌≢◌, ◌≤◌, ◌⊎◌, ◌↔◌, ◌++◌, ℕ, ℤ, List, [], Option, None}
 use Rattle.pipe_model.specs.declared.event.RunLog.{RunLog}
 use Rattle.pipe_model.specs.declared.report.Report.{Report}
 use Rattle.pipe_model.specs.Language.ProgramsOfTrees.{whole_of}
@@ -9,21 +9,22 @@ use Rattle.pipe_model.specs.Language.SyntaxTree.{SyntaxTree}
 use Rattle.pipe_model.specs.Texts.{trap_lines}
 use Rattle.pipe_model.specs.Runs.Throttling.{IsThrottled}
 use Rattle.pipe_model.specs.Runs.WholeProgramRuns.{IsFinishedProgramRun}
-use Rattle.cilkp_program.specs.TakenText.{HasTaken}
+use Rattle.cilkp_program.specs.CommandFiles.{NamesInput, NamesSource, RunsUnder}
 use Rattle.race_report.specs.CellNames.{race_lines}
 use Rattle.pipe_io.specs.Reads.{Content}
 use Rattle.cilkp_program.specs.ProgramFiles.{IsInputOf, IsSourceOf}
 use Rattle.cilkp_program.specs.SerialResults.{ElisionHasNoRace, elision_output_text, elision_trap}
-use Rattle.cilkp_words.specs.Commands.{Command, Run}
+use Rattle.cilkp_words.specs.Commands.{Command}
 
--- the command is `run` with a source that is accepted as the program, an input of these numbers, any number of workers, and a throttling limit of at most
--- `limit`
+-- the command is `run` or `play` with a source that is accepted as the program, an input of these numbers, any number of workers, and a throttling limit
+-- of at most `limit`
 pub record IsToRun (asked : Option Command) (content : Content) (tree : SyntaxTree) (numbers : List ℤ) (limit : ℕ) : Type 0 where
   pub source : List ℕ
   pub input : List ℕ
-  pub workers : ℕ
   pub throttle : ℕ
-  pub command : asked ≡ Some (Run source input workers throttle)
+  pub names_source : NamesSource asked source
+  pub names_input : NamesInput asked input
+  pub runs : RunsUnder asked throttle
   pub within : throttle ≤ limit
   pub program : IsSourceOf (content source) tree
   pub read : IsInputOf (content input) numbers
@@ -54,15 +55,3 @@ pub record MeetsHeadline (tree : SyntaxTree) (input : List ℤ) (limit : ℕ) (l
 -- the status is that of a program that was run: 0, 2 or 3
 abbrev pub IsRunStatus : ℕ → Type 0
 IsRunStatus status = (status ≡ 0) ⊎ ((status ≡ 2) ⊎ (status ≡ 3))
-
--- the call returned the log of a run that meets the headline under the throttling limit, and its text was written completely.
--- An accepted program has no other result on its input
-pub record ReturnsRun (tree : SyntaxTree) (numbers : List ℤ) (limit status written : ℕ) (run_log : Option RunLog) (reports : List Report)
-    (taken_before taken_now : Option (List ℕ)) : Type 0 where
-  pub log : RunLog
-  pub logged : run_log ≡ Some log
-  pub text : List ℕ
-  pub whole : written ≡ length text
-  pub taken : HasTaken written text taken_before taken_now
-  pub complete : IsRunStatus status
-  pub meets : MeetsHeadline tree numbers limit log reports status text

@@ -5,10 +5,12 @@ pub mod SerialResults
 pub mod RunReports
 pub mod TakenText
 pub mod Headline
+pub mod RecordedRuns
 pub mod Benchmarks
 pub mod Rows
 pub mod RowLaws
 pub mod RunTexts
+pub mod RunResults
 pub mod SerialCalls
 pub mod Formatting
 pub mod BenchCalls

@@ -1,21 +1,28 @@
 -- The table of results: what a call prints, with its status, its run log and its reports of races, if no read or write fails.
-use Rattle.std.specs.Prelude.{◌≡◌, ℕ, ℤ, List, [], Option, Some, None}
+use Rattle.std.specs.Prelude.{◌≡◌, ℕ, ℤ, List, [], Bool, Option, Some, None}
 use Rattle.pipe_model.specs.declared.event.RunLog.{RunLog}
 use Rattle.pipe_model.specs.declared.report.Report.{Report}
 use Rattle.pipe_model.specs.Language.CanonicalText.{program_text}
 use Rattle.pipe_model.specs.Language.SyntaxTree.{SyntaxTree}
 use Rattle.pipe_model.specs.Texts.{refused_usage}
 use Rattle.cilkp_program.specs.Benchmarks.{IsGenerated, elision_summary}
-use Rattle.cilkp_program.specs.CommandFiles.{NamesInput, NamesSource}
-use Rattle.cilkp_program.specs.Headline.{MeetsHeadline}
+use Rattle.cilkp_program.specs.CommandFiles.{NamesInput, NamesSource, asks_record}
 use Rattle.cilkp_program.specs.ProgramFiles.{AreAccepted, FileContents, InputRefusal, IsSourceOf, SourceRefusal}
+use Rattle.cilkp_program.specs.RecordedRuns.{IsRecordedRun, seeded_events}
 use Rattle.cilkp_program.specs.RunReports.{run_reports}
 use Rattle.cilkp_program.specs.SerialResults.{ElisionResult}
-use Rattle.cilkp_words.specs.Commands.{Command, Run, Serial, Format, Bench}
+use Rattle.cilkp_words.specs.Commands.{Command, Run, Play, Serial, Format, Bench}
+
+-- the log may be one of a command that makes a run: `run` may have any, and that of `play` has the events that the choices of its seed make
+pub data IsLogOf (asked : Option Command) (tree : SyntaxTree) (numbers : List ℤ) (throttle : ℕ) (log : RunLog) : Type 0 where
+  OfRun : (source input : List ℕ) (workers : ℕ) (recording : Bool) → asked ≡ Some (Run source input workers throttle recording)
+      → IsLogOf asked tree numbers throttle log
+  OfPlay : (source input : List ℕ) (workers seed : ℕ) (recording : Bool) → asked ≡ Some (Play source input workers throttle seed recording)
+      → log.events ≡ seeded_events tree numbers workers throttle seed → IsLogOf asked tree numbers throttle log
 
 -- the row of a call by its command and its files: its status, its text, its run log if it keeps one, and its reports.
 -- The words are refused before the source, and the source before the input. A `run` command may have any run that meets the headline under its throttling
--- limit, and reports what the histories of that run find; all other commands have one result
+-- limit, and a `play` command has the one of its seed; both report what the histories of that run find. All other commands have one result
 pub data Row (asked : Option Command) (held : FileContents) : ℕ → List ℕ → Option RunLog → List Report → Type 0 where
   NoCommand : asked ≡ None → Row asked held 1 refused_usage None []
   SourceRefused : (source : List ℕ) {text : List ℕ} → NamesSource asked source → SourceRefusal source held.source text → Row asked held 1 text None []
@@ -25,10 +32,9 @@ pub data Row (asked : Option Command) (held : FileContents) : ℕ → List ℕ �
       → Row asked held 0 (elision_summary tree numbers) None []
   InputRefused : (input : List ℕ) {text : List ℕ} (tree : SyntaxTree) → NamesInput asked input → IsSourceOf held.source tree
       → InputRefusal input held.input text → Row asked held 1 text None []
-  Runs : (source input : List ℕ) (workers throttle : ℕ) {status : ℕ} {text : List ℕ} {reports : List Report} (log : RunLog) (tree : SyntaxTree)
-      (numbers : List ℤ)
-      → asked ≡ Some (Run source input workers throttle) → AreAccepted held tree numbers
-      → MeetsHeadline tree numbers throttle log reports status text → reports ≡ run_reports log
+  Runs : (throttle : ℕ) {status : ℕ} {text : List ℕ} {reports : List Report} (log : RunLog) (tree : SyntaxTree) (numbers : List ℤ)
+      → IsLogOf asked tree numbers throttle log → AreAccepted held tree numbers
+      → IsRecordedRun (asks_record asked) tree numbers throttle log reports status text → reports ≡ run_reports log
       → Row asked held status text (Some log) reports
   RunsSerially : (source input : List ℕ) {status : ℕ} {text : List ℕ} {reports : List Report} (tree : SyntaxTree) (numbers : List ℤ)
       → asked ≡ Some (Serial source input) → AreAccepted held tree numbers → ElisionResult tree numbers status text reports

@@ -1,4 +1,4 @@
-//! The top call: runs a program, runs its serial elision alone, prints its canonical text, or runs a
+//! The top call: runs a program, plays it by a schedule, runs its serial elision alone, prints its canonical text, or runs a
 //! generated program and prints a summary.
 
 ghost use Rattle.std.specs.Prelude.{◌≡◌, ◌≢◌, ℕ, ℤ, ◌≤◌, ◌⊎◌, ◌↔◌, List, [], Option, None, Some, IfOk, IfSome, OnErr, is_some, true};
@@ -9,14 +9,16 @@ ghost use Rattle.pipe_model.specs.Texts.{fault_read};
 ghost use Rattle.cilkp_program.specs.CallResults.{IsCallResult, IsPrinted, IsCutShort, IsGivenUp};
 ghost use Rattle.pipe_io.specs.Faults.{CountGrew, CountRose};
 ghost use Rattle.cilkp_program.specs.Formatting.{ReturnsText, IsToFormat};
-ghost use Rattle.cilkp_program.specs.Headline.{MeetsHeadline, ReturnsRun, IsToRun};
-ghost use Rattle.cilkp_program.specs.RunReports.{run_reports};
+ghost use Rattle.cilkp_program.specs.Headline.{IsToRun};
+ghost use Rattle.cilkp_program.specs.RecordedRuns.{HasSeededEvents, IsToPlay, ReturnsRun};
+ghost use Rattle.cilkp_program.specs.RunResults.{IsPlayResult, IsRunResult};
 ghost use Rattle.cilkp_program.specs.PreparedFiles.{IsPreparation};
-ghost use Rattle.cilkp_program.specs.CommandFiles.{KeepsLog};
+ghost use Rattle.cilkp_program.specs.CommandFiles.{KeepsLog, asks_record};
 ghost use Rattle.cilkp_program.specs.BenchCalls.{IsToBench, ReturnsSummary};
-ghost use Rattle.cilkp_program.specs.SerialResults.{ElisionResult, elision_log};
+ghost use Rattle.cilkp_program.specs.SerialResults.{ElisionResult};
 ghost use Rattle.cilkp_words.specs.CommandRanges.{IsInRange};
-ghost use Rattle.cilkp_words.specs.Commands.{Bench, Format, Run, Serial, command_data};
+ghost use Rattle.cilkp_words.specs.Commands.{Bench, Format, Play, Run, Serial, command_data};
+ghost use Rattle.pipe_gen.specs.declared.choices.TheConstants as seeds;
 ghost use Rattle.pipe_io.specs.Reads.{Content};
 ghost use Rattle.cilkp_words.specs.CommandWords.{command_of, words_of};
 ghost use Rattle.cilkp_program.specs.SerialCalls.{ReturnsElision, IsToRunSerially};
@@ -24,7 +26,8 @@ ghost use Rattle.cilkp_program.specs.SerialCalls.{ReturnsElision, IsToRunSeriall
 use crate::bench::bench;
 use crate::gate::Gate;
 use crate::load::{Input, Source, load_input, load_source};
-use crate::program_run::{printed_run, run_elision, run_program};
+use crate::program_play::play_program;
+use crate::program_run::{printed_run, recorded, run_elision, run_program};
 use crate::text::{line, named_line};
 use cilkp_words::commands::Command;
 use cilkp_words::words::read_words;
@@ -88,18 +91,42 @@ fn run_result(
     checked: &Checked,
     input: &Numbers,
     workers: u32,
+    with_log: bool,
 ) -> Result<CommandResult, NoMemory>
     requires { (source : List ℕ) × IsAccepted source (tree_of checked.now) }
-    ensures log { IfOk result (λ a. a.run_log ≡ Some (elision_log (tree_of checked.now) input.now)) }
-    ensures meets { IfOk result (λ a. (limit : ℕ) → 1 ≤ limit →
-        MeetsHeadline (tree_of checked.now) input.now limit (elision_log (tree_of checked.now) input.now) a.reports a.status a.text) }
-    ensures found { IfOk result (λ a. a.reports ≡ run_reports (elision_log (tree_of checked.now) input.now)) }
+    ensures { IfOk result (IsRunResult (tree_of checked.now) input.now with_log) }
 {
     let run = run_program(alloc, checked, input, workers)?;
     let (status, text) = printed_run(alloc, checked, &run)?;
     Ok(CommandResult {
         status,
-        text,
+        text: recorded(alloc, checked, with_log, &run.run_log, text)?,
+        run_log: Some(run.run_log),
+        reports: run.reports,
+    })
+}
+
+// The status, text, log and reports of a play of the program.
+fn play_result(
+    alloc: Global,
+    checked: &Checked,
+    input: &Numbers,
+    workers: u32,
+    throttle: u32,
+    seed: u32,
+    with_log: bool,
+) -> Result<CommandResult, NoMemory>
+    requires accepted { (source : List ℕ) × IsAccepted source (tree_of checked.now) }
+    requires workers { 1 ≤ workers }
+    requires throttle { 1 ≤ throttle }
+    requires seed { seed ≤ seeds.MOST_SEED }
+    ensures { IfOk result (IsPlayResult (tree_of checked.now) input.now workers throttle seed with_log) }
+{
+    let run = play_program(alloc, checked, input, workers, throttle, seed)?;
+    let (status, text) = printed_run(alloc, checked, &run)?;
+    Ok(CommandResult {
+        status,
+        text: recorded(alloc, checked, with_log, &run.run_log, text)?,
         run_log: Some(run.run_log),
         reports: run.reports,
     })
@@ -191,15 +218,43 @@ fn execute_run<F: Files>(
     source: &str,
     input: &str,
     workers: u32,
+    with_log: bool,
 ) -> Result<CommandResult, NoMemory>
     ensures keeps { F.holds files.new ≡ F.holds files.old }
     ensures grows { OnErr result (F.faults files.old ≤ F.faults files.new) }
     ensures outcome { IfOk result (λ a. (throttle : ℕ) → 1 ≤ throttle →
-        IsCallResult (Some (Run source.now input.now workers throttle)) (F.holds files.old)
+        IsCallResult (Some (Run source.now input.now workers throttle with_log)) (F.holds files.old)
         (F.faults files.old) (F.faults files.new) a.status a.text a.run_log a.reports) }
 {
     match prepare(alloc, files, source, input)? {
-        Prepared::Ready(program, numbers) => run_result(alloc, &program, &numbers, workers),
+        Prepared::Ready(program, numbers) => run_result(
+            alloc, &program, &numbers, workers, with_log,
+        ),
+        Prepared::Decided(outcome) => Ok(outcome),
+    }
+}
+
+// The result of `play SOURCE INPUT` with these options.
+fn execute_play<F: Files>(
+    alloc: Global,
+    files: &mut F,
+    source: &str,
+    input: &str,
+    workers: u32,
+    throttle: u32,
+    seed: u32,
+    with_log: bool,
+) -> Result<CommandResult, NoMemory>
+    requires { IsInRange (Play source.now input.now workers throttle seed with_log) }
+    ensures keeps { F.holds files.new ≡ F.holds files.old }
+    ensures grows { OnErr result (F.faults files.old ≤ F.faults files.new) }
+    ensures outcome { IfOk result (λ a. IsCallResult (Some (Play source.now input.now workers throttle seed with_log)) (F.holds files.old)
+        (F.faults files.old) (F.faults files.new) a.status a.text a.run_log a.reports) }
+{
+    match prepare(alloc, files, source, input)? {
+        Prepared::Ready(program, numbers) => play_result(
+            alloc, &program, &numbers, workers, throttle, seed, with_log,
+        ),
         Prepared::Decided(outcome) => Ok(outcome),
     }
 }
@@ -270,8 +325,17 @@ fn execute_command<F: Files>(
             source,
             input,
             workers,
+            record,
             ..
-        } => execute_run(alloc, files, source, input, workers),
+        } => execute_run(alloc, files, source, input, workers, record),
+        Command::Play {
+            source,
+            input,
+            workers,
+            throttle,
+            seed,
+            record,
+        } => execute_play(alloc, files, source, input, workers, throttle, seed, record),
         Command::Serial { source, input } => execute_serial(alloc, files, source, input),
         Command::Format { source } => execute_format(alloc, files, source),
         Command::Bench { seed, size } => execute_bench(alloc, seed, size),
@@ -294,11 +358,14 @@ fn execute<F: Files>(
     }
 }
 
-/// Executes the command `run SOURCE INPUT [--workers P] [--throttle K]`, `serial SOURCE INPUT`,
+/// Executes the command `run SOURCE INPUT [--workers P] [--throttle K] [--record]`,
+/// `play SOURCE INPUT [--workers P] [--throttle K] [--seed N] [--record]`, `serial SOURCE INPUT`,
 /// `format SOURCE` or `bench [--seed N] [--size M]`. Writes all text to `out`, and returns the
 /// status, the log of the run, the reports of races, and how many bytes `out` took. `run` runs the
 /// program of an accepted source on the numbers of an input. The run is serial today, which is a run
-/// for every number of workers and every throttling limit. `serial` runs the serial elision alone: it
+/// for every number of workers and every throttling limit. `play` plays the program on one thread by
+/// the schedule that the choices of the seed make. With `--record` the lines of the run log follow the
+/// text. `serial` runs the serial elision alone: it
 /// has the status, the text and the reports of that, and no run log. `format` prints the canonical
 /// text of an accepted source's program. `bench` runs a generated program on a generated input twice,
 /// as with 1 and with 8 workers, and prints a summary. The runtime value and the gate are not used
@@ -311,8 +378,8 @@ pub fn cilkp<R: Drop, F: Files, S: Sink, G: Gate + Sync>(
     out: &mut S,
     _gate: &G,
 ) -> Result<Ended, NoMemory>
-    // The headline: for every accepted program, input, number of workers and limit from the throttling
-    // limit of the command on, if the files' content is known and neither count of faults rises, a call that returns `Ok` reports a
+    // The headline, for `run` and `play`: for every accepted program, input, number of workers, seed and
+    // limit from the throttling limit of the command on, if the files' content is known and neither count of faults rises, a call that returns `Ok` reports a
     // cell exactly when the run's own dag has two parallel conflicting accesses to it, reports some
     // cell exactly when the serial elision's dag has such a pair, and otherwise prints exactly the
     // serial elision's output and trap; at most the throttling limit of iterations are alive at any
@@ -320,7 +387,13 @@ pub fn cilkp<R: Drop, F: Files, S: Sink, G: Gate + Sync>(
     ensures headline { IfOk result (λ e. ¬ (CountRose (F.faults files.old) (F.faults files.new)) → ¬ (CountRose (S.faults out.old) (S.faults out.new)) →
         IfSome (F.holds files.old) (λ content. (tree : SyntaxTree) (numbers : List ℤ) (limit : ℕ) →
         IsToRun (command_of (words_of words.now)) content tree numbers limit →
-        ReturnsRun tree numbers limit e.status e.written e.run_log e.reports (S.taken out.old) (S.taken out.new))) }
+        ReturnsRun (asks_record (command_of (words_of words.now))) tree numbers limit e.status e.written e.run_log e.reports
+        (S.taken out.old) (S.taken out.new))) }
+    // The events of a `play` call are the candidates that the choices of its seed name.
+    ensures scheduled { IfOk result (λ e. ¬ (CountRose (F.faults files.old) (F.faults files.new)) → ¬ (CountRose (S.faults out.old) (S.faults out.new)) →
+        IfSome (F.holds files.old) (λ content. (tree : SyntaxTree) (numbers : List ℤ) (workers throttle seed : ℕ) →
+        IsToPlay (command_of (words_of words.now)) content tree numbers workers throttle seed →
+        HasSeededEvents tree numbers workers throttle seed e.run_log)) }
     // For every accepted program and input, if the files' content is known and neither count of
     // faults rises, a `serial` call that returns `Ok` reports a cell exactly when the serial
     // elision's dag has two parallel conflicting accesses to it, and otherwise prints exactly the
@@ -353,8 +426,8 @@ pub fn cilkp<R: Drop, F: Files, S: Sink, G: Gate + Sync>(
     ensures given_up { OnErr result
         (IsGivenUp (command_of (words_of words.now)) (F.holds files.old) (F.faults files.old) (F.faults files.new)
         (S.taken out.old) (S.taken out.new)) }
-    // Unless the status is 5, there is a run log exactly if the words are a `run` command, the call
-    // was not refused, and no read failed.
+    // Unless the status is 5, there is a run log exactly if the words are a `run` or a `play` command, the
+    // call was not refused, and no read failed.
     ensures logged { IfOk result (λ e. e.status ≢ 5 → (is_some e.run_log ≡ true)
         ↔ (KeepsLog (command_of (words_of words.now)) × (e.status ≢ 1) × (e.status ≢ 4))) }
 

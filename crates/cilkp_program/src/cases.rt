@@ -38,7 +38,7 @@ fn numbers(alloc: Global, number: Option<u32>) -> Result<Vec<u32>, NoMemory> {
 // A call to test. Its files serve seven bytes a call, and its sink takes two.
 #[derive(Clone, Copy)]
 pub struct Case<'a> {
-    pub words: &'a [&'static str],
+    pub words: &'a [&'a str],
     pub source: &'a [u8],
     pub input: &'a [u8],
     pub read_fails: Option<u32>,

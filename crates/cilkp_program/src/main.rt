@@ -11,6 +11,9 @@ pub mod gate;
 mod language_rows;
 pub mod law;
 pub mod load;
+#[cfg(test)]
+mod play_rows;
+pub mod program_play;
 pub mod program_run;
 #[cfg(test)]
 mod race_rows;

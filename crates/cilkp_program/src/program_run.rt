@@ -7,6 +7,7 @@ ghost use Rattle.pipe_model.specs.Language.SyntaxTree.{tree_of};
 ghost use Rattle.pipe_model.specs.Races.FirstRaces.{AreFirstRaces};
 ghost use Rattle.program_laws.specs.WorkBounds.{instances_in};
 ghost use Rattle.cilkp_program.specs.declared.program_run.TheConstants as bounds;
+ghost use Rattle.cilkp_program.specs.RecordedRuns.{recorded};
 ghost use Rattle.cilkp_program.specs.RunTexts.{IsPrintedAs};
 ghost use Rattle.serial_elision.specs.Elisions.{IsElision};
 ghost use Rattle.pipe_model.specs.Language.ProgramsOfTrees.{whole_of};
@@ -24,6 +25,7 @@ use pipe_model::trap::TrapAt;
 use race_detection::detect::detect;
 use race_report::outcome::outcome_text;
 use race_report::race_text::text;
+use run_record::log_text;
 use serial_elision::elision::{SerialRun, run_serial};
 use stage_code::lower::lower;
 use std::alloc::Global;
@@ -142,6 +144,26 @@ pub fn printed_run(
         None => Ok((FINISHED, lines)),
         Some(_) => Ok((TRAPPED, lines)),
     }
+}
+
+/// Returns the text of a run, followed by the lines of its log if `with_log` is set. Returns an error
+/// only if memory runs out.
+pub fn recorded(
+    alloc: Global,
+    checked: &Checked,
+    with_log: bool,
+    run_log: &RunLog,
+    text: Bytes,
+) -> Result<Bytes, NoMemory>
+    ensures { IfOk result (λ whole. whole ≡ recorded with_log checked.now.cells run_log.now text) }
+{
+    if !with_log {
+        return Ok(text);
+    }
+    let lines = log_text::text(alloc, run_log, checked)?;
+    let mut whole = text.into_vec();
+    whole.extend_from_slice(lines.as_slice())?;
+    Ok(Bytes::from_vec(whole))
 }
 
 /// Counts the stage instances of the columns of a run.

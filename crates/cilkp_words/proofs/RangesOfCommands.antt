@@ -6,7 +6,7 @@ use Rattle.std.specs.Str.{bytes_eq}
 use Rattle.clap.specs.Walk.{Row, Text, first_of}
 use Rattle.cilkp_words.specs.CommandRanges.{IsInRange}
 use Rattle.cilkp_words.specs.Commands.{Command}
-use Rattle.cilkp_words.specs.CommandWords.{bench_of, command_named, format_of, run_of, serial_of}
+use Rattle.cilkp_words.specs.CommandWords.{bench_of, command_named, format_of, play_of, run_of, seed_of, serial_of, throttle_of, workers_of}
 use Rattle.cilkp_words.specs.OptionNumbers.{number_in, number_or}
 use Rattle.cilkp_words.specs.declared.ranges.TheConstants.{DEFAULT_SEED, DEFAULT_SIZE, DEFAULT_WORKERS, MOST_THROTTLE, MOST_WORKERS, THROTTLE_PER_WORKER}
 use Rattle.pipe_gen.specs.declared.choices.TheConstants.{MOST_SEED}
@@ -32,12 +32,24 @@ option_between : (default least most : ℕ) (word : Option Text) (n : ℕ) → l
 option_between default least most None n low high found = let between : (least ≤ default) × (default ≤ most) = (low, high) in rw (same_Some default n found) at between
 option_between default least most (Some word) n low high found = number_between least most word n found
 
+-- the options that several subcommands have
+workers_between : (rows : List Row) (workers : ℕ) → workers_of rows ≡ Some workers → (1 ≤ workers) × (workers ≤ MOST_WORKERS)
+workers_between rows workers is = option_between DEFAULT_WORKERS 1 MOST_WORKERS (first_of (codes "workers") rows) workers (omega arith) (omega arith) is
+
+throttle_between : (rows : List Row) (workers throttle : ℕ) → (1 ≤ workers) × (workers ≤ MOST_WORKERS) → throttle_of workers rows ≡ Some throttle
+    → (1 ≤ throttle) × (throttle ≤ MOST_THROTTLE)
+throttle_between rows workers throttle (some, few) is =
+    option_between (THROTTLE_PER_WORKER * workers) 1 MOST_THROTTLE (first_of (codes "throttle") rows) throttle (omega (arith, some)) (omega (arith, few)) is
+
+seed_between : (rows : List Row) (seed : ℕ) → seed_of rows ≡ Some seed → seed ≤ MOST_SEED
+seed_between rows seed is = (option_between DEFAULT_SEED 0 MOST_SEED (first_of (codes "seed") rows) seed (omega arith) (omega arith) is).1
+
 -- `bench`
 bench_between : (rows : List Row) → IfSome (bench_of rows) IsInRange
 bench_between rows =
-    after (number_or DEFAULT_SEED 0 MOST_SEED (first_of (codes "seed") rows)) _ IsInRange (λ seed is.
+    after (seed_of rows) _ IsInRange (λ seed is.
     after (number_or DEFAULT_SIZE 1 MOST_SIZE (first_of (codes "size") rows)) _ IsInRange (λ size also. (
-      (option_between DEFAULT_SEED 0 MOST_SEED (first_of (codes "seed") rows) seed (omega arith) (omega arith) is).1,
+      seed_between rows seed is,
       option_between DEFAULT_SIZE 1 MOST_SIZE (first_of (codes "size") rows) size (omega arith) (omega arith) also,
     )))
 
@@ -46,13 +58,20 @@ run_between : (rows : List Row) → IfSome (run_of rows) IsInRange
 run_between rows =
     after (first_of (codes "source") rows) _ IsInRange (λ source d.
     after (first_of (codes "input") rows) _ IsInRange (λ input e.
-    after (number_or DEFAULT_WORKERS 1 MOST_WORKERS (first_of (codes "workers") rows)) _ IsInRange (λ workers is.
-    let w = option_between DEFAULT_WORKERS 1 MOST_WORKERS (first_of (codes "workers") rows) workers (omega arith) (omega arith) is in
-    after (number_or (THROTTLE_PER_WORKER * workers) 1 MOST_THROTTLE (first_of (codes "throttle") rows)) _ IsInRange (λ throttle also. (
-      w,
-      option_between (THROTTLE_PER_WORKER * workers) 1 MOST_THROTTLE (first_of (codes "throttle") rows) throttle
-          (let some = w.0 in omega (arith, some)) (let few = w.1 in omega (arith, few)) also,
-    )))))
+    after (workers_of rows) _ IsInRange (λ workers is.
+    let w = workers_between rows workers is in
+    after (throttle_of workers rows) _ IsInRange (λ throttle also. (w, throttle_between rows workers throttle w also)))))
+
+-- `play`
+play_between : (rows : List Row) → IfSome (play_of rows) IsInRange
+play_between rows =
+    after (first_of (codes "source") rows) _ IsInRange (λ source d.
+    after (first_of (codes "input") rows) _ IsInRange (λ input e.
+    after (workers_of rows) _ IsInRange (λ workers is.
+    let w = workers_between rows workers is in
+    after (throttle_of workers rows) _ IsInRange (λ throttle also.
+    after (seed_of rows) _ IsInRange (λ seed too.
+    (w, (throttle_between rows workers throttle w also, seed_between rows seed too)))))))
 
 -- `serial` and `format` have no numbers
 serial_between : (rows : List Row) → IfSome (serial_of rows) IsInRange
@@ -66,9 +85,10 @@ format_between rows = after (first_of (codes "source") rows) _ IsInRange (λ sou
 named_between : (name : Text) (rows : List Row) → IfSome (command_named name rows) IsInRange
 named_between name rows =
     branches (bytes_eq name (codes "run")) _ _ IsInRange (run_between rows)
+    (branches (bytes_eq name (codes "play")) _ _ IsInRange (play_between rows)
     (branches (bytes_eq name (codes "serial")) _ _ IsInRange (serial_between rows)
     (branches (bytes_eq name (codes "format")) _ _ IsInRange (format_between rows)
-    (branches (bytes_eq name (codes "bench")) _ _ IsInRange (bench_between rows) tt)))
+    (branches (bytes_eq name (codes "bench")) _ _ IsInRange (bench_between rows) tt))))
 
 -- the command of the subcommand that was given, if one was
 pub command_between : (found : Option Command) (given : Option (Text × List Row)) → found ≡ option_and_then (λ p. command_named p.0 p.1) given

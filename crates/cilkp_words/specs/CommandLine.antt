@@ -1,7 +1,8 @@
--- The command line: four subcommands with their files and options, without help and version.
+-- The command line: five subcommands with their files and options, without help and version.
 use Rattle.std.specs.Prelude.{true, false, List, [], ◌∷◌, codes, Some}
 use Rattle.clap.specs.Simple.{App, Shape, new_rule, new_shape}
 use Rattle.clap.specs.Walk.{Rule, Text}
+use Rattle.clap.specs.declared.builder.action.ArgAction.TheVariants.{SetTrue}
 
 -- the name of a file, by its position among the words that are no options
 abbrev pub file_rule : Text → Rule
@@ -11,14 +12,23 @@ file_rule name = record (new_rule name) { required = true }
 abbrev pub option_rule : Text → Rule
 option_rule name = record (new_rule name) { long = Some name }
 
+-- a flag `--NAME` without a value
+abbrev pub flag_rule : Text → Rule
+flag_rule name = record (new_rule name) { long = Some name; action = Some SetTrue }
+
 -- a subcommand with these arguments
 abbrev pub subcommand_shape : Text → List Rule → Shape
 subcommand_shape name rules = record (new_shape name) { rules = rules }
 
--- run SOURCE INPUT [--workers P] [--throttle K]
+-- run SOURCE INPUT [--workers P] [--throttle K] [--record]
 abbrev pub run_shape : Shape
 run_shape = subcommand_shape (codes "run") (file_rule (codes "source") ∷ file_rule (codes "input") ∷ option_rule (codes "workers") ∷ option_rule
-    (codes "throttle") ∷ [])
+    (codes "throttle") ∷ flag_rule (codes "record") ∷ [])
+
+-- play SOURCE INPUT [--workers P] [--throttle K] [--seed n] [--record]
+abbrev pub play_shape : Shape
+play_shape = subcommand_shape (codes "play") (file_rule (codes "source") ∷ file_rule (codes "input") ∷ option_rule (codes "workers") ∷ option_rule
+    (codes "throttle") ∷ option_rule (codes "seed") ∷ flag_rule (codes "record") ∷ [])
 
 -- serial SOURCE INPUT
 abbrev pub serial_shape : Shape
@@ -43,5 +53,5 @@ bare_line = record {
 abbrev pub command_line : App
 command_line = record {
   top = record bare_line.top { is_leaf = false };
-  subs = run_shape ∷ serial_shape ∷ format_shape ∷ bench_shape ∷ [];
+  subs = run_shape ∷ play_shape ∷ serial_shape ∷ format_shape ∷ bench_shape ∷ [];
 }

@@ -1,5 +1,6 @@
 -- Which command the words of a call ask for: `clap` states which lines it accepts, and which word each argument has.
-use Rattle.std.specs.Prelude.{◌*◌, ◌==◌, List, length, map, codes, String, string_bytes, Option, Some, None, if◌then◌else◌, option_and_then}
+use Rattle.std.specs.Prelude.{ℕ, ◌*◌, ◌==◌, Bool, false, List, length, map, codes, String, string_bytes, Option, Some, None, if◌then◌else◌, option_and_then}
+use Rattle.std.specs.Option.{option_map_or}
 use Rattle.std.specs.Str.{bytes_eq}
 use Rattle.std.specs.declared.alloc.Global.{Global}
 use Rattle.clap.specs.Faults.{fault_of}
@@ -8,7 +9,7 @@ use Rattle.clap.specs.Walk.{Row, Text, first_of}
 use Rattle.pipe_gen.specs.declared.choices.TheConstants.{MOST_SEED}
 use Rattle.pipe_gen.specs.declared.workload.TheConstants.{MOST_SIZE}
 use Rattle.cilkp_words.specs.CommandLine.{command_line}
-use Rattle.cilkp_words.specs.Commands.{Command, Run, Serial, Format, Bench}
+use Rattle.cilkp_words.specs.Commands.{Command, Run, Play, Serial, Format, Bench}
 use Rattle.cilkp_words.specs.OptionNumbers.{number_or}
 use Rattle.cilkp_words.specs.declared.ranges.TheConstants.{DEFAULT_SEED, DEFAULT_SIZE, DEFAULT_WORKERS, MOST_THROTTLE, MOST_WORKERS, THROTTLE_PER_WORKER}
 
@@ -16,13 +17,33 @@ use Rattle.cilkp_words.specs.declared.ranges.TheConstants.{DEFAULT_SEED, DEFAULT
 abbrev pub words_of : List (String Global) → List Text
 words_of words = map string_bytes words
 
--- ---- the command of each subcommand, by the words of its arguments; none if a number is not plain or out of its range
+-- ---- the options that several subcommands have; none if a number is not plain or out of its range
+
+abbrev pub workers_of : List Row → Option ℕ
+workers_of rows = number_or DEFAULT_WORKERS 1 MOST_WORKERS (first_of (codes "workers") rows)
+
+abbrev pub throttle_of : (workers : ℕ) → List Row → Option ℕ
+throttle_of workers rows = number_or (THROTTLE_PER_WORKER * workers) 1 MOST_THROTTLE (first_of (codes "throttle") rows)
+
+abbrev pub seed_of : List Row → Option ℕ
+seed_of rows = number_or DEFAULT_SEED 0 MOST_SEED (first_of (codes "seed") rows)
+
+-- the flag `--record` is given: its text is then `true`
+abbrev pub records : List Row → Bool
+records rows = option_map_or (λ text. bytes_eq text (codes "true")) (first_of (codes "record") rows) false
+
+-- ---- the command of each subcommand, by the words of its arguments
 
 abbrev pub run_of : List Row → Option Command
 run_of rows = option_and_then (λ source. option_and_then (λ input.
-    option_and_then (λ workers. option_and_then (λ throttle. Some (Run source input workers throttle))
-    (number_or (THROTTLE_PER_WORKER * workers) 1 MOST_THROTTLE (first_of (codes "throttle") rows)))
-    (number_or DEFAULT_WORKERS 1 MOST_WORKERS (first_of (codes "workers") rows)))
+    option_and_then (λ workers. option_and_then (λ throttle. Some (Run source input workers throttle (records rows)))
+    (throttle_of workers rows)) (workers_of rows))
+    (first_of (codes "input") rows)) (first_of (codes "source") rows)
+
+abbrev pub play_of : List Row → Option Command
+play_of rows = option_and_then (λ source. option_and_then (λ input.
+    option_and_then (λ workers. option_and_then (λ throttle. option_and_then (λ seed. Some (Play source input workers throttle seed (records rows)))
+    (seed_of rows)) (throttle_of workers rows)) (workers_of rows))
     (first_of (codes "input") rows)) (first_of (codes "source") rows)
 
 abbrev pub serial_of : List Row → Option Command
@@ -35,7 +56,7 @@ format_of rows = option_and_then (λ source. Some (Format source)) (first_of (co
 abbrev pub bench_of : List Row → Option Command
 bench_of rows = option_and_then (λ seed. option_and_then (λ size. Some (Bench seed size))
     (number_or DEFAULT_SIZE 1 MOST_SIZE (first_of (codes "size") rows)))
-    (number_or DEFAULT_SEED 0 MOST_SEED (first_of (codes "seed") rows))
+    (seed_of rows)
 
 -- ---- the command of a whole line
 
@@ -43,9 +64,10 @@ bench_of rows = option_and_then (λ seed. option_and_then (λ size. Some (Bench 
 abbrev pub command_named : Text → List Row → Option Command
 command_named name rows =
     if bytes_eq name (codes "run") then run_of rows
+    else (if bytes_eq name (codes "play") then play_of rows
     else (if bytes_eq name (codes "serial") then serial_of rows
     else (if bytes_eq name (codes "format") then format_of rows
-    else (if bytes_eq name (codes "bench") then bench_of rows else None)))
+    else (if bytes_eq name (codes "bench") then bench_of rows else None))))
 
 -- the command that the words ask for, if they are one: the command line accepts them, and their subcommand has a command
 abbrev pub command_of : List Text → Option Command

@@ -1,7 +1,7 @@
 -- Worked command lines.
-use Rattle.std.specs.Prelude.{◌≡◌, ℕ, ◌==◌, List, [], ◌∷◌, codes, Some, None, if◌then◌else◌}
+use Rattle.std.specs.Prelude.{◌≡◌, ℕ, ◌==◌, true, false, List, [], ◌∷◌, codes, Some, None, if◌then◌else◌}
 use Rattle.clap.specs.Walk.{Text}
-use Rattle.cilkp_words.specs.Commands.{Command, Run, Serial, Format, Bench}
+use Rattle.cilkp_words.specs.Commands.{Command, Run, Play, Serial, Format, Bench}
 use Rattle.cilkp_words.specs.CommandWords.{command_of}
 
 -- ---- the words of a line
@@ -33,16 +33,16 @@ AsksNothing line = command_of (words_in line) ≡ None
 -- an option's value is the next word, or joined by `=`; options may be anywhere among the files
 abbrev pub SeparateAndJoinedValues : Type 0
 SeparateAndJoinedValues =
-    Asks (codes "run a b") (Run (codes "a") (codes "b") 4 16)
-    × Asks (codes "run --workers 8 a b") (Run (codes "a") (codes "b") 8 32)
-    × Asks (codes "run a --workers 8 b") (Run (codes "a") (codes "b") 8 32)
-    × Asks (codes "run a b --workers 8") (Run (codes "a") (codes "b") 8 32)
-    × Asks (codes "run --workers=8 a b") (Run (codes "a") (codes "b") 8 32)
-    × Asks (codes "run a --workers=8 b") (Run (codes "a") (codes "b") 8 32)
-    × Asks (codes "run a b --workers=8") (Run (codes "a") (codes "b") 8 32)
-    × Asks (codes "run a b --throttle 3") (Run (codes "a") (codes "b") 4 3)
-    × Asks (codes "run --workers=8 a --throttle 3 b") (Run (codes "a") (codes "b") 8 3)
-    × Asks (codes "run --throttle=3 --workers 8 a b") (Run (codes "a") (codes "b") 8 3)
+    Asks (codes "run a b") (Run (codes "a") (codes "b") 4 16 false)
+    × Asks (codes "run --workers 8 a b") (Run (codes "a") (codes "b") 8 32 false)
+    × Asks (codes "run a --workers 8 b") (Run (codes "a") (codes "b") 8 32 false)
+    × Asks (codes "run a b --workers 8") (Run (codes "a") (codes "b") 8 32 false)
+    × Asks (codes "run --workers=8 a b") (Run (codes "a") (codes "b") 8 32 false)
+    × Asks (codes "run a --workers=8 b") (Run (codes "a") (codes "b") 8 32 false)
+    × Asks (codes "run a b --workers=8") (Run (codes "a") (codes "b") 8 32 false)
+    × Asks (codes "run a b --throttle 3") (Run (codes "a") (codes "b") 4 3 false)
+    × Asks (codes "run --workers=8 a --throttle 3 b") (Run (codes "a") (codes "b") 8 3 false)
+    × Asks (codes "run --throttle=3 --workers 8 a b") (Run (codes "a") (codes "b") 8 3 false)
 
 -- an option before the command, twice, without a value, abbreviated, or of another command is refused
 abbrev pub MisplacedOptions : Type 0
@@ -61,8 +61,8 @@ MisplacedOptions =
 -- a number is plain decimal and within its range
 abbrev pub OptionNumbers : Type 0
 OptionNumbers =
-    Asks (codes "run a b --workers 1") (Run (codes "a") (codes "b") 1 4)
-    × Asks (codes "run a b --workers 64") (Run (codes "a") (codes "b") 64 256)
+    Asks (codes "run a b --workers 1") (Run (codes "a") (codes "b") 1 4 false)
+    × Asks (codes "run a b --workers 64") (Run (codes "a") (codes "b") 64 256 false)
     × AsksNothing (codes "run a b --workers 0")
     × AsksNothing (codes "run a b --workers 65")
     × AsksNothing (codes "run a b --workers 08")
@@ -71,8 +71,8 @@ OptionNumbers =
     × AsksNothing (codes "run a b --workers=-5")
     × AsksNothing (codes "run a b --workers=")
     × AsksNothing (codes "run a b --workers 8x")
-    × Asks (codes "run a b --throttle 1") (Run (codes "a") (codes "b") 4 1)
-    × Asks (codes "run a b --throttle 1024") (Run (codes "a") (codes "b") 4 1024)
+    × Asks (codes "run a b --throttle 1") (Run (codes "a") (codes "b") 4 1 false)
+    × Asks (codes "run a b --throttle 1024") (Run (codes "a") (codes "b") 4 1024 false)
     × AsksNothing (codes "run a b --throttle 0")
     × AsksNothing (codes "run a b --throttle 1025")
     × AsksNothing (codes "run a b --throttle 18446744073709551620")
@@ -80,13 +80,13 @@ OptionNumbers =
 -- words after `--` are file names, and so are `-` and the empty word; another word with `-` first is not
 abbrev pub FileNames : Type 0
 FileNames =
-    Asks (codes "run -- a --workers") (Run (codes "a") (codes "--workers") 4 16)
-    × Asks (codes "run a -- b") (Run (codes "a") (codes "b") 4 16)
-    × Asks (codes "run a b --") (Run (codes "a") (codes "b") 4 16)
-    × Asks (codes "run -- -x b") (Run (codes "-x") (codes "b") 4 16)
-    × Asks (codes "run - b") (Run (codes "-") (codes "b") 4 16)
-    × Asks (codes "run  b") (Run (codes "") (codes "b") 4 16)
-    × Asks (codes "run a ") (Run (codes "a") (codes "") 4 16)
+    Asks (codes "run -- a --workers") (Run (codes "a") (codes "--workers") 4 16 false)
+    × Asks (codes "run a -- b") (Run (codes "a") (codes "b") 4 16 false)
+    × Asks (codes "run a b --") (Run (codes "a") (codes "b") 4 16 false)
+    × Asks (codes "run -- -x b") (Run (codes "-x") (codes "b") 4 16 false)
+    × Asks (codes "run - b") (Run (codes "-") (codes "b") 4 16 false)
+    × Asks (codes "run  b") (Run (codes "") (codes "b") 4 16 false)
+    × Asks (codes "run a ") (Run (codes "a") (codes "") 4 16 false)
     × AsksNothing (codes "-- run a b")
     × AsksNothing (codes "run -x b")
     × AsksNothing (codes "run a b -x")
@@ -125,11 +125,36 @@ OtherCommands =
     × AsksNothing (codes "bench --size 40001")
     × AsksNothing (codes "bench a")
 
--- the command `play` and the flag `--record` do not exist yet
-abbrev pub LaterForms : Type 0
-LaterForms =
-    AsksNothing (codes "play a b")
-    × AsksNothing (codes "run a b --record")
+-- the command `play`: `run` with a seed, from 0 to 65,535
+abbrev pub PlayedLines : Type 0
+PlayedLines =
+    Asks (codes "play a b") (Play (codes "a") (codes "b") 4 16 1 false)
+    × Asks (codes "play a b --seed 0 --record") (Play (codes "a") (codes "b") 4 16 0 true)
+    × Asks (codes "play a b --seed=65535 --workers 2 --throttle 3") (Play (codes "a") (codes "b") 2 3 65535 false)
+    × Asks (codes "play --workers 64 a --seed 7 b") (Play (codes "a") (codes "b") 64 256 7 false)
+    × AsksNothing (codes "play a")
+    × AsksNothing (codes "play a b c")
+    × AsksNothing (codes "play a b --seed")
+    × AsksNothing (codes "play a b --seed 65536")
+    × AsksNothing (codes "play a b --seed 01")
+    × AsksNothing (codes "play a b --seed 1 --seed 1")
+    × AsksNothing (codes "play a b --workers 65")
+    × AsksNothing (codes "play a b --throttle 1025")
+    × AsksNothing (codes "play a b --size 1")
+
+-- the flag `--record` of `run` and `play` may be anywhere among the files, once, and has no value
+abbrev pub RecordedLines : Type 0
+RecordedLines =
+    Asks (codes "run a b --record") (Run (codes "a") (codes "b") 4 16 true)
+    × Asks (codes "run --record a b") (Run (codes "a") (codes "b") 4 16 true)
+    × Asks (codes "run a --record b --workers 8") (Run (codes "a") (codes "b") 8 32 true)
+    × Asks (codes "play --record a b") (Play (codes "a") (codes "b") 4 16 1 true)
+    × Asks (codes "run a -- --record") (Run (codes "a") (codes "--record") 4 16 false)
     × AsksNothing (codes "run a b --record --record")
     × AsksNothing (codes "run a b --record=true")
     × AsksNothing (codes "run a b --record true")
+    × AsksNothing (codes "play a b --record --record")
+    × AsksNothing (codes "--record run a b")
+    × AsksNothing (codes "serial a b --record")
+    × AsksNothing (codes "format a --record")
+    × AsksNothing (codes "bench --record")

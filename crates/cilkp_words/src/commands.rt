@@ -9,6 +9,19 @@ pub enum Command<'a> {
         input: &'a str,
         workers: u32,
         throttle: u32,
+        /// Whether the lines of the run log are printed after the text.
+        record: bool,
+    },
+    /// Plays a source on an input on one thread, by the schedule that the seed chooses, with at
+    /// most `workers` instances running and at most `throttle` iterations alive.
+    Play {
+        source: &'a str,
+        input: &'a str,
+        workers: u32,
+        throttle: u32,
+        seed: u32,
+        /// Whether the lines of the run log are printed after the text.
+        record: bool,
     },
     /// Runs a source on an input serially.
     Serial {

@@ -1,6 +1,6 @@
 //! Worked command lines, which the checker computes from the definitions.
 
-ghost use Rattle.cilkp_words.specs.WordExamples.{CallsForHelp, FileNames, LaterForms, MisplacedOptions, OptionNumbers, OtherCommands, SeparateAndJoinedValues};
+ghost use Rattle.cilkp_words.specs.WordExamples.{CallsForHelp, FileNames, MisplacedOptions, OptionNumbers, OtherCommands, PlayedLines, RecordedLines, SeparateAndJoinedValues};
 
 /// The value of an option is the next word or joined by `=`, and options may be anywhere among the
 /// files.
@@ -34,7 +34,12 @@ pub fn other_commands()
     ensures { OtherCommands }
 {}
 
-/// The command `play` and the flag `--record` do not exist yet.
-pub fn later_forms()
-    ensures { LaterForms }
+/// The command `play`.
+pub fn played_lines()
+    ensures { PlayedLines }
+{}
+
+/// The flag `--record` of `run` and `play` may be anywhere among the files, once, without a value.
+pub fn recorded_lines()
+    ensures { RecordedLines }
 {}

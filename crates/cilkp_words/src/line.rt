@@ -4,9 +4,9 @@ ghost use Rattle.std.specs.Prelude.{◌≡◌, ◌∷◌, [], IfOk, codes, false
 ghost use Rattle.clap.specs.Simple.{app_of, shape_of};
 ghost use Rattle.clap.specs.Walk.{rule_of};
 ghost use Rattle.clap.specs.declared.builder.command.Command.TheViews.{out-Command as fields_of};
-ghost use Rattle.cilkp_words.specs.CommandLine.{bare_line, bench_shape, command_line, file_rule, format_shape, option_rule, run_shape, serial_shape};
+ghost use Rattle.cilkp_words.specs.CommandLine.{bare_line, bench_shape, command_line, file_rule, flag_rule, format_shape, option_rule, play_shape, run_shape, serial_shape};
 
-use clap::{Arg, Command};
+use clap::{Arg, ArgAction, Command};
 use std::alloc::{AllocError, Global};
 
 // The name of a file, which must be given.
@@ -25,6 +25,14 @@ fn option<'a>(alloc: Global, name: &'static str) -> Arg<'a>
     Arg::new(alloc, name).long(name)
 }
 
+// A flag without a value.
+fn flag<'a>(alloc: Global, name: &'static str) -> Arg<'a>
+    ensures rule { rule_of result ≡ flag_rule name.now }
+    ensures local { result.global ≡ false }
+{
+    Arg::new(alloc, name).long(name).action(ArgAction::SetTrue)
+}
+
 fn run<'a>(alloc: Global) -> Result<Command<'a>, AllocError>
     ensures shape { IfOk result (λ c. shape_of c ≡ run_shape) }
     ensures local { IfOk result (λ c. (fields_of c).has_globals ≡ false) }
@@ -33,7 +41,22 @@ fn run<'a>(alloc: Global) -> Result<Command<'a>, AllocError>
         .arg(file(alloc, "source"))?
         .arg(file(alloc, "input"))?
         .arg(option(alloc, "workers"))?
-        .arg(option(alloc, "throttle"))?;
+        .arg(option(alloc, "throttle"))?
+        .arg(flag(alloc, "record"))?;
+    Ok(command)
+}
+
+fn play<'a>(alloc: Global) -> Result<Command<'a>, AllocError>
+    ensures shape { IfOk result (λ c. shape_of c ≡ play_shape) }
+    ensures local { IfOk result (λ c. (fields_of c).has_globals ≡ false) }
+{
+    let command = Command::new(alloc, "play")
+        .arg(file(alloc, "source"))?
+        .arg(file(alloc, "input"))?
+        .arg(option(alloc, "workers"))?
+        .arg(option(alloc, "throttle"))?
+        .arg(option(alloc, "seed"))?
+        .arg(flag(alloc, "record"))?;
     Ok(command)
 }
 
@@ -81,6 +104,7 @@ pub fn command_line<'a>(alloc: Global) -> Result<Command<'a>, AllocError>
 {
     let line = bare_line(alloc)
         .subcommand(run(alloc)?)?
+        .subcommand(play(alloc)?)?
         .subcommand(serial(alloc)?)?
         .subcommand(format(alloc)?)?
         .subcommand(bench(alloc)?)?;

@@ -9,7 +9,7 @@ pub const DEFAULT_WORKERS: u32 = 4;
 pub const MOST_THROTTLE: u32 = 1_024;
 /// The throttling limit for each worker if the option is not given.
 pub const THROTTLE_PER_WORKER: u32 = 4;
-/// The seed of the workload if the option is not given.
+/// The seed of `bench` and `play` if the option is not given.
 pub const DEFAULT_SEED: u32 = 1;
 /// The size of the workload if the option is not given.
 pub const DEFAULT_SIZE: u32 = 1_000;

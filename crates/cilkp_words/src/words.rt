@@ -1,12 +1,13 @@
 //! Which command the words of a call ask for.
 
-ghost use Rattle.std.specs.Prelude.{◌≡◌, IfOk, IfSome, option_and_then, option_map};
+ghost use Rattle.std.specs.Prelude.{◌≡◌, ◌≤◌, IfOk, IfSome, option_and_then, option_map};
 ghost use Rattle.clap.specs.Matches.{found_of};
 ghost use Rattle.clap.specs.Simple.{subcommand_rows_of};
 ghost use Rattle.clap.specs.Walk.{first_of, rows_of};
 ghost use Rattle.cilkp_words.specs.CommandRanges.{IsInRange};
 ghost use Rattle.cilkp_words.specs.Commands.{command_data};
-ghost use Rattle.cilkp_words.specs.CommandWords.{bench_of, command_named, command_of, format_of, run_of, serial_of, words_of};
+ghost use Rattle.cilkp_words.specs.CommandWords.{bench_of, command_named, command_of, format_of, play_of, records, run_of, seed_of, serial_of, throttle_of, words_of, workers_of};
+ghost use Rattle.cilkp_words.specs.declared.ranges.TheConstants as ranges;
 
 use crate::commands::Command;
 use crate::line::command_line;
@@ -28,19 +29,67 @@ fn word<'a>(matches: &ArgMatches<'a>, name: &str) -> Option<&'a str>
     matches.get_str(name)
 }
 
+fn workers<'a>(matches: &ArgMatches<'a>) -> Option<u32>
+    ensures { result ≡ workers_of (rows_of (found_of matches.now)) }
+{
+    number_or(DEFAULT_WORKERS, 1, MOST_WORKERS, word(matches, "workers"))
+}
+
+// The throttling limit, with the default for this many workers.
+fn throttle<'a>(workers: u32, matches: &ArgMatches<'a>) -> Option<u32>
+    requires few { workers ≤ ranges.MOST_WORKERS }
+    ensures { result ≡ throttle_of workers (rows_of (found_of matches.now)) }
+{
+    let default = THROTTLE_PER_WORKER * workers;
+    number_or(default, 1, MOST_THROTTLE, word(matches, "throttle"))
+}
+
+fn seed<'a>(matches: &ArgMatches<'a>) -> Option<u32>
+    ensures { result ≡ seed_of (rows_of (found_of matches.now)) }
+{
+    number_or(DEFAULT_SEED, 0, MOST_SEED, word(matches, "seed"))
+}
+
+// Whether the flag `--record` is given.
+fn records<'a>(matches: &ArgMatches<'a>) -> bool
+    ensures { result ≡ records (rows_of (found_of matches.now)) }
+{
+    word(matches, "record") == Some("true")
+}
+
 fn run<'a>(matches: &ArgMatches<'a>) -> Option<Command<'a>>
     ensures { option_map command_data result ≡ run_of (rows_of (found_of matches.now)) }
 {
     let source = word(matches, "source")?;
     let input = word(matches, "input")?;
-    let workers = number_or(DEFAULT_WORKERS, 1, MOST_WORKERS, word(matches, "workers"))?;
-    let default = THROTTLE_PER_WORKER * workers;
-    let throttle = number_or(default, 1, MOST_THROTTLE, word(matches, "throttle"))?;
+    let workers = workers(matches)?;
+    let throttle = throttle(workers, matches)?;
+    let record = records(matches);
     Some(Command::Run {
         source,
         input,
         workers,
         throttle,
+        record,
+    })
+}
+
+fn play<'a>(matches: &ArgMatches<'a>) -> Option<Command<'a>>
+    ensures { option_map command_data result ≡ play_of (rows_of (found_of matches.now)) }
+{
+    let source = word(matches, "source")?;
+    let input = word(matches, "input")?;
+    let workers = workers(matches)?;
+    let throttle = throttle(workers, matches)?;
+    let seed = seed(matches)?;
+    let record = records(matches);
+    Some(Command::Play {
+        source,
+        input,
+        workers,
+        throttle,
+        seed,
+        record,
     })
 }
 
@@ -62,7 +111,7 @@ fn format<'a>(matches: &ArgMatches<'a>) -> Option<Command<'a>>
 fn bench<'a>(matches: &ArgMatches<'a>) -> Option<Command<'a>>
     ensures { option_map command_data result ≡ bench_of (rows_of (found_of matches.now)) }
 {
-    let seed = number_or(DEFAULT_SEED, 0, MOST_SEED, word(matches, "seed"))?;
+    let seed = seed(matches)?;
     let size = number_or(DEFAULT_SIZE, 1, MOST_SIZE, word(matches, "size"))?;
     Some(Command::Bench { seed, size })
 }
@@ -73,6 +122,7 @@ fn command_named<'a>(name: &str, matches: &ArgMatches<'a>) -> Option<Command<'a>
 {
     match name {
         "run" => run(matches),
+        "play" => play(matches),
         "serial" => serial(matches),
         "format" => format(matches),
         "bench" => bench(matches),

@@ -6,9 +6,9 @@ use pipe_model::memory::NoMemory;
 use std::alloc::Global;
 use std::test::Fail;
 
-// Lines of words that were drawn at random from a list, and their commands: the name, the files and
-// the numbers. A line that asks for no command has none.
-const LINES: [(&str, &str); 42] = [
+// Lines of words, most of which were drawn at random from a list, and their commands: the name, the
+// files, the numbers, and whether a log is asked for. A line that asks for no command has none.
+const LINES: [(&str, &str); 47] = [
     ("run b -", "run b - 4 16"),
     ("run a a", "run a a 4 16"),
     ("run -- a.pipe -", "run a.pipe - 4 16"),
@@ -51,6 +51,14 @@ const LINES: [(&str, &str); 42] = [
     ("run b b a --throttle=65535", ""),
     ("run - --throttle=65 65 --throttle a", ""),
     ("bench  --seed=0 --seed=0", ""),
+    ("play b --workers=2 a", "play b a 2 8 1"),
+    (
+        "play a --record - --seed 65535",
+        "play a - 4 16 65535 record",
+    ),
+    ("run --record a b", "run a b 4 16 record"),
+    ("play a b --size 3", ""),
+    ("serial a b --record", ""),
 ];
 
 // The words of a line, with one space between them.
@@ -60,6 +68,14 @@ fn words(alloc: Global, line: &str) -> Result<Vec<String>, NoMemory> {
         words.push(String::from_str(alloc, word)?)?;
     }
     Ok(words)
+}
+
+// Appends a word if the lines of the run log are asked for.
+fn push_record(text: &mut String, record: bool) -> Result<(), NoMemory> {
+    if record {
+        write!(text, " record")?;
+    }
+    Ok(())
 }
 
 // The command of a line; empty if it asks for none.
@@ -74,8 +90,25 @@ fn asked(alloc: Global, line: &str) -> Result<String, NoMemory> {
                 input,
                 workers,
                 throttle,
+                record,
             },
-        ) => write!(text, "run {source} {input} {workers} {throttle}")?,
+        ) => {
+            write!(text, "run {source} {input} {workers} {throttle}")?;
+            push_record(&mut text, record)?;
+        }
+        Some(
+            Command::Play {
+                source,
+                input,
+                workers,
+                throttle,
+                seed,
+                record,
+            },
+        ) => {
+            write!(text, "play {source} {input} {workers} {throttle} {seed}")?;
+            push_record(&mut text, record)?;
+        }
         Some(Command::Serial { source, input }) => write!(text, "serial {source} {input}")?,
         Some(Command::Format { source }) => write!(text, "format {source}")?,
         Some(Command::Bench { seed, size }) => write!(text, "bench {seed} {size}")?,

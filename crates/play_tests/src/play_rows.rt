@@ -1,17 +1,12 @@
 //! Loops, played by given choices.
 
-ghost use Rattle.std.specs.Prelude.{◌≡◌, ◌<◌, ℕ, List, IfOk};
-ghost use Rattle.pipe_model.specs.Language.SourceRefusals.{IsAccepted};
-ghost use Rattle.pipe_model.specs.Language.SyntaxTree.{tree_of};
+ghost use Rattle.std.specs.Prelude.{◌≡◌, ◌<◌};
 
+use crate::sources::accepted;
 use cell_store::cells::Cells;
-use pipe_check::checked::Checked;
-use pipe_check::program::check;
-use pipe_lexer::scan::tokens;
 use pipe_model::access::CellId;
 use pipe_model::list::{Bytes, Numbers};
 use pipe_model::memory::NoMemory;
-use pipe_parser::parse::parse;
 use run_record::log_text::text;
 use schedule_play::choices::choices;
 use schedule_play::loop_play::{LoopPlay, PlayLimits, play_loop};
@@ -67,25 +62,6 @@ const WAITING_LINES: [&str; 17] = [
     "end 1\n",
 ];
 
-fn refused() -> Fail {
-    Fail::new(format_args!("the source is refused"))
-}
-
-fn accepted(alloc: Global, source: &[u8]) -> Result<Checked, Fail>
-    ensures { IfOk result (λ checked. (source : List ℕ) × IsAccepted source (tree_of checked)) }
-{
-    let Ok(tokens) = tokens(alloc, source) else {
-        return Err(refused());
-    };
-    let Ok(parsed) = parse(alloc, source, &tokens) else {
-        return Err(refused());
-    };
-    let Ok(checked) = check(alloc, parsed.program) else {
-        return Err(refused());
-    };
-    Ok(checked)
-}
-
 fn limits(workers: u32, throttle: u32, turns: u64) -> PlayLimits
     ensures workers { result.workers ≡ workers }
     ensures throttle { result.throttle ≡ throttle }
@@ -111,7 +87,7 @@ fn played(alloc: Global, source: &str, limits: PlayLimits, choices: &[u32]) -> R
 {
     let checked = accepted(alloc, source.as_bytes())?;
     if !checked.program().init.statements.is_empty() {
-        return Err(refused());
+        return Err(Fail::new(format_args!("the source has an init")));
     }
     let code = lower(alloc, &checked)?;
     let cells = Cells::new(alloc, &checked, 0, 1)?;

@@ -12,6 +12,7 @@ use Rattle.stage_code.specs.FlatCode.{FlatCode}
 use Rattle.schedule_play.specs.declared.loop_play.LoopPlay.{LoopPlay}
 use Rattle.schedule_play.specs.declared.loop_play.PlayLimits.{PlayLimits}
 use Rattle.schedule_play.specs.LoopPlays.{IsEndOf, IsLoopPlay}
+use Rattle.schedule_play.specs.OneAccess.{HasAllCells}
 use Rattle.schedule_play.specs.PlayStates.{IsPlay, PlayState, pipeline_played, run_state}
 use Rattle.order_2d.specs.declared.starts.TheConstants.{MOST_INSTANCES}
 use Rattle.order_2d.specs.LogStarts.{IsOwnLog, log_columns, log_starts, nodes_of_columns}
@@ -177,4 +178,5 @@ loop_play tree input limits choices v code cells r h some busy same_tree same_in
       state = subst (λ c. IsStateAfter (store_of tree) (init_accesses (whole_of tree input) ++ accesses_of r.accesses) c) (sym end.cells)
           (subst (λ l. IsStateAfter (store_of tree) (init_accesses (whole_of tree input) ++ accesses_of l) v.cells) (sym (end.accesses ∙ h.accesses))
           (subst (λ (q : Pipeline). IsStateAfter q.store (q.preamble ++ accesses_of (run_state v).accesses) v.cells) same h.state));
+      all = subst HasAllCells (sym end.cells) h.all;
     }

@@ -9,4 +9,5 @@ pub mod ScheduleStates
 pub mod Openings
 pub mod PlayStates
 pub mod LoopPlays
+pub mod ProgramPlays
 pub mod ScheduleExamples

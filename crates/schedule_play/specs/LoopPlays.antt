@@ -16,6 +16,7 @@ use Rattle.pipe_model.specs.Runs.Throttling.{IsThrottled}
 use Rattle.race_detection.specs.FoundReports.{found_reports}
 use Rattle.schedule_play.specs.declared.loop_play.LoopPlay.{LoopPlay}
 use Rattle.schedule_play.specs.declared.loop_play.PlayLimits.{PlayLimits}
+use Rattle.schedule_play.specs.OneAccess.{HasAllCells}
 use Rattle.schedule_play.specs.PlayStates.{PlayState, run_state}
 
 -- the result is that of a player after its last event
@@ -38,7 +39,7 @@ pub record IsScheduledRun (tree : SyntaxTree) (input : List ℤ) (limits : PlayL
   pub accesses : r.accesses ≡ accesses_after r.run_log.events
 
 -- the loop was played: `finished` says whether the run is finished, and otherwise all turns were taken; the reports are the first races that the
--- histories of the run find, and right for its own dag; the cells are those after `init` and the run
+-- histories of the run find, and right for its own dag; the cells, all in one shard, are those after `init` and the run
 pub record IsLoopPlay (tree : SyntaxTree) (input : List ℤ) (limits : PlayLimits) (choices : List ℕ) (r : LoopPlay) : Type 0 where
   pub scheduled : IsScheduledRun tree input limits choices r
   pub finished : IsTrue r.finished ↔ IsFinished (state_after r.run_log.events)
@@ -46,3 +47,4 @@ pub record IsLoopPlay (tree : SyntaxTree) (input : List ℤ) (limits : PlayLimit
   pub reports : r.reports ≡ found_reports (columns_after r.run_log.events) (starts_of r.run_log.events) r.accesses
   pub right : AreRight (columns_after r.run_log.events) (accesses_after r.run_log.events) r.reports
   pub state : IsStateAfter (store_of tree) (init_accesses (whole_of tree input) ++ accesses_of r.accesses) r.cells
+  pub all : HasAllCells r.cells

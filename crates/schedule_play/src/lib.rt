@@ -12,6 +12,7 @@ pub mod one_access;
 mod opening;
 pub mod play;
 pub mod player;
+pub mod program_play;
 pub mod runner;
 pub mod running_instance;
 pub mod schedule;

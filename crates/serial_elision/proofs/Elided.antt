@@ -21,7 +21,8 @@ use Rattle.pipe_model.specs.Runs.State.{accesses_of}
 use Rattle.run_laws.proofs.Iterations.LocatedActions.{accesses_of-located}
 use Rattle.serial_elision.specs.declared.log.Log.{Log}
 use Rattle.serial_elision.specs.LoopRuns.{LoopRan}
-use Rattle.serial_elision.specs.PartRuns.{PartRan, column_closes, column_trap, last_place}
+use Rattle.serial_elision.specs.ColumnTraps.{column_trap, last_place}
+use Rattle.serial_elision.specs.PartRuns.{PartRan, column_closes}
 
 -- at most n iterations follow, from iteration i on: with them, this is the elision
 pub record Elided (p : Pipeline) (n i : ℕ) (columns : List Column) (trap : Option TrapAt) (log : Log) : Type 0 where
@@ -46,6 +47,10 @@ elided_none p log no_access no_event state =
       cells = subst (λ l. IsStateAfter p.store l log.cells) (sym same) state;
     }
 
+pub first_alone : (t : Option TrapAt) → t ≡ first_of_both t None
+first_alone None = refl
+first_alone (Some t) = refl
+
 -- no iteration follows
 pub elided_all : (p : Pipeline) (i : ℕ) (columns : List Column) (trap : Option TrapAt) (log : Log) → Elided p 0 i columns trap log
     → LoopRan p (record { columns = columns; trap = trap; log = log })
@@ -56,23 +61,19 @@ elided_all p i columns trap log h = record {
   events_are = sym (append-nil log.events) ∙ h.all_events;
   cells = h.cells;
 }
-  where
-    first_alone : (t : Option TrapAt) → t ≡ first_of_both t None
-    first_alone None = refl
-    first_alone (Some t) = refl
 
 -- of three traps the first
-first_of_three : (a b c : Option TrapAt) → first_of_both (first_of_both a b) c ≡ first_of_both a (first_of_both b c)
+pub first_of_three : (a b c : Option TrapAt) → first_of_both (first_of_both a b) c ≡ first_of_both a (first_of_both b c)
 first_of_three None b c = refl
 first_of_three (Some t) b c = refl
 
 -- of two traps the first
-or_is_first : (a b : Option TrapAt) → option_or a b ≡ first_of_both a b
+pub or_is_first : (a b : Option TrapAt) → option_or a b ≡ first_of_both a b
 or_is_first None b = refl
 or_is_first (Some t) b = refl
 
 -- the trap of a trace, by its column
-trap_of_trace : (i : ℕ) (t : List Action) (e : Option ColumnEnd) → part_trap (last_place i (ended_column t)) e ≡ trap_at_end i t e
+pub trap_of_trace : (i : ℕ) (t : List Action) (e : Option ColumnEnd) → part_trap (last_place i (ended_column t)) e ≡ trap_at_end i t e
 trap_of_trace i t None = refl
 trap_of_trace i t (Some ends.End) = refl
 trap_of_trace i t (Some ends.Closed) = refl

@@ -15,7 +15,7 @@ use Rattle.serial_elision.specs.declared.iterations.LoopRun.{LoopRun}
 use Rattle.serial_elision.specs.Elisions.{IsElision}
 use Rattle.serial_elision.specs.LoopRuns.{LoopRan}
 
-none_is : (t : Option TrapAt) → is_some t ≡ false → t ≡ None
+pub none_is : (t : Option TrapAt) → is_some t ≡ false → t ≡ None
 none_is None e = refl
 none_is (Some t) e = absurd (let d : true ≡ false = e in cc (d))
 
@@ -23,7 +23,7 @@ some_first : (t other : Option TrapAt) → is_some t ≡ true → first_of_both 
 some_first (Some t) other e = refl
 some_first None other e = absurd (let d : false ≡ true = e in cc (d))
 
-first_or_none : (t : Option TrapAt) → first_of_both t None ≡ t
+pub first_or_none : (t : Option TrapAt) → first_of_both t None ≡ t
 first_or_none None = refl
 first_or_none (Some t) = refl
 
@@ -46,11 +46,11 @@ abbrev pub last_trace : WholeProgram → List Access → List Action
 last_trace w accesses = serial_trace w.loop.store w.last (init_accesses w ++ accesses)
 
 -- `final` ran
-record WithFinal (w : WholeProgram) (ts : List (List Action)) (accesses : List Access) : Type 0 where
-  output : output_with w ts accesses ≡ output_of w.loop.store ((init_accesses w ++ accesses) ++ accesses_in (last_trace w accesses))
-  trap : trap_with w ts accesses ≡ part_trap Last (trace_end (last_trace w accesses))
+pub record WithFinal (w : WholeProgram) (ts : List (List Action)) (accesses : List Access) : Type 0 where
+  pub output : output_with w ts accesses ≡ output_of w.loop.store ((init_accesses w ++ accesses) ++ accesses_in (last_trace w accesses))
+  pub trap : trap_with w ts accesses ≡ part_trap Last (trace_end (last_trace w accesses))
 
-with_final : (w : WholeProgram) (ts : List (List Action)) (accesses : List Access) → is_some (trap_before_final w ts) ≡ false → WithFinal w ts accesses
+pub with_final : (w : WholeProgram) (ts : List (List Action)) (accesses : List Access) → is_some (trap_before_final w ts) ≡ false → WithFinal w ts accesses
 with_final w ts accesses none =
     let ran : final_trace w ts accesses ≡ last_trace w accesses = ap (λ b. unless b (last_trace w accesses)) none in
     record {
@@ -86,7 +86,7 @@ trapped_in_init w output trap is some all =
     (all ∙ ap (output_of w.loop.store) (sym (append-nil (init_accesses w))) ∙ sym h.output) (is ∙ sym first ∙ sym h.trap) refl refl refl
 
 -- the traps before `final`, if `init` had none
-trap_of_loop : (w : WholeProgram) (ts : List (List Action)) → is_some (init_trap w) ≡ false → trap_before_final w ts ≡ first_trap 0 ts
+pub trap_of_loop : (w : WholeProgram) (ts : List (List Action)) → is_some (init_trap w) ≡ false → trap_before_final w ts ≡ first_trap 0 ts
 trap_of_loop w ts none = ap (λ t. first_of_both t (first_trap 0 ts)) (none_is (init_trap w) none)
 
 -- an iteration trapped

@@ -3,3 +3,4 @@ pub mod InstanceRuns
 pub mod PartRuns
 pub mod Elided
 pub mod Elisions
+pub mod RunTraps

@@ -1,5 +1,6 @@
 pub mod Recording
 pub mod InstanceRuns
+pub mod ColumnTraps
 pub mod PartRuns
 pub mod LoopRuns
 pub mod Elisions

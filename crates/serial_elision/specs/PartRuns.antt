@@ -1,14 +1,11 @@
 -- Runs of a part of a program: `init`, an iteration or `final`.
-use Rattle.std.specs.Prelude.{◌≡◌, ◌≤◌, ◌++◌, ◌∷◌, ◌+◌, ◌-◌, ◌&&◌, ◌==◌, ℕ, List, length, Bool, false, Option, Some, None}
+use Rattle.std.specs.Prelude.{◌≡◌, ◌≤◌, ◌++◌, ◌∷◌, ◌+◌, ◌&&◌, ◌==◌, ℕ, List, length, Bool, false, Option, Some, None}
 use Rattle.cell_store.specs.ShardState.{IsStateAfter, ShardState}
 use Rattle.pipe_model.specs.declared.access.Access.{Access}
 use Rattle.pipe_model.specs.declared.bounds.TheConstants.{MOST_CELLS, MOST_STAGES}
 use Rattle.pipe_model.specs.declared.column.Column.{Column}
 use Rattle.pipe_model.specs.declared.column.ColumnEnd.{ColumnEnd}
 use Rattle.pipe_model.specs.declared.event.Event.TheVariants as events
-use Rattle.pipe_model.specs.declared.trap.TrapAt.{TrapAt}
-use Rattle.pipe_model.specs.declared.trap.TrapPlace.{TrapPlace}
-use Rattle.pipe_model.specs.declared.trap.TrapPlace.TheVariants.{At}
 use Rattle.pipe_model.specs.Language.CheckingRules.{cell_total}
 use Rattle.pipe_model.specs.Language.Programs.{natural}
 use Rattle.pipe_model.specs.Language.SyntaxTree.{SyntaxTree}
@@ -16,8 +13,6 @@ use Rattle.pipe_model.specs.Pipelines.Behaviour.{Action, accesses_in, closes_at_
 use Rattle.pipe_model.specs.Pipelines.ElisionResults.{ended_column}
 use Rattle.pipe_model.specs.Pipelines.SerialElision.{located, trace_events}
 use Rattle.pipe_model.specs.Pipelines.Store.{InitialStore}
-use Rattle.pipe_model.specs.Pipelines.WholePrograms.{part_trap}
-use Rattle.pipe_model.specs.Races.Columns.{at, node_at}
 use Rattle.serial_elision.specs.declared.log.Log.{Log}
 use Rattle.serial_elision.specs.Recording.{IsWhole}
 
@@ -39,14 +34,6 @@ end_closes (Some e) = closes_at_once e
 -- whether an iteration with this column closes the loop
 abbrev pub column_closes : Column → Bool
 column_closes column = (length column.nodes == 1) && end_closes column.end
-
--- where the last instance of column i is
-abbrev pub last_place : ℕ → Column → TrapPlace
-last_place i column = At (at i (length column.nodes - 1)) (node_at column.nodes (length column.nodes - 1)).number
-
--- the trap of iteration i, if its column ends with one
-abbrev pub column_trap : ℕ → Column → Option TrapAt
-column_trap i column = part_trap (last_place i column) column.end
 
 -- a part with this trace ran as iteration i, from one log to another
 pub record PartRan (store : InitialStore) (before : List Access) (trace : List Action) (i : ℕ) (log : Log) (column : Column) (now : Log) : Type 0 where

@@ -1,26 +1,20 @@
 //! The serial elision of a whole program.
 
-ghost use Rattle.std.specs.Prelude.{◌≡◌, ◌++◌, [], List, IfOk, is_some, false};
-ghost use Rattle.cell_store.specs.ShardState.{IsStateAfter};
-ghost use Rattle.pipe_model.specs.declared.access.Access.{Access};
-ghost use Rattle.pipe_model.specs.Language.Programs.{store_of};
+ghost use Rattle.std.specs.Prelude.{◌≡◌, [], IfOk, is_some, false};
 ghost use Rattle.pipe_model.specs.Language.ProgramsOfTrees.{whole_of};
 ghost use Rattle.pipe_model.specs.Language.SyntaxTree.{tree_of};
-ghost use Rattle.pipe_model.specs.Pipelines.Behaviour.{accesses_in, trace_end};
-ghost use Rattle.pipe_model.specs.Pipelines.SerialElision.{serial_trace};
 ghost use Rattle.pipe_model.specs.Pipelines.WholePrograms as whole_programs;
 ghost use Rattle.pipe_model.specs.Pipelines.WholePrograms.{init_trap, loop_accesses, loop_after_init, program_columns, program_log, program_output, program_trap};
 ghost use Rattle.stage_interp.specs.MachineState.{IsMadeFor};
-ghost use Rattle.stage_interp.specs.Standing.{IsCodeOf, behaviour_in};
+ghost use Rattle.stage_interp.specs.Standing.{IsCodeOf};
 ghost use Rattle.serial_elision.specs.Elisions.{IsElision};
 ghost use Rattle.serial_elision.specs.LoopRuns.{LoopRan};
 ghost use Rattle.serial_elision.specs.PartRuns.{Serves};
 
-use crate::iterations::{LoopRun, part_trap, run_loop};
+use crate::iterations::{LoopRun, run_loop};
 use crate::log::Log;
-use crate::part::run_part;
+use crate::outer_parts::{first_cells, run_alone};
 use crate::prepared::Prepared;
-use cell_store::cells::Cells;
 use pipe_check::checked::Checked;
 use pipe_model::access::NodeAccesses;
 use pipe_model::column::Columns;
@@ -46,42 +40,6 @@ pub struct SerialRun {
     pub accesses: NodeAccesses,
     /// The events of the loop, in the order in which they happened.
     pub events: Events,
-}
-
-// Returns the cells of a program, all in one shard.
-fn first_cells(alloc: Global, checked: &Checked) -> Result<Cells, NoMemory>
-    ensures state { IfOk result (λ cells. IsStateAfter (store_of (tree_of checked.now)) [] cells) }
-    ensures serves { IfOk result (λ cells. Serves (tree_of checked.now) cells) }
-{
-    let _count = checked.cell_count();
-    Cells::new(alloc, checked, 0, 1)
-}
-
-// Runs `init` or `final`. Its accesses are not part of the result: they are recorded in a log that
-// is then dropped. Returns its trap.
-fn run_alone(
-    alloc: Global,
-    machine: &mut Machine,
-    prepared: &Prepared,
-    part: Part,
-    place: TrapPlace,
-    cells: Cells,
-) -> Result<(Option<TrapAt>, Cells), NoMemory>
-    requires code { IsCodeOf (tree_of prepared.now.checked.now) prepared.now.code.now }
-    requires made { IsMadeFor prepared.now.code.now machine.old }
-    requires serves { Serves (tree_of prepared.now.checked.now) cells }
-    ensures trap { IfOk result (λ r. (before : List Access) → IsStateAfter (store_of (tree_of prepared.now.checked.now)) before cells
-        → r.0 ≡ whole_programs.part_trap place (trace_end
-        (serial_trace (store_of (tree_of prepared.now.checked.now)) (behaviour_in (tree_of prepared.now.checked.now) prepared.now.input.now part 0) before))) }
-    ensures state { IfOk result (λ r. (before : List Access) → IsStateAfter (store_of (tree_of prepared.now.checked.now)) before cells
-        → IsStateAfter (store_of (tree_of prepared.now.checked.now)) (before ++ accesses_in
-        (serial_trace (store_of (tree_of prepared.now.checked.now)) (behaviour_in (tree_of prepared.now.checked.now) prepared.now.input.now part 0) before)) r.1) }
-    ensures made { IfOk result (λ r. IsMadeFor prepared.now.code.now machine.new) }
-    ensures serves { IfOk result (λ r. Serves (tree_of prepared.now.checked.now) r.1) }
-{
-    let log = Log::new(alloc, cells);
-    let (column, log) = run_part(alloc, machine, prepared, part, 0, log)?;
-    Ok((part_trap(place, column.end), log.cells))
 }
 
 // Runs `final` after a loop without a trap.

@@ -1,12 +1,11 @@
 //! The iterations of the loop, in order.
 
-ghost use Rattle.std.specs.Prelude.{◌≡◌, ◌≤◌, ◌<◌, IfOk, length};
+ghost use Rattle.std.specs.Prelude.{◌≡◌, ◌≤◌, IfOk};
 ghost use Rattle.cell_store.specs.ShardState.{IsStateAfter};
 ghost use Rattle.pipe_model.specs.declared.bounds.TheConstants.{MOST_ITERATIONS};
 ghost use Rattle.pipe_model.specs.Language.Programs.{natural, store_of};
 ghost use Rattle.pipe_model.specs.Language.ProgramsOfTrees.{whole_of};
 ghost use Rattle.pipe_model.specs.Language.SyntaxTree.{tree_of};
-ghost use Rattle.pipe_model.specs.Pipelines.WholePrograms as whole_programs;
 ghost use Rattle.pipe_model.specs.Pipelines.WholePrograms.{init_accesses, loop_after_init};
 ghost use Rattle.stage_interp.specs.MachineState.{IsMadeFor};
 ghost use Rattle.stage_interp.specs.Standing.{IsCodeOf};
@@ -17,11 +16,11 @@ ghost use Rattle.serial_elision.specs.PartRuns.{Serves};
 use crate::log::Log;
 use crate::part::run_part;
 use crate::prepared::Prepared;
+use crate::traps::column_trap;
 use cell_store::cells::Cells;
 use pipe_model::column::{Column, ColumnEnd, Columns};
 use pipe_model::memory::NoMemory;
-use pipe_model::node::NodeId;
-use pipe_model::trap::{TrapAt, TrapPlace};
+use pipe_model::trap::TrapAt;
 use stage_code::code::Code;
 use stage_code::instr::Part;
 use stage_interp::machine::Machine;
@@ -53,42 +52,6 @@ fn column_closes(column: &Column) -> bool
     ensures { result ≡ part_runs.column_closes column.now }
 {
     column.nodes.len() == 1 && end_closes(column.end)
-}
-
-// Returns the trap of a part with this end, if it is a trap, with where it was raised.
-pub fn part_trap(place: TrapPlace, end: Option<ColumnEnd>) -> Option<TrapAt>
-    ensures { result ≡ whole_programs.part_trap place end }
-{
-    match end {
-        None => None,
-        Some(ColumnEnd::End) => None,
-        Some(ColumnEnd::Closed) => None,
-        Some(ColumnEnd::Trapped(trap)) => Some(TrapAt { place, trap }),
-    }
-}
-
-// Returns the place of the last instance of an iteration.
-fn last_place(iteration: u32, column: &Column) -> TrapPlace
-    requires some { 0 < length column.now.nodes }
-    requires few { length column.now.nodes ≤ part_runs.longest_column }
-    ensures { result ≡ part_runs.last_place iteration column.now }
-{
-    let nodes = column.nodes.as_slice();
-    let index = nodes.len() - 1;
-    let node = NodeId {
-        iteration,
-        index: index as u32,
-    };
-    TrapPlace::At(node, nodes[index].number)
-}
-
-// Returns the trap with which an iteration ended.
-fn column_trap(iteration: u32, column: &Column) -> Option<TrapAt>
-    requires some { 0 < length column.now.nodes }
-    requires few { length column.now.nodes ≤ part_runs.longest_column }
-    ensures { result ≡ part_runs.column_trap iteration column.now }
-{
-    part_trap(last_place(iteration, column), column.end)
 }
 
 // Returns the number of the iteration that closes the loop if none before it does.

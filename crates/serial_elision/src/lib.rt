@@ -6,7 +6,10 @@
 pub mod elision;
 mod instance;
 mod iterations;
+pub mod law;
 mod log;
+pub mod outer_parts;
 mod part;
-mod prepared;
+pub mod prepared;
 mod recorder;
+pub mod traps;

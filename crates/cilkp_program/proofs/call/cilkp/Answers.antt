@@ -4,6 +4,7 @@ use Rattle.cilkp_program.proofs.GivenUp.{text_cut_short, text_whole, given_up_wr
 use Rattle.cilkp_program.proofs.FormatLaws.{text_printed}
 use Rattle.cilkp_program.proofs.BenchLaws.{printed_summary}
 use Rattle.cilkp_program.proofs.HeadlineLaws.{printed_meets}
+use Rattle.cilkp_program.proofs.SeededPlays.{call_is_scheduled}
 use Rattle.cilkp_program.proofs.SerialCallLaws.{printed_elision}
 use Rattle.cilkp_program.proofs.call.cilkp.Goals.{in-Whole, in-Failed}
 use Rattle.cilkp_program.proofs.call.cilkp.Goals as goal
@@ -33,6 +34,9 @@ returns-clause-headline g c = λ calm_files calm_out.
           ((rw c.as_slice.ensures at w.whole).0 b.in-Whole.is) (rw c.as_slice.ensures at w.taken)))
       | in-Failed b ↦ (let cause = rw b.in-Failed.is at w.cause in absurd (calm_out cause.1))
     ]
+
+pub returns-clause-scheduled : goal.returns-clause-scheduled
+returns-clause-scheduled g c = λ calm_files calm_out. call_is_scheduled _ _ _ _ _ _ _ _ c.in_ok-outcome.ensures.outcome
 
 pub returns-clause-serial : goal.returns-clause-serial
 returns-clause-serial g c = λ calm_files calm_out.

@@ -3,7 +3,7 @@ use Rattle.language_laws.proofs.SpellablePrograms.{spelled_is_spellable}
 use Rattle.pipe_model.specs.declared.tree.Program.{Program}
 use Rattle.pipe_model.specs.Language.SourceRefusals.{IsAccepted}
 use Rattle.pipe_model.specs.Language.SyntaxTree.{tree_of}
-use Rattle.play_tests.proofs.play_rows.accepted.Goals as goal
+use Rattle.play_tests.proofs.sources.accepted.Goals as goal
 
 pub check-requires : goal.check-requires
 check-requires c =

@@ -1,0 +1,39 @@
+-- The results of the commands that make a run.
+use Rattle.std.specs.Prelude.{◌≡◌, ◌≤◌, [], ℕ, ℤ, List, Bool, Some}
+use Rattle.pipe_model.specs.declared.event.RunLog.{RunLog}
+use Rattle.pipe_model.specs.Language.ProgramsOfTrees.{whole_of}
+use Rattle.pipe_model.specs.Language.SyntaxTree.{SyntaxTree}
+use Rattle.pipe_model.specs.Races.Reports.{AreRight}
+use Rattle.pipe_model.specs.Runs.RunLogs.{accesses_after, columns_after}
+use Rattle.pipe_model.specs.Runs.Throttling.{IsThrottled}
+use Rattle.pipe_model.specs.Runs.WholeProgramRuns.{IsFinishedProgramRun}
+use Rattle.cilkp_program.specs.declared.call.CommandResult.{CommandResult}
+use Rattle.cilkp_program.specs.declared.program_run.FinishedRun.{FinishedRun}
+use Rattle.cilkp_program.specs.RecordedRuns.{IsRecordedRun, seeded_events}
+use Rattle.cilkp_program.specs.RunReports.{run_reports}
+use Rattle.cilkp_program.specs.SerialResults.{elision_log, elision_output, elision_trap}
+
+-- the run has the events of the schedule that the seed chooses, and is finished; its reports are those that its histories find, and right; without a
+-- report it has the output and the trap of the serial elision
+pub record IsSeededPlay (tree : SyntaxTree) (input : List ℤ) (workers throttle seed : ℕ) (r : FinishedRun) : Type 0 where
+  pub events : r.run_log.events ≡ seeded_events tree input workers throttle seed
+  pub run : IsFinishedProgramRun (whole_of tree input) throttle r.run_log
+  pub throttled : IsThrottled throttle r.run_log.events
+  pub found : r.reports ≡ run_reports r.run_log
+  pub right : AreRight (columns_after r.run_log.events) (accesses_after r.run_log.events) r.reports
+  pub output : r.reports ≡ [] → r.output ≡ elision_output tree input
+  pub trap : r.reports ≡ [] → r.trap ≡ elision_trap tree input
+
+-- the result of `run`: the serial elision as a run, which meets the headline under every limit
+pub record IsRunResult (tree : SyntaxTree) (input : List ℤ) (recording : Bool) (a : CommandResult) : Type 0 where
+  pub logged : a.run_log ≡ Some (elision_log tree input)
+  pub meets : (limit : ℕ) → 1 ≤ limit → IsRecordedRun recording tree input limit (elision_log tree input) a.reports a.status a.text
+  pub found : a.reports ≡ run_reports (elision_log tree input)
+
+-- the result of `play`: a run with the events of the schedule, which meets the headline
+pub record IsPlayResult (tree : SyntaxTree) (input : List ℤ) (workers throttle seed : ℕ) (recording : Bool) (a : CommandResult) : Type 0 where
+  pub log : RunLog
+  pub logged : a.run_log ≡ Some log
+  pub events : log.events ≡ seeded_events tree input workers throttle seed
+  pub meets : IsRecordedRun recording tree input throttle log a.reports a.status a.text
+  pub found : a.reports ≡ run_reports log

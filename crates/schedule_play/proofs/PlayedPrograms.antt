@@ -1,0 +1,181 @@
+-- Programs that were played: what is reported, and when the play is finished.
+use Rattle.std.proofs.Common.{◌≡◌, ◌≢◌, ◌∙◌, ap, sym, refl, subst, arith, ℕ, ℤ, ◌<◌, ◌≤◌, ◌++◌, ◌∷◌, List, [], Bool, true, false, Option, append-nil}
+use Rattle.std.specs.Prelude.{◌&&◌, IsTrue, is_some}
+use Rattle.std.proofs.lemmas.Bool.{false≢true}
+use Rattle.pipe_model.specs.declared.event.Event.{Event}
+use Rattle.pipe_model.specs.declared.event.RunLog.{RunLog}
+use Rattle.pipe_model.specs.declared.report.Report.{Report}
+use Rattle.pipe_model.specs.declared.trap.TrapAt.{TrapAt}
+use Rattle.pipe_model.specs.Language.Programs.{store_of}
+use Rattle.pipe_model.specs.Language.ProgramsOfTrees.{pipeline_after_init, whole_of}
+use Rattle.pipe_model.specs.Language.SourceRefusals.{IsAccepted}
+use Rattle.pipe_model.specs.Language.SyntaxTree.{SyntaxTree}
+use Rattle.pipe_model.specs.Orders.Starts.{starts_of}
+use Rattle.pipe_model.specs.Pipelines.SerialElision.{unless}
+use Rattle.pipe_model.specs.Pipelines.Store.{output_of}
+use Rattle.pipe_model.specs.Pipelines.WholePrograms.{WholeProgram, init_accesses, init_trap}
+use Rattle.pipe_model.specs.Pipelines.Pipeline.{Pipeline}
+use Rattle.pipe_model.specs.Races.DeterminacyRaces.{IsRaceFree}
+use Rattle.pipe_model.specs.Runs.Run.{EmptyRun, IsFinished}
+use Rattle.pipe_model.specs.Runs.RunLogs.{accesses_after, columns_after, state_after}
+use Rattle.pipe_model.specs.Runs.Schedules.{candidates, played, running_instances}
+use Rattle.pipe_model.specs.Runs.State.{State, initial_state}
+use Rattle.pipe_model.specs.Runs.WholeProgramRuns.{IsFinishedProgramRun, NoLoop, OfLoop, ProgramIsFinished, WithLoop, WithoutLoop, played_output, played_trap}
+use Rattle.language_laws.proofs.WellFormed.{accepted_is_well_formed}
+use Rattle.program_laws.proofs.Candidates.{played_runs_are_runs}
+use Rattle.program_laws.proofs.Headlines.{runs_meet_the_headline}
+use Rattle.program_laws.proofs.PlayedSchedules.{finished_runs_have_no_candidate, schedules_finish, schedules_play_runs}
+use Rattle.program_laws.proofs.ProgramElisions.{accepted_programs_meet_the_elision}
+use Rattle.program_laws.proofs.ProgramRuns.{played_where_final_ran, well_formed_after}
+use Rattle.race_detection.specs.FoundReports.{found_reports}
+use Rattle.run_laws.proofs.RunStates.IterationCounts.{runs_keep_rules}
+use Rattle.serial_elision.proofs.Elisions.{first_or_none}
+use Rattle.schedule_play.specs.declared.loop_play.LoopPlay.{LoopPlay}
+use Rattle.schedule_play.specs.declared.loop_play.PlayLimits.{PlayLimits}
+use Rattle.schedule_play.specs.declared.program_play.Played.{Played}
+use Rattle.schedule_play.specs.LoopPlays.{IsLoopPlay}
+use Rattle.schedule_play.specs.ProgramPlays.{HasElisionResults, IsEndOfLoop, IsPlayed, MeetsPlayedHeadline, enough_turns, reaches_final}
+use Rattle.schedule_play.proofs.PlayedRuns.{reports_right}
+use Rattle.schedule_play.proofs.ProgramEnds.{trapped_before}
+
+-- ---- `init` trapped
+
+nothing_before : (before after : List Event) → [] ≡ before ++ after → before ≡ []
+nothing_before [] after e = refl
+nothing_before (x ∷ before) after e = absurd (cc)
+
+-- the play of a program whose `init` trapped
+pub trapped_in_init : (tree : SyntaxTree) (input : List ℤ) (limits : PlayLimits) (choices : List ℕ) (output : List ℤ) (trap : Option TrapAt)
+    → trap ≡ init_trap (whole_of tree input) → is_some trap ≡ true → output ≡ output_of (store_of tree) (init_accesses (whole_of tree input))
+    → IsPlayed tree input limits choices (record { run_log = record { columns = []; events = [] }; reports = []; output = output; trap = trap; finished = true })
+trapped_in_init tree input limits choices output trap is some all =
+    let w = whole_of tree input in
+    let p = pipeline_after_init tree input in
+    let trapped : is_some (init_trap w) ≡ true = ap is_some (sym is) ∙ some in
+    let results = trapped_before w true initial_state output trap some (is ∙ sym (first_or_none (init_trap w)))
+    (all ∙ ap (output_of (store_of tree)) (sym (append-nil (init_accesses w)))) in
+    record {
+      log = record {
+        events = sym (ap (λ b. unless b (played p limits.throttle limits.workers choices limits.turns)) trapped);
+        run = NoLoop trapped;
+        columns = refl;
+        workers = λ before after e. subst (λ l. running_instances (state_after l) ≤ limits.workers) (sym (nothing_before before after e)) (omega arith);
+        throttled = (runs_keep_rules p limits.throttle [] initial_state EmptyRun).throttled;
+        finished = ((λ t. WithoutLoop trapped), (λ f. refl));
+        turns = λ no. absurd (no refl);
+      };
+      reports = record { found = refl; right = reports_right p limits.throttle [] EmptyRun };
+      results = record { output = results.output_is; trap = results.trap_is };
+    }
+
+-- ---- the loop was played
+
+finished_loop : (w : WholeProgram) (s : State) → is_some (init_trap w) ≡ false → ProgramIsFinished w s → IsFinished s
+finished_loop w s no_trap (WithoutLoop some) = absurd (false≢true (sym no_trap ∙ some))
+finished_loop w s no_trap (WithLoop none over) = over
+
+abbrev result_with : Played → RunLog → List Report → Bool → Played
+result_with r log reports finished = record { run_log = log; reports = reports; output = r.output; trap = r.trap; finished = finished }
+
+-- the play of a program whose loop was played
+pub loop_was_played : (tree : SyntaxTree) (input : List ℤ) (limits : PlayLimits) (choices : List ℕ) (play : LoopPlay) (r : Played)
+    → is_some (init_trap (whole_of tree input)) ≡ false → IsLoopPlay tree input limits choices play → IsEndOfLoop (whole_of tree input) play r
+    → IsPlayed tree input limits choices r
+loop_was_played tree input limits choices play r no_trap loop end =
+    let w = whole_of tree input in
+    let p = pipeline_after_init tree input in
+    let s = state_after play.run_log.events in
+    let ran : reaches_final r.finished r.reports ≡ reaches_final play.finished play.reports =
+    ap (λ f. reaches_final f r.reports) end.finished ∙ ap (reaches_final play.finished) end.reports in
+    let same : result_with r play.run_log play.reports play.finished ≡ r =
+    ap (λ x. result_with r x play.reports play.finished) (sym end.log) ∙ ap (λ x. result_with r r.run_log x play.finished) (sym end.reports)
+    ∙ ap (result_with r r.run_log r.reports) (sym end.finished) in
+    subst (IsPlayed tree input limits choices) same (record {
+      log = record {
+        events = loop.scheduled.events ∙ sym (ap (λ b. unless b (played p limits.throttle limits.workers choices limits.turns)) no_trap);
+        run = OfLoop no_trap loop.scheduled.run;
+        columns = loop.scheduled.columns;
+        workers = loop.scheduled.workers;
+        throttled = loop.scheduled.throttled;
+        finished = ((λ t. WithLoop no_trap (loop.finished.0 t)), (λ f. loop.finished.1 (finished_loop w s no_trap f)));
+        turns = loop.turns;
+      };
+      reports = record {
+        found = loop.reports ∙ ap (found_reports (columns_after play.run_log.events) (starts_of play.run_log.events)) loop.scheduled.accesses;
+        right = loop.right;
+      };
+      results = record {
+        output = end.results.output ∙ ap (λ b. played_output w b s) ran;
+        trap = end.results.trap ∙ ap (λ b. played_trap w b s) ran;
+      };
+    })
+
+-- ---- the headline
+
+-- a finished play agrees with the serial elision
+agrees : (source : List ℕ) (tree : SyntaxTree) (input : List ℤ) (limits : PlayLimits) (choices : List ℕ) (r : Played) → IsAccepted source tree
+    → IsPlayed tree input limits choices r → IsTrue r.finished → HasElisionResults (whole_of tree input) r
+agrees source tree input limits choices r accepted h over =
+    let w = whole_of tree input in
+    let s = state_after r.run_log.events in
+    let run : IsFinishedProgramRun w limits.throttle r.run_log = record { run = h.log.run; finished = h.log.finished.0 over; columns = h.log.columns } in
+    let meets = accepted_programs_meet_the_elision source tree input limits.throttle r.run_log accepted run in
+    let headline = runs_meet_the_headline source tree input limits.throttle r.run_log r.reports [] accepted run h.reports.right in
+    let free : r.reports ≡ [] → IsRaceFree (columns_after r.run_log.events) (accesses_after r.run_log.events) =
+    λ none. meets.races.1 (headline.silent.0 none) in
+    let ran : r.reports ≡ [] → reaches_final r.finished r.reports ≡ true =
+    λ none. ap (reaches_final r.finished) none ∙ ap (λ b. b && true) over in
+    record {
+      silent = headline.silent;
+      output = λ none. h.results.output ∙ ap (λ b. played_output w b s) (ran none) ∙ (played_where_final_ran w s).0 ∙ meets.output (free none);
+      trap = λ none. h.results.trap ∙ ap (λ b. played_trap w b s) (ran none) ∙ (played_where_final_ran w s).1 ∙ meets.trap (free none);
+    }
+
+-- a play with enough turns is finished
+finishes : (source : List ℕ) (tree : SyntaxTree) (input : List ℤ) (limits : PlayLimits) (choices : List ℕ) (r : Played) → IsAccepted source tree
+    → 0 < limits.throttle → 0 < limits.workers → IsPlayed tree input limits choices r → enough_turns tree ≤ limits.turns → IsTrue r.finished
+finishes source tree input limits choices r accepted throttle workers h enough = by (is_some (init_trap w)) refl
+  where
+    w : WholeProgram
+    w = whole_of tree input
+
+    by : (b : Bool) → is_some (init_trap w) ≡ b → IsTrue r.finished
+    by true some = h.log.finished.1 (WithoutLoop some)
+    by false none =
+        let events : r.run_log.events ≡ played (pipeline_after_init tree input) limits.throttle limits.workers choices limits.turns =
+        h.log.events ∙ ap (λ b. unless b (played (pipeline_after_init tree input) limits.throttle limits.workers choices limits.turns)) none in
+        h.log.finished.1 (WithLoop none (subst (λ es. IsFinished (state_after es)) (sym events)
+        (schedules_finish source tree input limits.throttle limits.workers choices limits.turns accepted throttle workers enough)))
+
+-- a play that is not finished can go on
+goes_on : (source : List ℕ) (tree : SyntaxTree) (input : List ℤ) (limits : PlayLimits) (choices : List ℕ) (r : Played) → IsAccepted source tree
+    → 0 < limits.throttle → 0 < limits.workers → IsPlayed tree input limits choices r → (IsTrue r.finished → ⊥)
+    → candidates (pipeline_after_init tree input) limits.throttle limits.workers (state_after r.run_log.events) ≢ []
+goes_on source tree input limits choices r accepted throttle workers h unfinished = by (is_some (init_trap w)) refl
+  where
+    w : WholeProgram
+    w = whole_of tree input
+
+    p : Pipeline
+    p = pipeline_after_init tree input
+
+    by : (b : Bool) → is_some (init_trap w) ≡ b → candidates p limits.throttle limits.workers (state_after r.run_log.events) ≢ []
+    by true some = absurd (unfinished (h.log.finished.1 (WithoutLoop some)))
+    by false none = λ empty.
+        let events : r.run_log.events ≡ played p limits.throttle limits.workers choices limits.turns =
+        h.log.events ∙ ap (λ b. unless b (played p limits.throttle limits.workers choices limits.turns)) none in
+        let well = well_formed_after w (accepted_is_well_formed source tree input accepted) in
+        let schedule = schedules_play_runs p limits.throttle limits.workers choices limits.turns well throttle workers in
+        let es = played p limits.throttle limits.workers choices limits.turns in
+        let run = played_runs_are_runs p limits.throttle limits.workers es (state_after es) schedule.run well in
+        let over = (finished_runs_have_no_candidate p limits.throttle limits.workers es (state_after es) run.run well throttle workers run.not_stopped).1
+        (subst (λ l. candidates p limits.throttle limits.workers (state_after l) ≡ []) events empty) in
+        unfinished (h.log.finished.1 (WithLoop none (subst (λ l. IsFinished (state_after l)) (sym events) over)))
+
+pub plays_meet_the_headline : (source : List ℕ) (tree : SyntaxTree) (input : List ℤ) (limits : PlayLimits) (choices : List ℕ) (r : Played)
+    → IsAccepted source tree → 0 < limits.throttle → 0 < limits.workers → IsPlayed tree input limits choices r → MeetsPlayedHeadline tree input limits r
+plays_meet_the_headline source tree input limits choices r accepted throttle workers h = record {
+  elision = agrees source tree input limits choices r accepted h;
+  enough = finishes source tree input limits choices r accepted throttle workers h;
+  goes_on = goes_on source tree input limits choices r accepted throttle workers h;
+}

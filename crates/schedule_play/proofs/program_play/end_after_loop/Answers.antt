@@ -1,0 +1,65 @@
+use Rattle.std.proofs.Common.{◌≡◌, ◌∙◌, ◌≤◌, ◌++◌, ap, refl, sym, subst, All, length, true, false}
+use Rattle.std.specs.Prelude.{◌&&◌, ◌<◌, is_some, not}
+use Rattle.pipe_model.specs.declared.column.Column.{Column}
+use Rattle.pipe_model.specs.Language.ProgramsOfTrees.{whole_of}
+use Rattle.pipe_model.specs.Language.SyntaxTree.{tree_of}
+use Rattle.pipe_model.specs.Pipelines.Behaviour.{accesses_in}
+use Rattle.pipe_model.specs.Pipelines.WholePrograms.{init_accesses}
+use Rattle.pipe_model.specs.Runs.RunLogs.{accesses_after, state_after}
+use Rattle.pipe_model.specs.Runs.State.{accesses_of}
+use Rattle.schedule_play.specs.ProgramPlays.{reaches_final}
+use Rattle.schedule_play.proofs.PlayedColumns.{columns_are_small}
+use Rattle.schedule_play.proofs.ProgramEnds.{after_final, trap_by_columns, without_final}
+use Rattle.serial_elision.proofs.Elisions.{last_trace}
+use Rattle.serial_elision.proofs.PartRuns.{has_output}
+use Rattle.serial_elision.specs.ColumnTraps.{least_trap}
+use Rattle.schedule_play.proofs.program_play.end_after_loop.Goals as goal
+
+pub least_trap-trap-requires-clause-count : goal.least_trap-trap-requires-clause-count
+least_trap-trap-requires-clause-count c =
+    let accepted = c.requires.accepted in
+    let run = c.requires.run in
+    subst (λ l. length l ≤ 4294967296) (sym (c.as_slice.ensures ∙ c.requires.columns))
+    (columns_are_small accepted.0 (tree_of c.args.prepared.now.checked.now) c.args.prepared.now.input.now run.0 c.args.play.run_log.events accepted.1 run.1).count
+
+pub least_trap-trap-requires-clause-some : goal.least_trap-trap-requires-clause-some
+least_trap-trap-requires-clause-some c =
+    let accepted = c.requires.accepted in
+    let run = c.requires.run in
+    subst (λ l. All (λ (column : Column). 0 < length column.nodes) l) (sym (c.as_slice.ensures ∙ c.requires.columns))
+    (columns_are_small accepted.0 (tree_of c.args.prepared.now.checked.now) c.args.prepared.now.input.now run.0 c.args.play.run_log.events accepted.1 run.1).some
+
+pub least_trap-trap-requires-clause-few : goal.least_trap-trap-requires-clause-few
+least_trap-trap-requires-clause-few c =
+    let accepted = c.requires.accepted in
+    let run = c.requires.run in
+    subst (λ l. All (λ (column : Column). length column.nodes ≤ 4294967296) l) (sym (c.as_slice.ensures ∙ c.requires.columns))
+    (columns_are_small accepted.0 (tree_of c.args.prepared.now.checked.now) c.args.prepared.now.input.now run.0 c.args.play.run_log.events accepted.1 run.1).few
+
+pub returns-then-not-runs_final : goal.returns-then-not-runs_final
+returns-then-not-runs_final c =
+    let play = c.args.play in
+    let w = whole_of (tree_of c.args.prepared.now.checked.now) c.args.prepared.now.input.now in
+    let before = init_accesses w ++ accesses_of (accesses_after play.run_log.events) in
+    let run = c.requires.run in
+    let first = trap_by_columns (tree_of c.args.prepared.now.checked.now) c.args.prepared.now.input.now run.0 play.run_log.events play.run_log.columns
+    c.least_trap-trap.result c.requires.no_trap run.1 c.requires.columns (c.least_trap-trap.ensures ∙ ap (least_trap 0) c.as_slice.ensures) in
+    let not_run : (reaches_final play.finished play.reports && not (is_some c.least_trap-trap.result)) ≡ false = sym c.runs_final.ensures ∙ c.if-not-runs_final.true in
+    let results = without_final w (reaches_final play.finished play.reports) (state_after play.run_log.events) c.into_output.result c.least_trap-trap.result not_run
+    first (c.into_output.ensures.output w.loop.store before c.requires.state (has_output play.cells c.requires.serves.whole)) in
+    record { log = refl; reports = refl; finished = refl; results = record { output = results.output_is; trap = results.trap_is } }
+
+pub returns : goal.returns
+returns c =
+    let play = c.args.play in
+    let w = whole_of (tree_of c.args.prepared.now.checked.now) c.args.prepared.now.input.now in
+    let before = init_accesses w ++ accesses_of (accesses_after play.run_log.events) in
+    let run = c.requires.run in
+    let first = trap_by_columns (tree_of c.args.prepared.now.checked.now) c.args.prepared.now.input.now run.0 play.run_log.events play.run_log.columns
+    c.least_trap-trap.result c.requires.no_trap run.1 c.requires.columns (c.least_trap-trap.ensures ∙ ap (least_trap 0) c.as_slice.ensures) in
+    let ran : (reaches_final play.finished play.reports && not (is_some c.least_trap-trap.result)) ≡ true = sym c.runs_final.ensures ∙ c.if-not-runs_final.false in
+    let results = after_final w (reaches_final play.finished play.reports) (state_after play.run_log.events) c.into_output-2.result c.least_trap-trap.result
+    c.in_ok-trap.trap ran first (c.in_ok-trap.ensures.trap before c.requires.state)
+    (c.into_output-2.ensures.output w.loop.store (before ++ accesses_in (last_trace w (accesses_of (accesses_after play.run_log.events))))
+    (c.in_ok-trap.ensures.state before c.requires.state) (has_output c.in_ok-trap.cells c.in_ok-trap.ensures.serves.whole)) in
+    record { log = refl; reports = refl; finished = refl; results = record { output = results.output_is; trap = results.trap_is } }
