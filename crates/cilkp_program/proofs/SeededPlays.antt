@@ -19,10 +19,12 @@ use Rattle.cilkp_words.specs.Commands.{Command, Play, Run}
 use Rattle.cilkp_program.proofs.HeadlineLaws.{run_meets}
 use Rattle.cilkp_program.proofs.OneCommand.{one_command}
 use Rattle.cilkp_program.proofs.OneContent.{one_input, one_source}
+use Rattle.cilkp_program.specs.CommandFiles.{asks_record}
 use Rattle.cilkp_program.specs.CallResults.{InputFault, IsCallResult, OfRow, SourceFault}
 use Rattle.cilkp_program.specs.declared.program_run.FinishedRun.{FinishedRun}
+use Rattle.cilkp_program.specs.Headline.{IsToRun}
 use Rattle.cilkp_program.specs.ProgramFiles.{FileContents}
-use Rattle.cilkp_program.specs.RecordedRuns.{HasSeededEvents, IsToPlay, recorded, seeded_events}
+use Rattle.cilkp_program.specs.RecordedRuns.{HasSeededEvents, IsFinishedLog, IsToPlay, ReturnsRun, recorded, seeded_events}
 use Rattle.cilkp_program.specs.Rows.{Row, NoCommand, SourceRefused, Formats, Benches, InputRefused, Runs, RunsSerially, IsLogOf, OfPlay, OfRun}
 use Rattle.cilkp_program.specs.RunReports.{run_reports}
 use Rattle.cilkp_program.specs.RunResults.{IsPlayResult, IsSeededPlay}
@@ -116,3 +118,33 @@ pub call_is_scheduled : (asked : Option Command) (holds : Option Content) (befor
 call_is_scheduled asked None before now status text log reports outcome = tt
 call_is_scheduled asked (Some content) before now status text log reports outcome =
     λ tree numbers workers throttle seed a. scheduled_result tree numbers workers throttle seed a outcome
+
+-- ---- a `play` call finishes
+
+-- its command is one that makes a run under its throttling limit
+is_to_run : {asked : Option Command} {content : Content} {tree : SyntaxTree} {numbers : List ℤ} {workers throttle seed : ℕ}
+    → IsToPlay asked content tree numbers workers throttle seed → IsToRun asked content tree numbers throttle
+is_to_run {throttle = throttle} a = record {
+  source = a.source;
+  input = a.input;
+  throttle = throttle;
+  names_source = rw a.command refl;
+  names_input = rw a.command refl;
+  runs = rw a.command refl;
+  within = omega arith;
+  program = a.program;
+  read = a.read;
+}
+
+-- so it returns a finished run
+pub plays_finish : (asked : Option Command) (holds : Option Content) (status written : ℕ) (log : Option RunLog) (reports : List Report)
+    (taken_before taken_now : Option (List ℕ))
+    → IfSome holds (λ content. (tree : SyntaxTree) (numbers : List ℤ) (limit : ℕ) → IsToRun asked content tree numbers limit
+    → ReturnsRun (asks_record asked) tree numbers limit status written log reports taken_before taken_now)
+    → IfSome holds (λ content. (tree : SyntaxTree) (numbers : List ℤ) (workers throttle seed : ℕ)
+    → IsToPlay asked content tree numbers workers throttle seed → IsFinishedLog tree numbers log)
+plays_finish asked None status written log reports taken_before taken_now headline = tt
+plays_finish asked (Some content) status written log reports taken_before taken_now headline =
+    λ tree numbers workers throttle seed a.
+    let h = headline tree numbers throttle (is_to_run a) in
+    record { log = h.log; logged = h.logged; finished = h.meets.meets.run.finished }

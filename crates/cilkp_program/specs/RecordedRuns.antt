@@ -6,7 +6,10 @@ use Rattle.pipe_model.specs.declared.event.Event.{Event}
 use Rattle.pipe_model.specs.declared.event.RunLog.{RunLog}
 use Rattle.pipe_model.specs.declared.report.Report.{Report}
 use Rattle.pipe_model.specs.declared.tree.Declaration.{Declaration}
+use Rattle.pipe_model.specs.Language.ProgramsOfTrees.{whole_of}
 use Rattle.pipe_model.specs.Language.SyntaxTree.{SyntaxTree}
+use Rattle.pipe_model.specs.Runs.RunLogs.{state_after}
+use Rattle.pipe_model.specs.Runs.WholeProgramRuns.{ProgramIsFinished}
 use Rattle.run_record.specs.LogLines.{log_text}
 use Rattle.schedule_play.specs.ProgramPlays.{enough_turns, played_events}
 use Rattle.schedule_play.specs.SeedChoices.{first_choices}
@@ -43,6 +46,12 @@ pub record IsToPlay (asked : Option Command) (content : Content) (tree : SyntaxT
 -- the events of the log are those of the schedule
 abbrev pub HasSeededEvents : (tree : SyntaxTree) (input : List ℤ) (workers throttle seed : ℕ) → Option RunLog → Type 0
 HasSeededEvents tree input workers throttle seed log = IfSome log (λ l. l.events ≡ seeded_events tree input workers throttle seed)
+
+-- the log is there, and its run is finished
+pub record IsFinishedLog (tree : SyntaxTree) (input : List ℤ) (run_log : Option RunLog) : Type 0 where
+  pub log : RunLog
+  pub logged : run_log ≡ Some log
+  pub finished : ProgramIsFinished (whole_of tree input) (state_after log.events)
 
 -- the call returned the log of a run that meets the headline under the throttling limit, and its text, with the lines of the log if they are asked for,
 -- was written completely. An accepted program has no other result on its input

@@ -10,7 +10,7 @@ ghost use Rattle.cilkp_program.specs.CallResults.{IsCallResult, IsPrinted, IsCut
 ghost use Rattle.pipe_io.specs.Faults.{CountGrew, CountRose};
 ghost use Rattle.cilkp_program.specs.Formatting.{ReturnsText, IsToFormat};
 ghost use Rattle.cilkp_program.specs.Headline.{IsToRun};
-ghost use Rattle.cilkp_program.specs.RecordedRuns.{HasSeededEvents, IsToPlay, ReturnsRun};
+ghost use Rattle.cilkp_program.specs.RecordedRuns.{HasSeededEvents, IsFinishedLog, IsToPlay, ReturnsRun};
 ghost use Rattle.cilkp_program.specs.RunResults.{IsPlayResult, IsRunResult};
 ghost use Rattle.cilkp_program.specs.PreparedFiles.{IsPreparation};
 ghost use Rattle.cilkp_program.specs.CommandFiles.{KeepsLog, asks_record};
@@ -394,6 +394,11 @@ pub fn cilkp<R: Drop, F: Files, S: Sink, G: Gate + Sync>(
         IfSome (F.holds files.old) (λ content. (tree : SyntaxTree) (numbers : List ℤ) (workers throttle seed : ℕ) →
         IsToPlay (command_of (words_of words.now)) content tree numbers workers throttle seed →
         HasSeededEvents tree numbers workers throttle seed e.run_log)) }
+    // A `play` call finishes: the run of its log is finished, whatever the schedule.
+    ensures finishes { IfOk result (λ e. ¬ (CountRose (F.faults files.old) (F.faults files.new)) → ¬ (CountRose (S.faults out.old) (S.faults out.new)) →
+        IfSome (F.holds files.old) (λ content. (tree : SyntaxTree) (numbers : List ℤ) (workers throttle seed : ℕ) →
+        IsToPlay (command_of (words_of words.now)) content tree numbers workers throttle seed →
+        IsFinishedLog tree numbers e.run_log)) }
     // For every accepted program and input, if the files' content is known and neither count of
     // faults rises, a `serial` call that returns `Ok` reports a cell exactly when the serial
     // elision's dag has two parallel conflicting accesses to it, and otherwise prints exactly the

@@ -1,8 +1,9 @@
 -- Programs that were played: what is reported, and when the play is finished.
 use Rattle.std.proofs.Common.{◌≡◌, ◌≢◌, ◌∙◌, ap, sym, refl, subst, arith, ℕ, ℤ, ◌<◌, ◌≤◌, ◌++◌, ◌∷◌, List, [], Bool, true, false, Option, append-nil}
-use Rattle.std.specs.Prelude.{◌&&◌, IsTrue, is_some}
+use Rattle.std.specs.Prelude.{◌&&◌, IsTrue, is_some, length}
 use Rattle.std.proofs.lemmas.Bool.{false≢true}
 use Rattle.pipe_model.specs.declared.event.Event.{Event}
+use Rattle.pipe_model.specs.declared.event.Event.TheVariants.{Begin, Access, Advance, Enter, Finish, Stop}
 use Rattle.pipe_model.specs.declared.event.RunLog.{RunLog}
 use Rattle.pipe_model.specs.declared.report.Report.{Report}
 use Rattle.pipe_model.specs.declared.trap.TrapAt.{TrapAt}
@@ -16,18 +17,23 @@ use Rattle.pipe_model.specs.Pipelines.Store.{output_of}
 use Rattle.pipe_model.specs.Pipelines.WholePrograms.{WholeProgram, init_accesses, init_trap}
 use Rattle.pipe_model.specs.Pipelines.Pipeline.{Pipeline}
 use Rattle.pipe_model.specs.Races.DeterminacyRaces.{IsRaceFree}
-use Rattle.pipe_model.specs.Runs.Run.{EmptyRun, IsFinished}
+use Rattle.pipe_model.specs.Runs.Run.{EmptyRun, IsFinished, Run, state_from}
 use Rattle.pipe_model.specs.Runs.RunLogs.{accesses_after, columns_after, state_after}
 use Rattle.pipe_model.specs.Runs.Schedules.{candidates, played, running_instances}
-use Rattle.pipe_model.specs.Runs.State.{State, initial_state}
+use Rattle.pipe_model.specs.Runs.State.{State, initial_state, next_state}
 use Rattle.pipe_model.specs.Runs.WholeProgramRuns.{IsFinishedProgramRun, NoLoop, OfLoop, ProgramIsFinished, WithLoop, WithoutLoop, played_output, played_trap}
 use Rattle.language_laws.proofs.WellFormed.{accepted_is_well_formed}
+use Rattle.program_laws.proofs.BoundedWork.{program_runs_are_bounded}
 use Rattle.program_laws.proofs.Candidates.{played_runs_are_runs}
 use Rattle.program_laws.proofs.Headlines.{runs_meet_the_headline}
+use Rattle.program_laws.proofs.InstanceBounds.{program_instances_are_bounded, starts_are_counted}
 use Rattle.program_laws.proofs.PlayedSchedules.{finished_runs_have_no_candidate, schedules_finish, schedules_play_runs}
 use Rattle.program_laws.proofs.ProgramElisions.{accepted_programs_meet_the_elision}
 use Rattle.program_laws.proofs.ProgramRuns.{played_where_final_ran, well_formed_after}
+use Rattle.program_laws.specs.ScheduleLaws.{IsPlayed as IsPlayedRun}
+use Rattle.program_laws.specs.WorkBounds.{most_instances}
 use Rattle.race_detection.specs.FoundReports.{found_reports}
+use Rattle.run_laws.proofs.RunStates.FrontAndBack.{front_is_run}
 use Rattle.run_laws.proofs.RunStates.IterationCounts.{runs_keep_rules}
 use Rattle.serial_elision.proofs.Elisions.{first_or_none}
 use Rattle.schedule_play.specs.declared.loop_play.LoopPlay.{LoopPlay}
@@ -131,6 +137,36 @@ agrees source tree input limits choices r accepted h over =
       trap = λ none. h.results.trap ∙ ap (λ b. played_trap w b s) (ran none) ∙ (played_where_final_ran w s).1 ∙ meets.trap (free none);
     }
 
+-- a stop is not undone
+was_going : (s : State) (e : Event) → (next_state s e).stopped ≡ false → s.stopped ≡ false
+was_going s (Begin i) h = h
+was_going s (Access i a) h = h
+was_going s (Advance i k n) h = h
+was_going s (Enter i) h = h
+was_going s (Finish i e) h = h
+was_going s Stop h = absurd (false≢true (sym h))
+
+going_at_first : (s : State) (events : List Event) → (state_from s events).stopped ≡ false → s.stopped ≡ false
+going_at_first s [] h = h
+going_at_first s (e ∷ events) h = was_going s e (going_at_first (next_state s e) events h)
+
+going_before : (s : State) (before after : List Event) → (state_from s (before ++ after)).stopped ≡ false → (state_from s before).stopped ≡ false
+going_before s [] after h = going_at_first s after h
+going_before s (e ∷ before) after h = going_before (next_state s e) before after h
+
+-- the run of the loop, if `init` did not trap
+loop_run : (source : List ℕ) (tree : SyntaxTree) (input : List ℤ) (limits : PlayLimits) (choices : List ℕ) (r : Played) → IsAccepted source tree
+    → 0 < limits.throttle → 0 < limits.workers → IsPlayed tree input limits choices r → is_some (init_trap (whole_of tree input)) ≡ false
+    → IsPlayedRun (pipeline_after_init tree input) limits.throttle limits.workers r.run_log.events (state_after r.run_log.events)
+loop_run source tree input limits choices r accepted throttle workers h none =
+    let p = pipeline_after_init tree input in
+    let es = played p limits.throttle limits.workers choices limits.turns in
+    let events : r.run_log.events ≡ es = h.log.events ∙ ap (λ b. unless b es) none in
+    let well = well_formed_after (whole_of tree input) (accepted_is_well_formed source tree input accepted) in
+    let schedule = schedules_play_runs p limits.throttle limits.workers choices limits.turns well throttle workers in
+    subst (λ l. IsPlayedRun p limits.throttle limits.workers l (state_after l)) (sym events)
+    (played_runs_are_runs p limits.throttle limits.workers es (state_after es) schedule.run well)
+
 -- a play with enough turns is finished
 finishes : (source : List ℕ) (tree : SyntaxTree) (input : List ℤ) (limits : PlayLimits) (choices : List ℕ) (r : Played) → IsAccepted source tree
     → 0 < limits.throttle → 0 < limits.workers → IsPlayed tree input limits choices r → enough_turns tree ≤ limits.turns → IsTrue r.finished
@@ -147,11 +183,12 @@ finishes source tree input limits choices r accepted throttle workers h enough =
         h.log.finished.1 (WithLoop none (subst (λ es. IsFinished (state_after es)) (sym events)
         (schedules_finish source tree input limits.throttle limits.workers choices limits.turns accepted throttle workers enough)))
 
--- a play that is not finished can go on
+-- each state of a play that is not finished can go on
 goes_on : (source : List ℕ) (tree : SyntaxTree) (input : List ℤ) (limits : PlayLimits) (choices : List ℕ) (r : Played) → IsAccepted source tree
-    → 0 < limits.throttle → 0 < limits.workers → IsPlayed tree input limits choices r → (IsTrue r.finished → ⊥)
-    → candidates (pipeline_after_init tree input) limits.throttle limits.workers (state_after r.run_log.events) ≢ []
-goes_on source tree input limits choices r accepted throttle workers h unfinished = by (is_some (init_trap w)) refl
+    → 0 < limits.throttle → 0 < limits.workers → IsPlayed tree input limits choices r → (before after : List Event) → r.run_log.events ≡ before ++ after
+    → (ProgramIsFinished (whole_of tree input) (state_after before) → ⊥)
+    → candidates (pipeline_after_init tree input) limits.throttle limits.workers (state_after before) ≢ []
+goes_on source tree input limits choices r accepted throttle workers h before after are unfinished = by (is_some (init_trap w)) refl
   where
     w : WholeProgram
     w = whole_of tree input
@@ -159,18 +196,45 @@ goes_on source tree input limits choices r accepted throttle workers h unfinishe
     p : Pipeline
     p = pipeline_after_init tree input
 
-    by : (b : Bool) → is_some (init_trap w) ≡ b → candidates p limits.throttle limits.workers (state_after r.run_log.events) ≢ []
-    by true some = absurd (unfinished (h.log.finished.1 (WithoutLoop some)))
+    by : (b : Bool) → is_some (init_trap w) ≡ b → candidates p limits.throttle limits.workers (state_after before) ≢ []
+    by true some = absurd (unfinished (WithoutLoop some))
     by false none = λ empty.
-        let events : r.run_log.events ≡ played p limits.throttle limits.workers choices limits.turns =
-        h.log.events ∙ ap (λ b. unless b (played p limits.throttle limits.workers choices limits.turns)) none in
         let well = well_formed_after w (accepted_is_well_formed source tree input accepted) in
-        let schedule = schedules_play_runs p limits.throttle limits.workers choices limits.turns well throttle workers in
-        let es = played p limits.throttle limits.workers choices limits.turns in
-        let run = played_runs_are_runs p limits.throttle limits.workers es (state_after es) schedule.run well in
-        let over = (finished_runs_have_no_candidate p limits.throttle limits.workers es (state_after es) run.run well throttle workers run.not_stopped).1
-        (subst (λ l. candidates p limits.throttle limits.workers (state_after l) ≡ []) events empty) in
-        unfinished (h.log.finished.1 (WithLoop none (subst (λ l. IsFinished (state_after l)) (sym events) over)))
+        let run = loop_run source tree input limits choices r accepted throttle workers h none in
+        let s = state_after r.run_log.events in
+        let front = front_is_run p limits.throttle before after s (subst (λ l. Run p limits.throttle l s) are run.run) in
+        let going = going_before initial_state before after (subst (λ l. (state_after l).stopped ≡ false) are run.not_stopped) in
+        unfinished (WithLoop none
+        ((finished_runs_have_no_candidate p limits.throttle limits.workers before (state_after before) front well throttle workers going).1 empty))
+
+record IsBounded (tree : SyntaxTree) (events : List Event) : Type 0 where
+  most : length events ≤ enough_turns tree
+  starts : length (starts_of events) ≤ most_instances tree
+
+-- a play has few events and few instances
+bounded : (source : List ℕ) (tree : SyntaxTree) (input : List ℤ) (limits : PlayLimits) (choices : List ℕ) (r : Played) → IsAccepted source tree
+    → 0 < limits.throttle → 0 < limits.workers → IsPlayed tree input limits choices r → IsBounded tree r.run_log.events
+bounded source tree input limits choices r accepted throttle workers h = by (is_some (init_trap w)) refl
+  where
+    w : WholeProgram
+    w = whole_of tree input
+
+    p : Pipeline
+    p = pipeline_after_init tree input
+
+    by : (b : Bool) → is_some (init_trap w) ≡ b → IsBounded tree r.run_log.events
+    by true some =
+        let nothing : r.run_log.events ≡ [] = h.log.events ∙ ap (λ b. unless b (played p limits.throttle limits.workers choices limits.turns)) some in
+        subst (IsBounded tree) (sym nothing) (record { most = omega arith; starts = omega arith })
+    by false none =
+        let run = loop_run source tree input limits choices r accepted throttle workers h none in
+        let events = r.run_log.events in
+        let counted = starts_are_counted p limits.throttle events (state_after events) run.run in
+        let few = program_instances_are_bounded source tree input limits.throttle events (state_after events) accepted run.run in
+        record {
+          most = (program_runs_are_bounded source tree input limits.throttle events (state_after events) accepted run.run run.not_stopped).0;
+          starts = omega (arith, counted, few);
+        }
 
 pub plays_meet_the_headline : (source : List ℕ) (tree : SyntaxTree) (input : List ℤ) (limits : PlayLimits) (choices : List ℕ) (r : Played)
     → IsAccepted source tree → 0 < limits.throttle → 0 < limits.workers → IsPlayed tree input limits choices r → MeetsPlayedHeadline tree input limits r
@@ -178,4 +242,6 @@ plays_meet_the_headline source tree input limits choices r accepted throttle wor
   elision = agrees source tree input limits choices r accepted h;
   enough = finishes source tree input limits choices r accepted throttle workers h;
   goes_on = goes_on source tree input limits choices r accepted throttle workers h;
+  bounded = (bounded source tree input limits choices r accepted throttle workers h).most;
+  instances = (bounded source tree input limits choices r accepted throttle workers h).starts;
 }

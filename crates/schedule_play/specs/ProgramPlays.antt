@@ -70,8 +70,10 @@ enough_turns tree = most_instances tree * (2 * natural tree.limits.steps + 2)
 pub record MeetsPlayedHeadline (tree : SyntaxTree) (input : List ℤ) (limits : PlayLimits) (r : Played) : Type 0 where
   pub elision : IsTrue r.finished → HasElisionResults (whole_of tree input) r
   pub enough : enough_turns tree ≤ limits.turns → IsTrue r.finished
-  pub goes_on : (IsTrue r.finished → ⊥)
-      → candidates (pipeline_after_init tree input) limits.throttle limits.workers (state_after r.run_log.events) ≢ []
+  pub goes_on : (before after : List Event) → r.run_log.events ≡ before ++ after → (ProgramIsFinished (whole_of tree input) (state_after before) → ⊥)
+      → candidates (pipeline_after_init tree input) limits.throttle limits.workers (state_after before) ≢ []
+  pub bounded : length r.run_log.events ≤ enough_turns tree
+  pub instances : length (starts_of r.run_log.events) ≤ most_instances tree
 
 -- the program was played to this result after its loop was played
 pub record IsEndOfLoop (w : WholeProgram) (play : LoopPlay) (r : Played) : Type 0 where

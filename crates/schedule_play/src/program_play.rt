@@ -17,6 +17,7 @@ ghost use Rattle.pipe_model.specs.Runs.Schedules.{candidates, running_instances}
 ghost use Rattle.pipe_model.specs.Runs.State.{accesses_of};
 ghost use Rattle.pipe_model.specs.Runs.Throttling.{IsThrottled};
 ghost use Rattle.pipe_model.specs.Runs.WholeProgramRuns.{ProgramIsFinished, ProgramRun, played_output, played_trap};
+ghost use Rattle.program_laws.specs.WorkBounds.{most_instances};
 ghost use Rattle.race_detection.specs.FoundReports.{found_reports};
 ghost use Rattle.schedule_play.specs.ProgramPlays.{HasElisionResults, IsEndOfLoop, IsPlayed, MeetsPlayedHeadline, enough_turns, played_events, reaches_final};
 ghost use Rattle.serial_elision.specs.PartRuns.{Serves};
@@ -210,7 +211,8 @@ pub fn enough_turns(code: &Code) -> u64
 /// most `turns` events are made. Both `workers` and `throttle` are at least 1.
 ///
 /// If the run is finished, it has a report exactly if the program's serial elision has a race, and
-/// otherwise the elision's output and trap. With `enough_turns` it is finished.
+/// otherwise the elision's output and trap. Until then each state has a candidate, and there are at
+/// most `enough_turns` events, so with that many turns the run is finished.
 ///
 /// # Errors
 /// Out of memory.
@@ -245,8 +247,11 @@ pub fn play(
         (state_after r.run_log.events)) }
     ensures elision { IfOk result (λ r. IsTrue r.finished → HasElisionResults (whole_of (tree_of checked.now) input.now) r) }
     ensures enough { IfOk result (λ r. enough_turns (tree_of checked.now) ≤ turns → IsTrue r.finished) }
-    ensures goes_on { IfOk result (λ r. (IsTrue r.finished → ⊥)
-        → candidates (pipeline_after_init (tree_of checked.now) input.now) throttle workers (state_after r.run_log.events) ≢ []) }
+    ensures goes_on { IfOk result (λ r. (before after : List EventOf) → r.run_log.events ≡ before ++ after
+        → (ProgramIsFinished (whole_of (tree_of checked.now) input.now) (state_after before) → ⊥)
+        → candidates (pipeline_after_init (tree_of checked.now) input.now) throttle workers (state_after before) ≢ []) }
+    ensures bounded { IfOk result (λ r. length r.run_log.events ≤ enough_turns (tree_of checked.now)) }
+    ensures instances { IfOk result (λ r. length (starts_of r.run_log.events) ≤ most_instances (tree_of checked.now)) }
 {
     let prepared = Prepared {
         checked,

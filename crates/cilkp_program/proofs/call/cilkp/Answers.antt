@@ -4,7 +4,7 @@ use Rattle.cilkp_program.proofs.GivenUp.{text_cut_short, text_whole, given_up_wr
 use Rattle.cilkp_program.proofs.FormatLaws.{text_printed}
 use Rattle.cilkp_program.proofs.BenchLaws.{printed_summary}
 use Rattle.cilkp_program.proofs.HeadlineLaws.{printed_meets}
-use Rattle.cilkp_program.proofs.SeededPlays.{call_is_scheduled}
+use Rattle.cilkp_program.proofs.SeededPlays.{call_is_scheduled, plays_finish}
 use Rattle.cilkp_program.proofs.SerialCallLaws.{printed_elision}
 use Rattle.cilkp_program.proofs.call.cilkp.Goals.{in-Whole, in-Failed}
 use Rattle.cilkp_program.proofs.call.cilkp.Goals as goal
@@ -37,6 +37,9 @@ returns-clause-headline g c = λ calm_files calm_out.
 
 pub returns-clause-scheduled : goal.returns-clause-scheduled
 returns-clause-scheduled g c = λ calm_files calm_out. call_is_scheduled _ _ _ _ _ _ _ _ c.in_ok-outcome.ensures.outcome
+
+pub returns-clause-finishes : goal.returns-clause-finishes
+returns-clause-finishes g c = λ calm_files calm_out. plays_finish _ _ _ _ _ _ _ _ (returns-clause-headline g c calm_files calm_out)
 
 pub returns-clause-serial : goal.returns-clause-serial
 returns-clause-serial g c = λ calm_files calm_out.
