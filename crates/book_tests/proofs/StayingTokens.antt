@@ -68,6 +68,7 @@ still_given i v w events ch run t other g =
             (subst (λ xs. IsPlanAt (tree_of v.program) v.input t.payload t.iteration (map replies_of xs)) (sym (ch.traces t.iteration other)) g.payload.stands));
       };
       knows = g.knows;
+      parts = ap (λ xs. length (map replies_of xs)) (ch.traces t.iteration other) ∙ g.parts;
     }
 
 -- ---- logs with more events

@@ -80,30 +80,30 @@ pub record IsDetectable (tree : SyntaxTree) (numbers : List ℤ) (log : RunLog) 
   pub right : AreRight (columns_after (elision_log tree numbers).events) (accesses_after (elision_log tree numbers).events)
       (run_reports (elision_log tree numbers))
 
-pub detectable : (source : List ℕ) (tree : SyntaxTree) (numbers : List ℤ) → IsAccepted source tree
+pub detectable : (tree : SyntaxTree) (numbers : List ℤ) → BreaksNoRule tree
     → IsDetectable tree numbers (elision_log tree numbers) (elision_accesses tree numbers)
-detectable source tree numbers form =
-    let h : IsSerialLog tree numbers 1 = serial_log source tree numbers 1 form (omega arith) in
+detectable tree numbers form =
+    let h : IsSerialLog tree numbers 1 = serial_log tree numbers 1 form (omega arith) in
     let log = elision_log tree numbers in
     let s : State = state_after log.events in
     let d : IsDetected log.events s = program_detected (whole_of tree numbers) 1 log.events s h.run.run in
     let counted = starts_counted (whole_of tree numbers) 1 log.events s h.run.run in
-    let small = run_is_small source tree numbers 1 log.events s form h.run.run in
+    let small = run_is_small tree numbers 1 log.events s form h.run.run in
     let most = instances_are_few tree form.obeys in
     let starts = ap length d.starts in
     record {
       own = record { control = d.control; columns = ap nodes_of_columns h.run.columns ∙ nodes_of_frames s.frames ∙ sym d.columns };
       few = omega (arith, counted, small, most, starts);
       inside = subst (λ cs. All (λ (a : NodeAccess). IsNodeOf cs a.node) (elision_accesses tree numbers)) (sym (d.columns ∙ h.columns))
-          (accesses_inside source tree numbers form);
+          (accesses_inside tree numbers form);
       found = λ i. found_reports (d.columns i) (d.starts i) (sym h.accesses i);
       right = d.right;
     }
 
 -- the same of what a run returns
-pub given_detectable : (source : List ℕ) (tree : SyntaxTree) (numbers : List ℤ) (columns : List Column) (events : List Event) (accesses : List NodeAccess)
-    → IsAccepted source tree → columns ≡ program_columns (whole_of tree numbers) → events ≡ (program_log (whole_of tree numbers)).events
+pub given_detectable : (tree : SyntaxTree) (numbers : List ℤ) (columns : List Column) (events : List Event) (accesses : List NodeAccess)
+    → BreaksNoRule tree → columns ≡ program_columns (whole_of tree numbers) → events ≡ (program_log (whole_of tree numbers)).events
     → accesses ≡ elision_accesses tree numbers → IsDetectable tree numbers (record { columns = columns; events = events }) accesses
-given_detectable source tree numbers columns events accesses form c e a =
+given_detectable tree numbers columns events accesses form c e a =
     subst (λ l. IsDetectable tree numbers l accesses) (sym (given_log tree numbers columns events c e))
-    (subst (IsDetectable tree numbers (elision_log tree numbers)) (sym a) (detectable source tree numbers form))
+    (subst (IsDetectable tree numbers (elision_log tree numbers)) (sym a) (detectable tree numbers form))

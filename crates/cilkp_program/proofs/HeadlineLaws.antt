@@ -1,4 +1,5 @@
 -- A row that runs a program meets the headline.
+use Rattle.pipe_model.specs.Language.CheckingRules.{BreaksNoRule}
 use Rattle.std.proofs.Common.{◌≡◌, ◌≢◌, ◌≤◌, ◌∙◌, ◌↔◌, ◌++◌, Bool, ℕ, ℤ, List, [], Option, Some, None, IfSome, append-nil, arith, refl, sym}
 use Rattle.pipe_model.specs.declared.event.RunLog.{RunLog}
 use Rattle.pipe_model.specs.declared.report.Report.{Report}
@@ -72,25 +73,25 @@ printed_agrees tree numbers output trap reports silent o t (WithTrap at none end
     }
 
 -- a finished run of the program, and what is printed for it, meet the headline
-pub run_meets : (source : List ℕ) (tree : SyntaxTree) (numbers : List ℤ) (limit : ℕ) (log : RunLog) (output : List ℤ) (trap : Option TrapAt)
-    (reports : List Report) {status : ℕ} {text : List ℕ} → IsAccepted source tree → IsFinishedProgramRun (whole_of tree numbers) limit log
+pub run_meets : (tree : SyntaxTree) (numbers : List ℤ) (limit : ℕ) (log : RunLog) (output : List ℤ) (trap : Option TrapAt)
+    (reports : List Report) {status : ℕ} {text : List ℕ} → BreaksNoRule tree → IsFinishedProgramRun (whole_of tree numbers) limit log
     → IsThrottled limit log.events → AreRight (columns_after log.events) (accesses_after log.events) reports
     → (reports ≡ [] → output ≡ elision_output tree numbers) → (reports ≡ [] → trap ≡ elision_trap tree numbers)
     → IsPrintedAs tree.cells output trap reports status text → MeetsHeadline tree numbers limit log reports status text
-run_meets source tree numbers limit log output trap reports form run throttled right o t printed =
-    let whole = runs_meet_the_headline source tree numbers limit log reports [] form run right in
+run_meets tree numbers limit log output trap reports form run throttled right o t printed =
+    let whole = runs_meet_the_headline tree numbers limit log reports [] form run right in
     record { run = run; reported = right; agrees = printed_agrees tree numbers output trap reports whole.silent o t printed; throttled = throttled }
 
 -- the serial elision as a run, and what its histories report, meet the headline for every limit of at least 1
-pub elision_meets : (source : List ℕ) (tree : SyntaxTree) (numbers : List ℤ) (limit : ℕ) (output : List ℤ) (trap : Option TrapAt) (reports : List Report)
-    {status : ℕ} {text : List ℕ} → IsAccepted source tree → 1 ≤ limit → output ≡ elision_output tree numbers → trap ≡ elision_trap tree numbers
+pub elision_meets : (tree : SyntaxTree) (numbers : List ℤ) (limit : ℕ) (output : List ℤ) (trap : Option TrapAt) (reports : List Report)
+    {status : ℕ} {text : List ℕ} → BreaksNoRule tree → 1 ≤ limit → output ≡ elision_output tree numbers → trap ≡ elision_trap tree numbers
     → reports ≡ run_reports (elision_log tree numbers) → IsPrintedAs tree.cells output trap reports status text
     → MeetsHeadline tree numbers limit (elision_log tree numbers) reports status text
-elision_meets source tree numbers limit output trap reports form room o t is printed =
+elision_meets tree numbers limit output trap reports form room o t is printed =
     let log = elision_log tree numbers in
-    let h = serial_log source tree numbers limit form room in
-    let right : AreRight (columns_after log.events) (accesses_after log.events) reports = rw is (detectable source tree numbers form).right in
-    run_meets source tree numbers limit log output trap reports form h.run h.rules.throttled right (λ none. o) (λ none. t) printed
+    let h = serial_log tree numbers limit form room in
+    let right : AreRight (columns_after log.events) (accesses_after log.events) reports = rw is (detectable tree numbers form).right in
+    run_meets tree numbers limit log output trap reports form h.run h.rules.throttled right (λ none. o) (λ none. t) printed
 
 -- the result is that of a run of the program
 record IsRunOf (recording : Bool) (tree : SyntaxTree) (numbers : List ℤ) (limit status : ℕ) (text : List ℕ) (run_log : Option RunLog) (reports : List Report)

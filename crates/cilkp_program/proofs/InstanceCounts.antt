@@ -1,5 +1,6 @@
 -- The number of stage instances of the elision of a generated program.
-use Rattle.std.proofs.Common.{◌≡◌, ◌<◌, ◌≤◌, ◌+◌, ◌*◌, ℕ, ℤ, zero, suc, List, [], ◌∷◌, get_or, length, take, arith, ap, subst}
+use Rattle.pipe_model.specs.Language.CheckingRules.{BreaksNoRule}
+use Rattle.std.proofs.Common.{None, ◌≡◌, ◌<◌, ◌≤◌, ◌+◌, ◌*◌, ℕ, ℤ, zero, suc, List, [], ◌∷◌, get_or, length, take, arith, ap, subst}
 use Rattle.dag_build.specs.NodeColumns.{node_columns}
 use Rattle.grammar_laws.proofs.SourceRefusals.{one_accepted}
 use Rattle.pipe_gen.specs.Workload.{source_text}
@@ -54,17 +55,17 @@ pub instances_of_log : (tree : SyntaxTree) (numbers : List ℤ)
 instances_of_log tree numbers = ap instances_in (ended_nodes (loop_traces (whole_of tree numbers)))
 
 -- a run of a program has as many instances as its limits allow
-pub run_is_small : (source : List ℕ) (tree : SyntaxTree) (numbers : List ℤ) (limit : ℕ) (events : List Event) (s : State) → IsAccepted source tree
+pub run_is_small : (tree : SyntaxTree) (numbers : List ℤ) (limit : ℕ) (events : List Event) (s : State) → BreaksNoRule tree
     → ProgramRun (whole_of tree numbers) limit events s → instances_in (own_columns s) ≤ most_instances tree
-run_is_small source tree numbers limit events s form (NoLoop trapped) = omega arith
-run_is_small source tree numbers limit events s form (OfLoop free r) = program_instances_are_bounded source tree numbers limit events s form r
+run_is_small tree numbers limit events s form (NoLoop trapped) = omega arith
+run_is_small tree numbers limit events s form (OfLoop free r) = program_instances_are_bounded tree numbers limit events s form r
 
 -- the elision of a generated program has at most six instances an item, and one more
 pub elision_is_small : (size : ℕ) (tree : SyntaxTree) (numbers : List ℤ) → 1 ≤ size → size ≤ MOST_SIZE → IsAccepted (source_text size) tree
     → instances_in (elision_columns tree numbers) ≤ MOST_INSTANCES
 elision_is_small size tree numbers some few form =
-    let h = serial_log (source_text size) tree numbers 1 form (omega arith) in
-    let small = run_is_small (source_text size) tree numbers 1 (elision_log tree numbers).events (state_after (elision_log tree numbers).events) form h.run.run in
+    let h = serial_log tree numbers 1 (record { obeys = form.obeys }) (omega arith) in
+    let small = run_is_small tree numbers 1 (elision_log tree numbers).events (state_after (elision_log tree numbers).events) (record { obeys = form.obeys }) h.run.run in
     let tree_is : tree ≡ generated_tree size = one_accepted (source_text size) tree (generated_tree size) form (accepted size some few) in
     let columns : instances_in (elision_columns tree numbers) ≤ most_instances tree = subst (λ cs. instances_in cs ≤ most_instances tree) h.columns small in
     let most : most_instances tree ≡ size * 6 + 1 = ap most_instances tree_is in

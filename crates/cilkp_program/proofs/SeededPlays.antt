@@ -1,4 +1,5 @@
 -- What a play by the choices of a seed returns.
+use Rattle.pipe_model.specs.Language.CheckingRules.{BreaksNoRule}
 use Rattle.std.proofs.Common.{◌≡◌, ◌∙◌, ap₂, refl, arith, ℕ, ℤ, ◌≤◌, List, Bool, Option, Some, None, IfSome}
 use Rattle.std.specs.Prelude.{◌↔◌, IsTrue}
 use Rattle.pipe_gen.specs.declared.choices.TheConstants.{MOST_INDEX}
@@ -54,19 +55,19 @@ seeded_play tree input workers throttle seed choices turns p chosen counted even
     }
 
 -- its result
-pub play_returned : (source : List ℕ) (tree : SyntaxTree) (input : List ℤ) (workers throttle seed : ℕ) (recording : Bool) (run : FinishedRun)
-    (status : ℕ) (printed text : List ℕ) → IsAccepted source tree → IsSeededPlay tree input workers throttle seed run
+pub play_returned : (tree : SyntaxTree) (input : List ℤ) (workers throttle seed : ℕ) (recording : Bool) (run : FinishedRun)
+    (status : ℕ) (printed text : List ℕ) → BreaksNoRule tree → IsSeededPlay tree input workers throttle seed run
     → IsPrintedAs tree.cells run.output run.trap run.reports status printed → text ≡ recorded recording tree.cells run.run_log printed
     → IsPlayResult tree input workers throttle seed recording
     (record { status = status; text = text; run_log = Some run.run_log; reports = run.reports })
-play_returned source tree input workers throttle seed recording run status printed text accepted h as_printed is = record {
+play_returned tree input workers throttle seed recording run status printed text accepted h as_printed is = record {
   log = run.run_log;
   logged = refl;
   events = h.events;
   meets = record {
     outcome = printed;
     text_is = is;
-    meets = run_meets source tree input throttle run.run_log run.output run.trap run.reports accepted h.run h.throttled h.right h.output h.trap as_printed;
+    meets = run_meets tree input throttle run.run_log run.output run.trap run.reports accepted h.run h.throttled h.right h.output h.trap as_printed;
   };
   found = h.found;
 }

@@ -1,5 +1,6 @@
 -- The serial elision of an accepted program as a run, and the dag and the races of its columns and accesses.
-use Rattle.std.proofs.Common.{◌≡◌, ◌∙◌, ◌<◌, ◌≤◌, ℕ, ℤ, zero, suc, All, List, [], ◌∷◌, Option, length, map, refl, sym, ap, subst, arith}
+use Rattle.pipe_model.specs.Language.CheckingRules.{BreaksNoRule}
+use Rattle.std.proofs.Common.{None, ◌≡◌, ◌∙◌, ◌<◌, ◌≤◌, ℕ, ℤ, zero, suc, All, List, [], ◌∷◌, Option, length, map, refl, sym, ap, subst, arith}
 use Rattle.pipe_model.specs.declared.access.NodeAccess.{NodeAccess}
 use Rattle.pipe_model.specs.declared.column.Column.{Column}
 use Rattle.pipe_model.specs.declared.event.Event.{Event}
@@ -55,10 +56,10 @@ pub record IsSerialLog (tree : SyntaxTree) (input : List ℤ) (limit : ℕ) : Ty
   pub rules : KeepsRules limit (elision_log tree input).events (state_after (elision_log tree input).events)
 
 -- this holds for every accepted program and every limit of at least 1
-pub serial_log : (source : List ℕ) (tree : SyntaxTree) (input : List ℤ) (limit : ℕ) → IsAccepted source tree → 1 ≤ limit → IsSerialLog tree input limit
-serial_log source tree input limit form room =
+pub serial_log : (tree : SyntaxTree) (input : List ℤ) (limit : ℕ) → BreaksNoRule tree → 1 ≤ limit → IsSerialLog tree input limit
+serial_log tree input limit form room =
     let w : WholeProgram = whole_of tree input in
-    let h : HasElisionLog w limit = program_elision_is_a_run w limit (accepted_is_well_formed source tree input form) (omega (arith, room)) in
+    let h : HasElisionLog w limit = program_elision_is_a_run w limit (accepted_is_well_formed tree input form) (omega (arith, room)) in
     let end : State = state_after (program_log w).events in
     record {
       run = h.run;
@@ -75,11 +76,11 @@ given_columns : (tree : SyntaxTree) (input : List ℤ) (columns : List Column) �
 given_columns tree input columns e = ap node_columns e ∙ ended_nodes (loop_traces (whole_of tree input))
 
 -- the dag that is built has rising columns
-pub given_columns_rise : (source : List ℕ) (tree : SyntaxTree) (input : List ℤ) (columns : List Column) → IsAccepted source tree
+pub given_columns_rise : (tree : SyntaxTree) (input : List ℤ) (columns : List Column) → BreaksNoRule tree
     → columns ≡ program_columns (whole_of tree input)
     → AreRising (node_columns columns)
-given_columns_rise source tree input columns form e =
-    let h = serial_log source tree input 1 form (omega arith) in
+given_columns_rise tree input columns form e =
+    let h = serial_log tree input 1 form (omega arith) in
     subst AreRising (h.columns ∙ sym (given_columns tree input columns e)) (record { each = h.rules.rising })
 
 -- the number of a column with an instance is below the number of columns
@@ -89,20 +90,20 @@ column_inside (c ∷ cs) zero k w = omega arith
 column_inside (c ∷ cs) (suc i) k w = let h = column_inside cs i k w in omega (arith, h)
 
 -- the accesses of the loop are made by instances of its columns
-pub accesses_inside : (source : List ℕ) (tree : SyntaxTree) (input : List ℤ) → IsAccepted source tree
+pub accesses_inside : (tree : SyntaxTree) (input : List ℤ) → BreaksNoRule tree
     → All (IsAccessOf (elision_columns tree input)) (elision_accesses tree input)
-accesses_inside source tree input form =
-    let h = serial_log source tree input 1 form (omega arith) in
+accesses_inside tree input form =
+    let h = serial_log tree input 1 form (omega arith) in
     subst (λ cs. All (IsAccessOf cs) (elision_accesses tree input)) h.columns (subst (All (IsAccessOf _)) h.accesses
     (λ k d w. let inside = h.rules.inside _ (among_at _ k d w) in (column_inside _ _ _ inside, inside)))
 
 -- the accesses that the elision returns are made by instances of the dag that is built
-pub given_accesses_inside : (source : List ℕ) (tree : SyntaxTree) (input : List ℤ) (dag : List (List Node)) (columns : List Column) (accesses : List NodeAccess)
-    → IsAccepted source tree
+pub given_accesses_inside : (tree : SyntaxTree) (input : List ℤ) (dag : List (List Node)) (columns : List Column) (accesses : List NodeAccess)
+    → BreaksNoRule tree
     → dag ≡ node_columns columns → columns ≡ program_columns (whole_of tree input) → accesses ≡ elision_accesses tree input
     → All (IsAccessOf dag) accesses
-given_accesses_inside source tree input dag columns accesses form d e a =
-    rw (a, d ∙ given_columns tree input columns e) (accesses_inside source tree input form)
+given_accesses_inside tree input dag columns accesses form d e a =
+    rw (a, d ∙ given_columns tree input columns e) (accesses_inside tree input form)
 
 -- the races of the dag that is built are those of the program
 pub given_races : (tree : SyntaxTree) (input : List ℤ) (dag : List (List Node)) (columns : List Column) (accesses : List NodeAccess) (reports : List Report)

@@ -3,7 +3,7 @@
 
 ghost use Rattle.std.specs.Prelude.{◌≡◌, ◌≢◌, ℕ, ℤ, ◌≤◌, ◌⊎◌, ◌↔◌, List, [], Option, None, Some, IfOk, IfSome, OnErr, is_some, true};
 ghost use Rattle.pipe_model.specs.Language.CanonicalText.{program_text};
-ghost use Rattle.pipe_model.specs.Language.SourceRefusals.{IsAccepted};
+ghost use Rattle.pipe_model.specs.Language.CheckingRules.{BreaksNoRule};
 ghost use Rattle.pipe_model.specs.Language.SyntaxTree.{SyntaxTree, tree_of};
 ghost use Rattle.pipe_model.specs.Texts.{fault_read};
 ghost use Rattle.cilkp_program.specs.CallResults.{IsCallResult, IsPrinted, IsCutShort, IsGivenUp};
@@ -93,7 +93,7 @@ fn run_result(
     workers: u32,
     with_log: bool,
 ) -> Result<CommandResult, NoMemory>
-    requires { (source : List ℕ) × IsAccepted source (tree_of checked.now) }
+    requires { BreaksNoRule (tree_of checked.now) }
     ensures { IfOk result (IsRunResult (tree_of checked.now) input.now with_log) }
 {
     let run = run_program(alloc, checked, input, workers)?;
@@ -116,7 +116,7 @@ fn play_result(
     seed: u32,
     with_log: bool,
 ) -> Result<CommandResult, NoMemory>
-    requires accepted { (source : List ℕ) × IsAccepted source (tree_of checked.now) }
+    requires accepted { BreaksNoRule (tree_of checked.now) }
     requires workers { 1 ≤ workers }
     requires throttle { 1 ≤ throttle }
     requires seed { seed ≤ seeds.MOST_SEED }
@@ -138,7 +138,7 @@ fn elision_result(
     checked: &Checked,
     input: &Numbers,
 ) -> Result<CommandResult, NoMemory>
-    requires { (source : List ℕ) × IsAccepted source (tree_of checked.now) }
+    requires { BreaksNoRule (tree_of checked.now) }
     ensures outcome { IfOk result (λ a. ElisionResult (tree_of checked.now) input.now a.status a.text a.reports) }
     ensures log { IfOk result (λ a. a.run_log ≡ None) }
 {

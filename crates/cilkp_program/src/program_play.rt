@@ -1,9 +1,9 @@
 //! Plays an accepted program by the schedule of a seed.
 
-ghost use Rattle.std.specs.Prelude.{◌≤◌, ℕ, List, IfOk};
+ghost use Rattle.std.specs.Prelude.{◌≡◌, ◌≤◌, None, ℕ, List, IfOk};
 ghost use Rattle.cilkp_program.specs.RunResults.{IsSeededPlay};
 ghost use Rattle.pipe_gen.specs.declared.choices.TheConstants as seeds;
-ghost use Rattle.pipe_model.specs.Language.SourceRefusals.{IsAccepted};
+ghost use Rattle.pipe_model.specs.Language.CheckingRules.{BreaksNoRule};
 ghost use Rattle.pipe_model.specs.Language.SyntaxTree.{tree_of};
 
 use crate::program_run::FinishedRun;
@@ -26,7 +26,7 @@ pub fn play_program(
     throttle: u32,
     seed: u32,
 ) -> Result<FinishedRun, NoMemory>
-    requires accepted { (source : List ℕ) × IsAccepted source (tree_of checked.now) }
+    requires accepted { BreaksNoRule (tree_of checked.now) }
     requires workers { 1 ≤ workers }
     requires throttle { 1 ≤ throttle }
     requires seed { seed ≤ seeds.MOST_SEED }

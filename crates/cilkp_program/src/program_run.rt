@@ -1,8 +1,8 @@
 //! Runs an accepted program: its output, its trap, its log and its races.
 
-ghost use Rattle.std.specs.Prelude.{◌≡◌, ◌≤◌, ℕ, List, IfOk};
+ghost use Rattle.std.specs.Prelude.{◌≡◌, ◌≤◌, ℕ, List, IfOk, None};
 ghost use Rattle.dag_build.specs.NodeColumns.{node_columns};
-ghost use Rattle.pipe_model.specs.Language.SourceRefusals.{IsAccepted};
+ghost use Rattle.pipe_model.specs.Language.CheckingRules.{BreaksNoRule};
 ghost use Rattle.pipe_model.specs.Language.SyntaxTree.{tree_of};
 ghost use Rattle.pipe_model.specs.Races.FirstRaces.{AreFirstRaces};
 ghost use Rattle.program_laws.specs.WorkBounds.{instances_in};
@@ -56,7 +56,7 @@ pub struct FinishedRun {
 
 // Runs the serial elision of a program.
 fn elide(alloc: Global, checked: &Checked, input: &Numbers) -> Result<SerialRun, NoMemory>
-    requires { (source : List ℕ) × IsAccepted source (tree_of checked.now) }
+    requires { BreaksNoRule (tree_of checked.now) }
     ensures { IfOk result (λ r. IsElision (whole_of (tree_of checked.now) input.now) r) }
 {
     let code = lower(alloc, checked)?;
@@ -72,7 +72,7 @@ pub fn run_program(
     input: &Numbers,
     workers: u32,
 ) -> Result<FinishedRun, NoMemory>
-    requires { (source : List ℕ) × IsAccepted source (tree_of checked.now) }
+    requires { BreaksNoRule (tree_of checked.now) }
     ensures workers { IfOk result (λ r. r.workers ≡ workers) }
     ensures output { IfOk result (λ r. r.output ≡ elision_output (tree_of checked.now) input.now) }
     ensures trap { IfOk result (λ r. r.trap ≡ elision_trap (tree_of checked.now) input.now) }
@@ -104,7 +104,7 @@ pub fn run_elision(
     checked: &Checked,
     input: &Numbers,
 ) -> Result<FinishedRun, NoMemory>
-    requires { (source : List ℕ) × IsAccepted source (tree_of checked.now) }
+    requires { BreaksNoRule (tree_of checked.now) }
     ensures output { IfOk result (λ r. r.output ≡ elision_output (tree_of checked.now) input.now) }
     ensures trap { IfOk result (λ r. r.trap ≡ elision_trap (tree_of checked.now) input.now) }
     ensures reports { IfOk result (λ r. AreFirstRaces (elision_columns (tree_of checked.now) input.now)

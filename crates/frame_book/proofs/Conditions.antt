@@ -5,3 +5,4 @@ pub mod KeptCounters
 pub mod AdvancedStates
 pub mod Rescue
 pub mod WaitingForTokens
+pub mod OutTokens

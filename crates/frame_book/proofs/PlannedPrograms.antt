@@ -73,7 +73,7 @@ planned_limits tree h =
 -- ---- the plan
 
 pub accepted_programs_are_planned : AcceptedProgramsArePlanned
-accepted_programs_are_planned source tree input accepted = record {
+accepted_programs_are_planned tree input accepted = record {
   planned = record {
     proper = proper;
     rows = length-append (replicate n stages) (1 ∷ []) ∙ ap (λ k. k + 1) long;
@@ -91,7 +91,7 @@ accepted_programs_are_planned source tree input accepted = record {
     stages = natural tree.limits.stages
 
     proper : IsWellFormed (pipeline_of tree input)
-    proper = accepted_is_well_formed source tree input accepted
+    proper = accepted_is_well_formed tree input accepted
 
     limits : HasPlannedLimits tree.limits.iterations tree.limits.stages
     limits = planned_limits tree accepted.obeys

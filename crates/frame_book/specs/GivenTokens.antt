@@ -1,11 +1,12 @@
 -- Tokens that are passed to a book, and those that it returns.
-use Rattle.std.specs.Prelude.{ℕ, ℤ, List, ◌+◌, ◌^◌, ◌≤◌, length}
+use Rattle.std.specs.Prelude.{◌≡◌, ℕ, ℤ, List, [], ◌∷◌, ◌+◌, ◌^◌, ◌≤◌, length}
+use Rattle.pipe_model.specs.declared.event.Event.{Event}
 use Rattle.pipe_model.specs.Language.SyntaxTree.{SyntaxTree, tree_of}
 use Rattle.pipe_frame.specs.RunningTokens.{IsTokenOf}
 use Rattle.pipe_frame.specs.Ties.{Tie, BelongsTo, KnowsMarks}
 use Rattle.pipe_frame.specs.TokenFields.{TokenFields, fields_of}
 use Rattle.pipe_frame.specs.declared.token.FrameToken.{FrameToken}
-use Rattle.frame_book.specs.BookStates.{BookState, IsOut, events_of, replies_at}
+use Rattle.frame_book.specs.BookStates.{BookState, IsOut, Kept, Spent, events_of, item_or, last_ticket, replies_at}
 
 -- the fields are those of the token of a running instance that is out, and its ticket is in bounds
 pub record IsOutOf (v : BookState) (t : TokenFields) : Type 0 where
@@ -25,3 +26,10 @@ pub record IsGivenBy {M : Type 0} (Stands : SyntaxTree → List ℤ → M → �
   pub out : IsOutOf v (fields_of t)
   pub payload : IsPayloadOf Stands tie v t.iteration (replies_at v t.iteration) t.payload
   pub knows : KnowsMarks (tie t.payload) t.marks
+  pub parts : length (replies_at v t.iteration) ≡ t.index
+
+-- the fields of a token that was given out beside these events: its ticket is that of the last one; if there is none, it is the token
+-- that the book had kept
+abbrev pub IsGivenBeside : List Event → BookState → BookState → TokenFields → Type 0
+IsGivenBeside [] old new t = item_or Spent old.tokens t.iteration ≡ Kept t
+IsGivenBeside (e ∷ es) old new t = t.now ≡ last_ticket new.log

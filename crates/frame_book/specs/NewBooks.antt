@@ -1,8 +1,8 @@
 -- Books without events.
-use Rattle.std.specs.Prelude.{ℕ, ℤ, List, [], ◌∷◌, ◌≤◌, replicate, ◌++◌, pos, ◌≤ℤ◌}
+use Rattle.std.specs.Prelude.{◌≡◌, ℕ, ℤ, List, None, [], ◌∷◌, ◌≤◌, replicate, ◌++◌, pos, ◌≤ℤ◌}
 use Rattle.pipe_model.specs.declared.tree.Program.{Program}
 use Rattle.pipe_model.specs.Language.Programs.{natural, pipeline_of}
-use Rattle.pipe_model.specs.Language.SourceRefusals.{IsAccepted}
+use Rattle.pipe_model.specs.Language.CheckingRules.{BreaksNoRule}
 use Rattle.pipe_model.specs.Language.SyntaxTree.{SyntaxTree}
 use Rattle.pipe_frame.specs.Ties.{ListIdentities}
 use Rattle.program_laws.specs.WorkBounds.{most_instances}
@@ -18,7 +18,7 @@ pub record IsPlannedProgram (tree : SyntaxTree) (input : List ℤ) : Type 0 wher
 
 -- a book has room for each accepted program, on every input
 abbrev pub AcceptedProgramsArePlanned : Type 0
-AcceptedProgramsArePlanned = (source : List ℕ) (tree : SyntaxTree) (input : List ℤ) → IsAccepted source tree → IsPlannedProgram tree input
+AcceptedProgramsArePlanned = (tree : SyntaxTree) (input : List ℤ) → BreaksNoRule tree → IsPlannedProgram tree input
 
 abbrev pub new_book : Program → List ℤ → ℕ → ListIdentities → BookState
 new_book p input limit lists = record { program = p; input = input; limit = limit; lists = lists; log = []; traces = []; tokens = []; reads = 0 }

@@ -1,7 +1,7 @@
 //! The book, and its calls.
 
 ghost use Rattle.std.specs.Prelude.{◌≡◌, ◌≢◌, ◌↔◌, ◌+◌, ◌-◌, ◌*◌, ◌<◌, ◌≤◌, ◌^◌, [], ◌∷◌, ◌++◌, true, false, IsTrue, None, cond, ◌||◌, length, All, IfOk, IfSome, ℕ};
-ghost use Rattle.pipe_model.specs.Runs.Allowed.{MayBegin, MayEnter};
+ghost use Rattle.pipe_model.specs.Runs.Allowed.{IsRunning, MayBegin, MayEnter};
 ghost use Rattle.pipe_model.specs.Runs.Run.{IsFinished};
 ghost use Rattle.pipe_model.specs.Pipelines.Behaviour.{Performs, Staged, Ended, closes_at_once};
 ghost use Rattle.pipe_model.specs.Races.Columns.{nodes_at};
@@ -9,20 +9,23 @@ ghost use Rattle.pipe_model.specs.Runs.ControlRun.{ControlRun};
 ghost use Rattle.pipe_model.specs.Runs.RunLogs.{columns_after};
 ghost use Rattle.pipe_model.specs.Orders.Starts.{starts_of};
 ghost use Rattle.pipe_model.specs.Orders.TwoOrders.{down_first_log, right_first_log};
+ghost use Rattle.pipe_model.specs.Orders.OrderList.{IsLog};
 ghost use Rattle.pipe_model.specs.Runs.State.{own_columns};
 ghost use Rattle.pipe_model.specs.Language.SyntaxTree.{tree_of};
 ghost use Rattle.pipe_model.specs.declared.event.Event.TheVariants as events;
-ghost use Rattle.pipe_frame.specs.CallResults.{BeginReturns, AdvanceReturns, NameReturns, EnterReturns, RescueReturns, CanGoOn};
+ghost use Rattle.pipe_model.specs.Runs.State.{frame_at};
+ghost use Rattle.pipe_frame.specs.CallResults.{resume_events, BeginReturns, AdvanceReturns, NameReturns, EnterReturns, RescueReturns, CanGoOn};
 ghost use Rattle.pipe_frame.specs.StageEndCases.{NamesNextStage};
 ghost use Rattle.pipe_frame.specs.Ties.{KnowsMarks, BelongsTo};
 ghost use Rattle.pipe_frame.specs.TokenFields.{fields_of};
 ghost use Rattle.pipe_frame.specs.ResultTokens.{IfStarted, IfGo, IfNothing, IfToken};
-ghost use Rattle.frame_book.specs.BookStates.{HasRisingTickets, actions_at, events_of, state_of, with_events, with_last_raised, left_of, pipeline_in, replies_at, item_or, IsOut, Spent};
+ghost use Rattle.frame_book.specs.BookStates.{HasRisingTickets, actions_at, events_of, state_of, with_events, with_last_raised, left_of, pipeline_in, replies_at, item_or, last_ticket, IsOut, Spent};
 ghost use Rattle.pipe_frame.specs.Replies.{IsPerformed, accessed, replies_of};
+ghost use Rattle.order_2d.specs.SeenOrders.{AreOfLists, AreSameLists, HasSeen};
 ghost use Rattle.frame_book.specs.NewBooks.{IsPlannedProgram, new_book};
 ghost use Rattle.program_laws.specs.WorkBounds.{most_instances};
 ghost use Rattle.frame_book.specs.CallEffects.{identities_of_orders, after_stop, after_begin, with_named, with_finished, with_held, with_entered, after_enter, after_advance, folded_after, after_name_next, after_rescue, with_resumed, after_leave_ready, IsReady, kept_folded, stage_end};
-ghost use Rattle.frame_book.specs.GivenTokens.{IsGivenBy, IsOutOf, IsPayloadOf};
+ghost use Rattle.frame_book.specs.GivenTokens.{IsGivenBeside, IsGivenBy, IsOutOf, IsPayloadOf};
 
 use crate::copy::{copy_numbers, copy_program};
 use crate::folding::{count_of, fold_left, lets_enter, needs_left};
@@ -33,7 +36,9 @@ use crate::rows::{first_to_go_on, is_alive, last_has_ended_first, may_enter};
 use crate::start::{left_place, start_below, start_head};
 use dep_fold::folded::Folded;
 use order_2d::list_writer::ListWriter;
+use om_shared::writer::OmWriter;
 use order_2d::two_orders::TwoOrders;
+use order_2d::two_passes::TwoPasses;
 use pipe_frame::results::{Begun, Named, Next, Rescue};
 use pipe_frame::token::FrameToken;
 use pipe_model::column::ColumnEnd;
@@ -183,12 +188,14 @@ impl<M: Payload<L>, L: ListWriter + Drop> Book<M, L> {
     }
 
     /// Returns the log so far. Its events are a run of the control part, its tickets rise, and each
-    /// iteration has done what its program does.
+    /// iteration has done what its program does. If the run was not stopped, a token that is out is
+    /// that of a running instance.
     pub fn entries(&self) -> &[BookEntry]
         ensures log { result.now ≡ self.now.log }
         ensures rise { HasRisingTickets result.now }
         ensures control { ControlRun self.now.limit (events_of self.now.log) (state_of self.now) }
         ensures performs { (i : ℕ) → Performs ((pipeline_in self.now).behaviour i) (actions_at self.now i) }
+        ensures out { (state_of self.now).stopped ≡ false → (i : ℕ) → IsOut self.now i → IsRunning (state_of self.now) i }
     {
         self.ledger.entries()
     }
@@ -199,6 +206,7 @@ impl<M: Payload<L>, L: ListWriter + Drop> Book<M, L> {
         ensures rise { HasRisingTickets result }
         ensures control { ControlRun self.limit (events_of self.log) (state_of self) }
         ensures performs { (i : ℕ) → Performs ((pipeline_in self).behaviour i) (actions_at self i) }
+        ensures out { (state_of self).stopped ≡ false → (i : ℕ) → IsOut self i → IsRunning (state_of self) i }
     {
         self.ledger.into_log()
     }
@@ -220,6 +228,7 @@ impl<M: Payload<L>, L: ListWriter + Drop> Book<M, L> {
         ensures answer { BeginReturns self.old.limit (state_of self.old) result }
         ensures book { self.new ≡ after_begin self.old result }
         ensures token { IfStarted result (IsGivenBy M.stands M.tie self.new) }
+        ensures now { IfStarted result (λ t. t.now ≡ last_ticket self.new.log) }
     {
         if self.stopped {
             return Begun::Stopped;
@@ -307,6 +316,7 @@ impl<M: Payload<L>, L: ListWriter + Drop> Book<M, L> {
         ensures book { self.new ≡ with_entered self.old iteration }
         ensures instance { (result.iteration ≡ iteration) × (result.index ≡ length (nodes_at (own_columns (state_of self.old)) iteration)) }
         ensures folded { result.folded ≡ kept_folded (item_or Spent self.old.tokens iteration) }
+        ensures now { result.now ≡ last_ticket self.new.log }
         ensures token { IsGivenBy M.stands M.tie self.new result }
     {
         let row = &mut self.rows[iteration as usize];
@@ -350,6 +360,7 @@ impl<M: Payload<L>, L: ListWriter + Drop> Book<M, L> {
         ensures answer { AdvanceReturns (state_of self.old) token.iteration token.index end result }
         ensures book { self.new ≡ after_advance self.old (fields_of token) end trace result }
         ensures token { IfGo result (λ t. IsGivenBy M.stands M.tie self.new t × (t.folded ≡ folded_after self.old (fields_of token) end)) }
+        ensures now { IfGo result (λ t. t.now ≡ last_ticket self.new.log) }
     {
         if self.stopped {
             self.hold(token, trace);
@@ -384,6 +395,7 @@ impl<M: Payload<L>, L: ListWriter + Drop> Book<M, L> {
         ensures answer { AdvanceReturns (state_of self.old) token.iteration token.index (stage_end kind number) result }
         ensures book { self.new ≡ after_advance self.old (fields_of token) (stage_end kind number) trace result }
         ensures token { IfGo result (λ t. IsGivenBy M.stands M.tie self.new t × (t.folded ≡ folded_after self.old (fields_of token) (stage_end kind number))) }
+        ensures now { IfGo result (λ t. t.now ≡ last_ticket self.new.log) }
     {
         let iteration = token.iteration;
         let read = needs_left(&token.folded, kind, iteration, number);
@@ -445,6 +457,7 @@ impl<M: Payload<L>, L: ListWriter + Drop> Book<M, L> {
         ensures answer { EnterReturns (state_of self.old) iteration result }
         ensures book { self.new ≡ after_enter self.old result }
         ensures token { IfSome result (IsGivenBy M.stands M.tie self.new) }
+        ensures now { IfSome result (λ t. t.now ≡ last_ticket self.new.log) }
     {
         if self.stopped {
             return None;
@@ -460,6 +473,7 @@ impl<M: Payload<L>, L: ListWriter + Drop> Book<M, L> {
         ensures answer { EnterReturns (state_of self.old) (iteration + 1) result }
         ensures book { self.new ≡ after_enter self.old result }
         ensures token { IfSome result (IsGivenBy M.stands M.tie self.new) }
+        ensures now { IfSome result (λ t. t.now ≡ last_ticket self.new.log) }
     {
         if iteration as usize + 1 >= self.rows.len() {
             return None;
@@ -475,6 +489,7 @@ impl<M: Payload<L>, L: ListWriter + Drop> Book<M, L> {
         ensures answer { RescueReturns self.old.limit (state_of self.old) (IsReady self.old) result }
         ensures book { self.new ≡ after_rescue self.old result }
         ensures token { IfToken result (IsGivenBy M.stands M.tie self.new) }
+        ensures now { IfToken result (λ t. IsGivenBeside (resume_events (frame_at (state_of self.old).frames t.iteration) t.iteration) self.old self.new (fields_of t)) }
         ensures nothing { IfNothing result ((i : ℕ) × IsOut self.old i) }
     {
         if self.stopped {
@@ -532,6 +547,7 @@ impl<M: Payload<L>, L: ListWriter + Drop> Book<M, L> {
         ensures iteration { result.iteration ≡ iteration }
         ensures book { self.new ≡ with_resumed self.old iteration }
         ensures token { IsGivenBy M.stands M.tie self.new result }
+        ensures now { IsGivenBeside (resume_events (frame_at (state_of self.old).frames iteration) iteration) self.old self.new (fields_of result) }
     {
         let row = &mut self.rows[iteration as usize];
         match row.status() {
@@ -581,4 +597,19 @@ fn either(a: bool, b: bool) -> bool
     ensures { result ≡ (a || b) }
 {
     a || b
+}
+
+impl<M: Payload<OmWriter>> Book<M, OmWriter> {
+    /// Shows the passes all elements of the two order lists. They must be of these lists.
+    pub fn confirm(&mut self, passes: &mut TwoPasses)
+        requires { AreOfLists passes.old self.old.lists.down self.old.lists.right }
+        ensures same { self.new ≡ self.old }
+        ensures down { passes.new.down_log ≡ down_first_log (starts_of (events_of self.old.log)) }
+        ensures right { passes.new.right_log ≡ right_first_log (columns_after (events_of self.old.log)) (starts_of (events_of self.old.log)) }
+        ensures lists { AreSameLists passes.new passes.old }
+        ensures later { HasSeen passes.new passes.old }
+        ensures logs { IsLog 1 passes.new.down_log × IsLog 1 passes.new.right_log }
+    {
+        self.orders.confirm(passes);
+    }
 }

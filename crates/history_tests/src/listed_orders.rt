@@ -1,6 +1,6 @@
 //! Two orders that are given as lists.
 
-ghost use Rattle.std.specs.Prelude.{◌≡◌, IsTrue, true};
+ghost use Rattle.std.specs.Prelude.{◌≡◌, IsTrue, true, []};
 ghost use Rattle.std.specs.Bool.{OnTrue};
 ghost use Rattle.pipe_model.specs.Orders.GrowingLists.{AreIn};
 ghost use Rattle.pipe_model.specs.Orders.OrderList.{has, place};
@@ -52,7 +52,7 @@ impl<'a> Orders for ListedOrders<'a> {
 
     ghost right_first = { λ o. o.right.now };
 
-    ghost identity = { λ o. 0 };
+    ghost identity = { λ o. [] };
 
     fn down_before(&mut self, a: &Marks, b: &Marks) -> bool {
         place_of(self.down, a.down_first) < place_of(self.down, b.down_first)

@@ -10,7 +10,6 @@ use Rattle.pipe_model.specs.Language.CheckingRules.{Fault, fault_of, is_between,
 use Rattle.pipe_model.specs.Language.Interaction.{Interaction, with_budget}
 use Rattle.pipe_model.specs.Pipelines.Pipeline.{AlwaysClosesLoop, IsWellFormed}
 use Rattle.pipe_model.specs.Language.Programs.{natural, pipeline_of, setting_of}
-use Rattle.pipe_model.specs.Language.SourceRefusals.{IsAccepted}
 use Rattle.pipe_model.specs.Language.SyntaxTree.{Expression, Statements, SyntaxTree}
 use Rattle.language_laws.proofs.LegalStages.{Rises, RisesReturn, RisesRaise, RisesStep, EndsRightly, either_by_zero, legal-with_budget, rises-bind, rises-execute_all, straight-then}
 use Rattle.language_laws.proofs.Straight.{IsStraight, Returns, Raises, Steps, Gets, Sets, straight-bind, straight-evaluate}
@@ -71,8 +70,8 @@ iterations_in_range : (tree : SyntaxTree) → fault_of tree ≡ None → is_betw
 iterations_in_range tree h = first_in_range (is_between (pos 1) (pos 65536) tree.limits.iterations) _ (no_limit_out (first_limit_out tree.limits) _ h)
 
 -- an accepted program is a well-formed pipeline
-pub accepted_is_well_formed : (source : List ℕ) (tree : SyntaxTree) (input : List ℤ) → IsAccepted source tree → IsWellFormed (pipeline_of tree input)
-accepted_is_well_formed source tree input a = record {
+pub accepted_is_well_formed : (tree : SyntaxTree) (input : List ℤ) → BreaksNoRule tree → IsWellFormed (pipeline_of tree input)
+accepted_is_well_formed tree input a = record {
   legal = λ i. legal-with_budget (natural tree.limits.steps) (natural tree.limits.steps)
       (rises-run_iteration (setting_of tree input i) tree.test tree.body);
   closes =

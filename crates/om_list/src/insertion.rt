@@ -1,6 +1,6 @@
 //! Insertions into links and labels.
 
-ghost use Rattle.std.specs.Prelude.{◌≡◌, ◌≢◌, ◌<◌, ◌+◌, length, slice_index, vec_capacity, vec_len};
+ghost use Rattle.std.specs.Prelude.{◌≡◌, ◌≢◌, ◌<◌, ◌+◌, ◌++◌, ◌∷◌, [], length, slice_index, vec_capacity, vec_len};
 ghost use Rattle.om_relabel.specs.LabelledLinks.{AreLabelled, elements, label_of};
 ghost use Rattle.om_relabel.specs.Links.{label_after};
 ghost use Rattle.om_list.specs.KeptLists.{links_back, links_with};
@@ -39,8 +39,8 @@ fn link_back(prev: &mut Vec<u32>, x: u32, after: u32)
     prev.push_reserved(x);
 }
 
-// Inserts a new element with a given label after `x`.
-fn insert_labelled(links: &mut Links, x: u32, label: u64)
+/// Inserts a new element with a given label after `x`.
+pub fn insert_labelled(links: &mut Links, x: u32, label: u64)
     requires labelled { AreLabelled links.old }
     requires there { x < length links.old.label.items }
     requires above { label_of links.old x < label }
@@ -51,6 +51,7 @@ fn insert_labelled(links: &mut Links, x: u32, label: u64)
     requires label_room { vec_len links.old.label < vec_capacity links.old.label }
     ensures labelled { AreLabelled links.new }
     ensures list { elements links.new ≡ insert_after x (length links.old.label.items) (elements links.old) }
+    ensures labels { links.new.label.items ≡ links.old.label.items ++ label ∷ [] }
     ensures long { length links.new.label.items ≡ length links.old.label.items + 1 }
     ensures next_room { vec_capacity links.new.next ≡ vec_capacity links.old.next }
     ensures prev_room { vec_capacity links.new.prev ≡ vec_capacity links.old.prev }

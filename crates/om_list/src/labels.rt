@@ -9,7 +9,7 @@ use om_relabel::links::{END, Links, TOP};
 use om_relabel::spreading::relabel;
 
 /// Returns the label of the element after `x`, or `TOP` if `x` is the last.
-pub(crate) fn next_label(links: &Links, x: u32) -> u64
+pub fn next_label(links: &Links, x: u32) -> u64
     requires labelled { AreLabelled links.now }
     requires there { x < length links.now.label.items }
     ensures { result ≡ label_after links.now.label.items (slice_index links.now.next.items x) }
@@ -21,8 +21,8 @@ pub(crate) fn next_label(links: &Links, x: u32) -> u64
     links.label[after as usize]
 }
 
-// Whether a label between those of `x` and of the next element is free.
-fn has_free_label(links: &Links, x: u32) -> bool
+/// Returns whether a label between those of `x` and of the next element is free.
+pub fn has_free_label(links: &Links, x: u32) -> bool
     requires labelled { AreLabelled links.now }
     requires there { x < length links.now.label.items }
     ensures { IsTrue result ↔ (label_of links.now x + 2 ≤ label_after links.now.label.items (slice_index links.now.next.items x)) }

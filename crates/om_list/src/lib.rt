@@ -3,6 +3,6 @@
 //! ones, and the order of any two is decided by comparing two labels.
 #![tactic(auto)]
 
-mod insertion;
-mod labels;
+pub mod insertion;
+pub mod labels;
 pub mod om_list;

@@ -152,7 +152,7 @@ range_next links h range s k l =
 
 -- one element more has its new label
 pub one_more_spread : (links : Links) → AreLabelled links → (range : LabelRange) → IsSparseRange links range
-    → (labels : List ℕ) → length labels ≡ length links.label.items → (k element label : ℕ) → k < range.count
+    → (labels : List ℕ) → length links.label.items ≤ length labels → (k element label : ℕ) → k < range.count
     → element ≡ slice_index (elements_of links range) k → label ≡ spread_label range k
     → IsSpread links (λ y. slice_index labels y) range k
     → IsSpread links (λ y. slice_index (slice_set labels element label) y) range (k + 1)

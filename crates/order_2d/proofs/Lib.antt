@@ -5,4 +5,6 @@ pub mod ListsSoFar
 pub mod OwnLogs
 pub mod ParentMarks
 pub mod PlacedMarks
+pub mod QuestionIdentities
 pub mod RowsSoFar
+pub mod SeenLogs

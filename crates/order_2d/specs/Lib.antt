@@ -1,4 +1,5 @@
 pub mod LogStarts
 pub mod OrderPairs
 pub mod ReplayedOrders
+pub mod SeenOrders
 pub mod StartedNodes

@@ -10,3 +10,4 @@ pub mod replay;
 pub mod started;
 mod starts;
 pub mod two_orders;
+pub mod two_passes;

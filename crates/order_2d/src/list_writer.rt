@@ -1,9 +1,11 @@
 //! Lists into which elements are inserted.
 
 ghost use Rattle.std.specs.Prelude.{◌≡◌, ◌<◌, ◌≤◌, ◌+◌, ◌++◌, ◌∷◌, [], length};
+ghost use Rattle.om_shared.specs.SharedLists.{identity_of};
 ghost use Rattle.order_2d.specs.OrderPairs.{OrderedList};
 
 use om_list::om_list::OmList;
+use om_shared::writer::OmWriter;
 
 /// A list for order maintenance. Contracts see the log of its insertions, its capacity, and which
 /// list it is, if it has an identity.
@@ -27,5 +29,13 @@ impl ListWriter for OmList {
 
     fn insert_after(&mut self, x: u32) -> u32 {
         OmList::insert_after(self, x)
+    }
+}
+
+impl ListWriter for OmWriter {
+    ghost list = { λ l. record { log = l.log; capacity = l.capacity; identity = identity_of l.table } };
+
+    fn insert_after(&mut self, x: u32) -> u32 {
+        OmWriter::insert_after(self, x)
     }
 }

@@ -1,6 +1,6 @@
 //! Questions about two lists that do not change meanwhile.
 
-ghost use Rattle.std.specs.Prelude.{◌≡◌, ◌↔◌, IsTrue, true};
+ghost use Rattle.std.specs.Prelude.{◌≡◌, ◌↔◌, IsTrue, true, []};
 ghost use Rattle.pipe_model.specs.Orders.OrderList.{IsLog, StandsBefore, has, list_of_log};
 
 use crate::two_orders::TwoOrders;
@@ -54,7 +54,7 @@ impl<'a> Orders for PlainOrders<'a> {
 
     ghost right_first = { λ o. list_of_log o.right };
 
-    ghost identity = { λ o. 0 };
+    ghost identity = { λ o. [] };
 
     fn down_before(&mut self, a: &Marks, b: &Marks) -> bool {
         is_before(self.down, a.down_first, b.down_first)

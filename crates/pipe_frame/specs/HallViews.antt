@@ -3,8 +3,8 @@ use Rattle.std.specs.Prelude.{◌≡◌, ℕ, ℤ, List, [], ◌∷◌, ◌++◌
 use Rattle.pipe_model.specs.declared.access.Access.{Access}
 use Rattle.pipe_model.specs.declared.event.Event.{Event}
 use Rattle.pipe_model.specs.declared.ticket.Entry.{Entry}
-use Rattle.pipe_model.specs.Language.SyntaxTree.{SyntaxTree}
 use Rattle.pipe_model.specs.Pipelines.Behaviour.{read_access, write_access}
+use Rattle.pipe_model.specs.Runs.Allowed.{IsRunning}
 use Rattle.pipe_model.specs.Runs.RunLogs.{state_after}
 use Rattle.pipe_model.specs.Runs.State.{State}
 use Rattle.pipe_frame.specs.CallResults.{RescueReturns, rescue_events}
@@ -14,13 +14,6 @@ use Rattle.pipe_frame.specs.declared.results.Reply.{Reply}
 use Rattle.pipe_frame.specs.declared.results.Reply.TheVariants.{Value, Done, Stopped}
 use Rattle.pipe_frame.specs.declared.results.Rescue.{Rescue}
 use Rattle.pipe_frame.specs.declared.token.FrameToken.{FrameToken}
-
--- the identity of a hall, and the program, the input and the throttling limit of its book
-pub record HallName : Type 0 where
-  pub hall : List ℕ
-  pub tree : SyntaxTree
-  pub input : List ℤ
-  pub limit : ℕ
 
 -- ---- events
 
@@ -41,6 +34,7 @@ pub record RescueSees {M : Type 0} (limit : ℕ) (before after : List Event) (re
   pub later : BeginsWith base before
   pub adds : after ≡ base ++ rescue_events (state_after base) result
   pub ready : List ℕ
+  pub running : (i : ℕ) → Contains ready i → IsRunning (state_after base) i
   pub returns : RescueReturns limit (state_after base) (λ i. Contains ready i) result
 
 -- ---- tokens that are out

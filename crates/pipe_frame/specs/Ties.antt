@@ -2,6 +2,7 @@
 use Rattle.std.specs.Prelude.{◌≡◌, ◌≤◌, ℕ, ℤ, List, [], ◌∷◌, length, Option, Some, None}
 use Rattle.pipe_model.specs.declared.marks.Marks.{Marks}
 use Rattle.pipe_model.specs.declared.ticket.Entry.{Entry}
+use Rattle.pipe_model.specs.Language.SyntaxTree.{SyntaxTree}
 use Rattle.pipe_frame.specs.TokenFields.{TokenFields}
 
 -- the identities of two order lists, and as much of their insertion logs as was seen
@@ -11,10 +12,23 @@ pub record SeenLists : Type 0 where
   pub down_log : List ℕ
   pub right_log : List ℕ
 
--- the seat of a running instance: the identity of its hall, its number there, the fields of the instance's token, the replies of the
+-- the identities of the lists of two orders; the empty one is that of a list without an identity
+pub record ListIdentities : Type 0 where
+  pub down : List ℕ
+  pub right : List ℕ
+
+-- the identity of a hall, the program, the input and the throttling limit of its book, and the identities of its order lists
+pub record HallName : Type 0 where
+  pub hall : List ℕ
+  pub tree : SyntaxTree
+  pub input : List ℤ
+  pub limit : ℕ
+  pub lists : ListIdentities
+
+-- the seat of a running instance: its hall, its number there, the fields of the instance's token, the replies of the
 -- iteration before the instance, and the accesses of the instance
 pub record InstanceSeat : Type 0 where
-  pub hall : List ℕ
+  pub hall : HallName
   pub seat : ℕ
   pub fields : TokenFields
   pub replies : List (List ℤ)
@@ -24,11 +38,6 @@ pub record InstanceSeat : Type 0 where
 pub record Tie : Type 0 where
   pub lists : Option SeenLists
   pub seat : Option InstanceSeat
-
--- the identities of the lists of two orders; the empty one is that of a list without an identity
-pub record ListIdentities : Type 0 where
-  pub down : List ℕ
-  pub right : List ℕ
 
 -- the lists that were seen are these; lists without an identity may be any
 abbrev pub AreSeenLists : Option SeenLists → List ℕ → List ℕ → Type 0

@@ -8,7 +8,10 @@ ghost use Rattle.pipe_frame.specs.HallViews.{AccessReturns, BeginsWith, IsGivenT
 ghost use Rattle.pipe_frame.specs.Replies.{IsPerformed, replies_of};
 ghost use Rattle.pipe_frame.specs.ResultTokens.{IfGo, IfStarted, IfToken};
 ghost use Rattle.pipe_frame.specs.StageEndCases.{NamesNextStage};
+ghost use Rattle.pipe_frame.specs.RunningTokens.{IsTokenOf};
 ghost use Rattle.pipe_frame.specs.TokenFields.{fields_of};
+ghost use Rattle.std.specs.Prelude.{ℕ, ℤ, List};
+ghost use Rattle.pipe_model.specs.Language.SyntaxTree.{SyntaxTree};
 
 use crate::results::{Begun, Next, Reply, Rescue};
 use crate::stands::Stands;
@@ -25,8 +28,8 @@ pub trait Hall<M: Stands + Drop> {
     ghost use Rattle.std.specs.Prelude.{ℕ, ℤ, List};
     ghost use Rattle.pipe_model.specs.declared.event.Event.{Event};
     ghost use Rattle.pipe_model.specs.declared.ticket.Entry.{Entry};
-    ghost use Rattle.pipe_frame.specs.HallViews.{HallName, IsOutToken};
-    ghost use Rattle.pipe_frame.specs.Ties.{Tie};
+    ghost use Rattle.pipe_frame.specs.HallViews.{IsOutToken};
+    ghost use Rattle.pipe_frame.specs.Ties.{HallName, Tie};
     ghost use Rattle.pipe_frame.specs.TokenFields.{TokenFields};
 
     /// Its program, input and throttling limit, and which hall it is. No call changes them.
@@ -51,7 +54,8 @@ pub trait Hall<M: Stands + Drop> {
     fn begin<R: Wait>(&mut self, rt: &R) -> Begun<M>
         ensures named { named self.new ≡ named self.old }
         ensures sees { Sees (seen self.old) (seen self.new) (begin_events result) (λ s. BeginReturns (named self.old).limit s result) }
-        ensures token { IfStarted result (IsGivenToken (is_out (named self.old)) (replies (named self.old)) (entries (named self.old)) (M.stands (named self.old).tree (named self.old).input) M.tie) };
+        ensures token { IfStarted result (IsGivenToken (is_out (named self.old)) (replies (named self.old)) (entries (named self.old)) (M.stands (named self.old).tree (named self.old).input) M.tie) }
+        ensures runs { IfStarted result (λ t. IsTokenOf (seen self.new) (fields_of t)) };
 
     /// Ends the instance of the token, which made these accesses, and starts the next one if it may
     /// start at once.
@@ -70,19 +74,22 @@ pub trait Hall<M: Stands + Drop> {
         requires stopped { end ≡ StageEnd.Stopped → (state_after (seen self.old)).stopped ≡ true }
         ensures named { named self.new ≡ named self.old }
         ensures sees { Sees (seen self.old) (seen self.new) (advance_events token.iteration end result) (λ s. AdvanceReturns s token.iteration token.index end result) }
-        ensures token { IfGo result (IsGivenToken (is_out (named self.old)) (replies (named self.old)) (entries (named self.old)) (M.stands (named self.old).tree (named self.old).input) M.tie) };
+        ensures token { IfGo result (IsGivenToken (is_out (named self.old)) (replies (named self.old)) (entries (named self.old)) (M.stands (named self.old).tree (named self.old).input) M.tie) }
+        ensures runs { IfGo result (λ t. IsTokenOf (seen self.new) (fields_of t)) };
 
     /// Starts the instance for which the right neighbour of an iteration waits, if it may start.
     fn check_right<R: Wait>(&mut self, rt: &R, iteration: u32) -> Option<FrameToken<M>>
         ensures named { named self.new ≡ named self.old }
         ensures sees { Sees (seen self.old) (seen self.new) (enter_events result) (λ s. EnterReturns s (iteration + 1) result) }
-        ensures token { IfSome result (IsGivenToken (is_out (named self.old)) (replies (named self.old)) (entries (named self.old)) (M.stands (named self.old).tree (named self.old).input) M.tie) };
+        ensures token { IfSome result (IsGivenToken (is_out (named self.old)) (replies (named self.old)) (entries (named self.old)) (M.stands (named self.old).tree (named self.old).input) M.tie) }
+        ensures runs { IfSome result (λ t. IsTokenOf (seen self.new) (fields_of t)) };
 
     /// Returns something to do for a worker that has nothing.
     fn rescue<R: Wait>(&mut self, rt: &R) -> Rescue<M>
         ensures named { named self.new ≡ named self.old }
         ensures sees { RescueSees (named self.old).limit (seen self.old) (seen self.new) result }
-        ensures token { IfToken result (IsGivenToken (is_out (named self.old)) (replies (named self.old)) (entries (named self.old)) (M.stands (named self.old).tree (named self.old).input) M.tie) };
+        ensures token { IfToken result (IsGivenToken (is_out (named self.old)) (replies (named self.old)) (entries (named self.old)) (M.stands (named self.old).tree (named self.old).input) M.tie) }
+        ensures runs { IfToken result (λ t. IsTokenOf (seen self.new) (fields_of t)) };
 
     /// Leaves an instance that has made no access to others, which find it by `rescue`.
     fn leave_ready<R: Wait>(&mut self, rt: &R, token: FrameToken<M>)
@@ -109,6 +116,8 @@ pub trait Hall<M: Stands + Drop> {
         ensures named { named self.new ≡ named self.old }
         ensures out { is_out (named self.old) (fields_of token.new) (M.tie token.new.payload) }
         ensures instance { IsSameInstance (fields_of token.old) (fields_of token.new) (M.tie token.old.payload) (M.tie token.new.payload) }
+        ensures whole { (tree : SyntaxTree) → M.whole tree token.old.payload → M.whole tree token.new.payload }
+        ensures stands { (tree : SyntaxTree) (input : List ℤ) (i : ℕ) (before : List (List ℤ)) → M.stands tree input token.old.payload i before → M.stands tree input token.new.payload i before }
         ensures replies { replies (named self.old) (fields_of token.new) (M.tie token.new.payload) ≡ replies (named self.old) (fields_of token.old) (M.tie token.old.payload) }
         ensures access { AccessReturns cell.0 write trace.old trace.new result }
         ensures trace { trace.new ≡ entries (named self.old) (fields_of token.new) (M.tie token.new.payload) }

@@ -17,7 +17,7 @@ pub trait Orders {
     ghost right_first: { Self → List ℕ };
 
     /// Which lists these are, if there are several; a question does not change it.
-    ghost identity: { Self → ℕ };
+    ghost identity: { Self → List (List ℕ) };
 
     /// Returns whether the first instance is strictly before the second in the down-first list.
     /// Both must be in the lists.

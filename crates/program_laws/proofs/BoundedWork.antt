@@ -361,11 +361,11 @@ stages_from_one tree h =
     from_one (pos 4096) tree.limits.stages second.0
 
 pub program_runs_are_bounded : ProgramRunsAreBounded
-program_runs_are_bounded source tree input limit events s a r going =
+program_runs_are_bounded tree input limit events s a r going =
     let budget = natural tree.limits.steps in
     let stages = natural tree.limits.stages in
     let last = natural tree.limits.iterations in
-    let well = accepted_is_well_formed source tree input a in
+    let well = accepted_is_well_formed tree input a in
     let one = stages_from_one tree a.obeys in
     let h = runs_are_bounded (pipeline_after_init tree input) limit (2 * budget) (further last stages) events s r well.closes
     (λ i. further_bounded last stages (2 * budget) i ((pipeline_of tree input).behaviour i)

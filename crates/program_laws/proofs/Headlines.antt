@@ -93,6 +93,6 @@ headline_of w limit log [] races run right m (Some t) is =
     }
 
 pub runs_meet_the_headline : RunsMeetTheHeadline
-runs_meet_the_headline source tree input limit log reports races a run right =
-    headline_of (whole_of tree input) limit log reports races run right (accepted_programs_meet_the_elision source tree input limit log a run)
+runs_meet_the_headline tree input limit log reports races a run right =
+    headline_of (whole_of tree input) limit log reports races run right (accepted_programs_meet_the_elision tree input limit log a run)
     (run_trap (whole_of tree input) (state_after log.events)) refl

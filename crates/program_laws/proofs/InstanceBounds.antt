@@ -154,12 +154,12 @@ within_last p limit events s r closing = elim (cases_lt (p.last_iteration + 1) (
 ]
 
 pub program_instances_are_bounded : ProgramInstancesAreBounded
-program_instances_are_bounded source tree input limit events s a r =
+program_instances_are_bounded tree input limit events s a r =
     let p = pipeline_after_init tree input in
     let budget = natural tree.limits.steps in
     let stages = natural tree.limits.stages in
     let last = natural tree.limits.iterations in
-    let well = accepted_is_well_formed source tree input a in
+    let well = accepted_is_well_formed tree input a in
     let one = stages_from_one tree a.obeys in
     let traced = run_traced r in
     let each : (i : ℕ) (f : Frame) → frame_at s.frames i ≡ Some f → length f.nodes ≤ further last stages i + 1 =

@@ -162,7 +162,7 @@ rest_is_none None rest h = h
 rest_is_none (Some which) rest h = absurd (cc)
 
 pub parts_are_one_instance : PartsAreOneInstance
-parts_are_one_instance source tree input a =
+parts_are_one_instance tree input a =
     let init = marks_of_statements (opening regions.Init tree.cells) tree.init in
     let test = marks_of_expression (opening regions.Test tree.cells) tree.test in
     let body = marks_of_statements (opening regions.Body tree.cells) tree.body in

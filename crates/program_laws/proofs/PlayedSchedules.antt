@@ -19,7 +19,7 @@ use Rattle.language_laws.proofs.WellFormed.{accepted_is_well_formed}
 use Rattle.run_laws.proofs.RunStates.Frames.{frame_at_within}
 use Rattle.run_laws.proofs.RunStates.RunInvariant.{run_consistent}
 use Rattle.pipe_model.specs.Runs.Schedules.{candidates, chosen, choice_at, after_choice, played, played_from, PlayedRun, NoTurn, OneTurn}
-use Rattle.pipe_model.specs.Language.SourceRefusals.{IsAccepted}
+use Rattle.pipe_model.specs.Language.CheckingRules.{BreaksNoRule}
 use Rattle.program_laws.specs.WorkBounds.{most_instances}
 use Rattle.pipe_model.specs.Language.ProgramsOfTrees.{pipeline_after_init}
 use Rattle.program_laws.specs.ScheduleLaws.{FinishedRunsHaveNoCandidate, SchedulesPlayRuns, SchedulesFinish}
@@ -140,12 +140,12 @@ first_in [] l = absurd (omega (arith, l))
 first_in (x ∷ xs) l = (x, Here)
 
 -- a played run of an accepted program is finished if it is as long as the bound
-long_is_finished : (source : List ℕ) (tree : _) (input : List ℤ) (limit workers : ℕ) (events : List Event) (s : State) → IsAccepted source tree
+long_is_finished : (tree : _) (input : List ℤ) (limit workers : ℕ) (events : List Event) (s : State) → BreaksNoRule tree
     → 0 < limit → 0 < workers → PlayedRun (pipeline_after_init tree input) limit workers events s
     → most_instances tree * (2 * natural tree.limits.steps + 2) ≤ length events → IsFinished s
-long_is_finished source tree input limit workers events s a one busy r le =
+long_is_finished tree input limit workers events s a one busy r le =
     let p = pipeline_after_init tree input in
-    let given = accepted_is_well_formed source tree input a in
+    let given = accepted_is_well_formed tree input a in
     let well : IsWellFormed p = record { legal = given.legal; closes = given.closes } in
     let k = played_runs_are_runs p limit workers events s r well in
     elim (runs_have_candidates p limit workers events s k.run well one busy k.not_stopped) [
@@ -154,20 +154,20 @@ long_is_finished source tree input limit workers events s a one busy r le =
           let e = first_in (candidates p limit workers s) some in
           let longer : PlayedRun p limit workers (events ++ e.0 ∷ []) (next_state s e.0) = OneTurn r e.0 e.1 in
           let l = played_runs_are_runs p limit workers (events ++ e.0 ∷ []) (next_state s e.0) longer well in
-          let b = (program_runs_are_bounded source tree input limit (events ++ e.0 ∷ []) (next_state s e.0) a l.run l.not_stopped).0 in
+          let b = (program_runs_are_bounded tree input limit (events ++ e.0 ∷ []) (next_state s e.0) a l.run l.not_stopped).0 in
           let w = length_push events e.0 in
           absurd (omega (arith, b, w, le)))
     ]
 
 pub schedules_finish : SchedulesFinish
-schedules_finish source tree input limit workers choices turns a one busy le =
+schedules_finish tree input limit workers choices turns a one busy le =
     let p = pipeline_after_init tree input in
-    let given = accepted_is_well_formed source tree input a in
+    let given = accepted_is_well_formed tree input a in
     let well : IsWellFormed p = record { legal = given.legal; closes = given.closes } in
     let h = schedules_play_runs p limit workers choices turns well one busy in
     elim (cases_lt (length (played p limit workers choices turns)) turns) [
       | inl short ↦ h.ended short
-      | inr long ↦ long_is_finished source tree input limit workers (played p limit workers choices turns)
+      | inr long ↦ long_is_finished tree input limit workers (played p limit workers choices turns)
           (state_after (played p limit workers choices turns)) a one busy h.run
           (omega (arith, long, le))
     ]

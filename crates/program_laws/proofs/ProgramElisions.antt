@@ -60,9 +60,9 @@ program_elision_is_a_run w limit well room = elim (cases_Bool (is_some (init_tra
 ]
 
 pub accepted_programs_meet_the_elision : AcceptedProgramsMeetTheElision
-accepted_programs_meet_the_elision source tree input limit log a h =
+accepted_programs_meet_the_elision tree input limit log a h =
     let w = whole_of tree input in
-    let well = accepted_is_well_formed source tree input a in
+    let well = accepted_is_well_formed tree input a in
     let serial = λ (free : IsRaceFree (columns_after log.events) (accesses_after log.events)).
     race_free_program_runs_are_serial w limit log.events (state_after log.events) h.run well.closes h.finished free in
     record {

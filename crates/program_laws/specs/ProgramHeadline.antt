@@ -7,7 +7,7 @@ use Rattle.pipe_model.specs.Pipelines.Behaviour.{column_of}
 use Rattle.pipe_model.specs.Races.DeterminacyRaces.{IsRaceFree}
 use Rattle.pipe_model.specs.Races.Reports.{AreRight}
 use Rattle.pipe_model.specs.Runs.RunLogs.{accesses_after, columns_after, state_after}
-use Rattle.pipe_model.specs.Language.SourceRefusals.{IsAccepted}
+use Rattle.pipe_model.specs.Language.CheckingRules.{BreaksNoRule}
 use Rattle.pipe_model.specs.Language.SyntaxTree.{SyntaxTree}
 use Rattle.pipe_model.specs.Texts.{output_lines, trap_lines}
 use Rattle.pipe_model.specs.Runs.Throttling.{IsThrottled}
@@ -46,7 +46,7 @@ printed_text (r ∷ rs) races output trap = races
 -- a call that makes a finished run of an accepted program and prints right reports, or else the run's output and trap, meets the headline
 abbrev pub RunsMeetTheHeadline : Type 0
 RunsMeetTheHeadline =
-    (source : List ℕ) (tree : SyntaxTree) (input : List ℤ) (limit : ℕ) (log : RunLog) (reports : List Report) (races : List ℕ) → IsAccepted source tree
+    (tree : SyntaxTree) (input : List ℤ) (limit : ℕ) (log : RunLog) (reports : List Report) (races : List ℕ) → BreaksNoRule tree
     → IsFinishedProgramRun (whole_of tree input) limit log
     → AreRight (columns_after log.events) (accesses_after log.events) reports
     → MeetsProgramHeadline (whole_of tree input) limit log reports races

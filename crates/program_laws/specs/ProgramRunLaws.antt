@@ -1,9 +1,9 @@
 -- Laws of the runs of whole programs.
-use Rattle.std.specs.Prelude.{◌≡◌, ◌↔◌, ◌<◌, ◌++◌, true, ℕ, ℤ, List, map}
+use Rattle.std.specs.Prelude.{◌≡◌, ◌↔◌, ◌<◌, ◌++◌, true, ℕ, ℤ, List, None, map}
 use Rattle.pipe_model.specs.declared.event.RunLog.{RunLog}
 use Rattle.pipe_model.specs.Pipelines.ElisionResults.{first_trap, serial_ended_columns, serial_output, serial_trap}
 use Rattle.pipe_model.specs.Language.Programs.{pipeline_of}
-use Rattle.pipe_model.specs.Language.SourceRefusals.{IsAccepted}
+use Rattle.pipe_model.specs.Language.CheckingRules.{BreaksNoRule}
 use Rattle.pipe_model.specs.Language.SyntaxTree.{Empty, SyntaxTree}
 use Rattle.pipe_model.specs.Runs.Throttling.{IsThrottled}
 use Rattle.pipe_model.specs.Language.ProgramsOfTrees.{part_of, pipeline_after_init, whole_of}
@@ -62,7 +62,7 @@ pub record MeetsElision (w : WholeProgram) (limit : ℕ) (log : RunLog) : Type 0
 
 abbrev pub AcceptedProgramsMeetTheElision : Type 0
 AcceptedProgramsMeetTheElision =
-    (source : List ℕ) (tree : SyntaxTree) (input : List ℤ) (limit : ℕ) (log : RunLog) → IsAccepted source tree
+    (tree : SyntaxTree) (input : List ℤ) (limit : ℕ) (log : RunLog) → BreaksNoRule tree
     → IsFinishedProgramRun (whole_of tree input) limit log
     → MeetsElision (whole_of tree input) limit log
 
@@ -98,5 +98,5 @@ RaceFreeRunsHaveOutcomes =
 -- `init` and `final` of an accepted program are one instance each
 abbrev pub PartsAreOneInstance : Type 0
 PartsAreOneInstance =
-    (source : List ℕ) (tree : SyntaxTree) (input : List ℤ) → IsAccepted source tree
+    (tree : SyntaxTree) (input : List ℤ) → BreaksNoRule tree
     → IsOneInstance (part_of tree input tree.init) × IsOneInstance (part_of tree input tree.last)

@@ -1,5 +1,5 @@
 -- Laws of next events, candidates and schedules.
-use Rattle.std.specs.Prelude.{◌≡◌, ◌≢◌, ◌↔◌, ◌⊎◌, ◌<◌, ◌≤◌, ℕ, ℤ, List, [], ◌++◌, ◌+◌, ◌*◌, false, length, Some}
+use Rattle.std.specs.Prelude.{◌≡◌, ◌≢◌, ◌↔◌, ◌⊎◌, ◌<◌, ◌≤◌, ℕ, ℤ, List, [], ◌++◌, ◌+◌, ◌*◌, false, length, Some, None}
 use Rattle.pipe_model.specs.declared.event.Event.{Event}
 use Rattle.pipe_model.specs.declared.event.Event.TheVariants.{Stop}
 use Rattle.pipe_model.specs.Runs.Allowed.{Allowed}
@@ -9,7 +9,7 @@ use Rattle.pipe_model.specs.Runs.Run.{Run, IsFinished, state_from}
 use Rattle.pipe_model.specs.Runs.State.{State, initial_state}
 use Rattle.pipe_model.specs.Language.Programs.{natural}
 use Rattle.pipe_model.specs.Runs.RunLogs.{state_after}
-use Rattle.pipe_model.specs.Language.SourceRefusals.{IsAccepted}
+use Rattle.pipe_model.specs.Language.CheckingRules.{BreaksNoRule}
 use Rattle.pipe_model.specs.Language.SyntaxTree.{SyntaxTree}
 use Rattle.pipe_model.specs.Runs.NextEvents.{next_event, next_begin}
 use Rattle.pipe_model.specs.Runs.Schedules.{candidates, played, running_instances, PlayedRun}
@@ -70,6 +70,6 @@ SchedulesPlayRuns =
 -- a schedule of an accepted program finishes within this number of turns
 abbrev pub SchedulesFinish : Type 0
 SchedulesFinish =
-    (source : List ℕ) (tree : SyntaxTree) (input : List ℤ) (limit workers : ℕ) (choices : List ℕ) (turns : ℕ) → IsAccepted source tree
+    (tree : SyntaxTree) (input : List ℤ) (limit workers : ℕ) (choices : List ℕ) (turns : ℕ) → BreaksNoRule tree
     → 0 < limit → 0 < workers → most_instances tree * (2 * natural tree.limits.steps + 2) ≤ turns
     → IsFinished (state_after (played (pipeline_after_init tree input) limit workers choices turns))

@@ -1,12 +1,12 @@
 -- Bounds on the work of a program: accesses of an instance, instances and events of a run.
-use Rattle.std.specs.Prelude.{◌≡◌, ◌≤◌, ℕ, ℤ, List, [], ◌∷◌, ◌+◌, ◌*◌, ◌-◌, false, length}
+use Rattle.std.specs.Prelude.{◌≡◌, ◌≤◌, ℕ, ℤ, List, None, [], ◌∷◌, ◌+◌, ◌*◌, ◌-◌, false, length}
 use Rattle.pipe_model.specs.declared.event.Event.{Event}
 use Rattle.pipe_model.specs.declared.node.Node.{Node}
 use Rattle.pipe_model.specs.Pipelines.Pipeline.{HasBoundedWork, Pipeline}
 use Rattle.pipe_model.specs.Language.Programs.{natural, pipeline_of}
 use Rattle.pipe_model.specs.Language.ProgramsOfTrees.{pipeline_after_init}
 use Rattle.pipe_model.specs.Runs.Run.{Run}
-use Rattle.pipe_model.specs.Language.SourceRefusals.{IsAccepted}
+use Rattle.pipe_model.specs.Language.CheckingRules.{BreaksNoRule}
 use Rattle.pipe_model.specs.Orders.Starts.{starts_of}
 use Rattle.pipe_model.specs.Runs.State.{State, own_columns}
 use Rattle.pipe_model.specs.Language.SyntaxTree.{SyntaxTree}
@@ -24,7 +24,7 @@ most_instances tree = natural tree.limits.iterations * natural tree.limits.stage
 -- a run that was not stopped has at most two events a step and two more for each instance
 abbrev pub ProgramRunsAreBounded : Type 0
 ProgramRunsAreBounded =
-    (source : List ℕ) (tree : SyntaxTree) (input : List ℤ) (limit : ℕ) (events : List Event) (s : State) → IsAccepted source tree
+    (tree : SyntaxTree) (input : List ℤ) (limit : ℕ) (events : List Event) (s : State) → BreaksNoRule tree
     → Run (pipeline_after_init tree input) limit events s → s.stopped ≡ false
     → (length events ≤ most_instances tree * (2 * natural tree.limits.steps + 2))
     × (length s.frames ≤ natural tree.limits.iterations + 1)
@@ -42,6 +42,6 @@ StartsAreCounted =
 -- the bound holds of every run, stopped or not
 abbrev pub ProgramInstancesAreBounded : Type 0
 ProgramInstancesAreBounded =
-    (source : List ℕ) (tree : SyntaxTree) (input : List ℤ) (limit : ℕ) (events : List Event) (s : State) → IsAccepted source tree
+    (tree : SyntaxTree) (input : List ℤ) (limit : ℕ) (events : List Event) (s : State) → BreaksNoRule tree
     → Run (pipeline_after_init tree input) limit events s
     → instances_in (own_columns s) ≤ most_instances tree

@@ -1,8 +1,8 @@
 -- The columns of a run of an accepted program have instances, and not too many.
-use Rattle.std.proofs.Common.{◌≡◌, refl, arith, ℕ, ℤ, zero, suc, ◌<◌, ◌≤◌, ◌-◌, All, List, [], ◌∷◌, Some, length, map}
+use Rattle.std.proofs.Common.{None, ◌≡◌, refl, arith, ℕ, ℤ, zero, suc, ◌<◌, ◌≤◌, ◌-◌, All, List, [], ◌∷◌, Some, length, map}
 use Rattle.pipe_model.specs.declared.column.Column.{Column}
 use Rattle.pipe_model.specs.Language.ProgramsOfTrees.{pipeline_after_init}
-use Rattle.pipe_model.specs.Language.SourceRefusals.{IsAccepted}
+use Rattle.pipe_model.specs.Language.CheckingRules.{BreaksNoRule}
 use Rattle.pipe_model.specs.Language.SyntaxTree.{SyntaxTree}
 use Rattle.pipe_model.specs.Runs.Run.{Run}
 use Rattle.pipe_model.specs.declared.event.Event.{Event}
@@ -50,12 +50,12 @@ small (f ∷ frames) bound filled within =
     few rest zero d w = omega (arith, within)
     few rest (suc k) d w = let h = rest.few k d (omega (arith, w)) in omega (arith, h)
 
-pub columns_are_small : (source : List ℕ) (tree : SyntaxTree) (input : List ℤ) (limit : ℕ) (events : List Event) → IsAccepted source tree
+pub columns_are_small : (tree : SyntaxTree) (input : List ℤ) (limit : ℕ) (events : List Event) → BreaksNoRule tree
     → Run (pipeline_after_init tree input) limit events (state_after events) → HasSmallColumns (ended_columns_after events)
-columns_are_small source tree input limit events accepted run =
+columns_are_small tree input limit events accepted run =
     let s = state_after events in
-    let bounded = program_instances_are_bounded source tree input limit events s accepted run in
-    let planned = (accepted_programs_are_planned source tree input accepted).few in
+    let bounded = program_instances_are_bounded tree input limit events s accepted run in
+    let planned = (accepted_programs_are_planned tree input accepted).few in
     let h = small s.frames 262145 (λ i f there. ((run_consistent run).sound.well i f there).filled) (omega (arith, bounded, planned)) in
     let count = h.count in
     record {

@@ -1,5 +1,5 @@
 -- Programs that were played: what is reported, and when the play is finished.
-use Rattle.std.proofs.Common.{◌≡◌, ◌≢◌, ◌∙◌, ap, sym, refl, subst, arith, ℕ, ℤ, ◌<◌, ◌≤◌, ◌++◌, ◌∷◌, List, [], Bool, true, false, Option, append-nil}
+use Rattle.std.proofs.Common.{None, ◌≡◌, ◌≢◌, ◌∙◌, ap, sym, refl, subst, arith, ℕ, ℤ, ◌<◌, ◌≤◌, ◌++◌, ◌∷◌, List, [], Bool, true, false, Option, append-nil}
 use Rattle.std.specs.Prelude.{◌&&◌, IsTrue, is_some, length}
 use Rattle.std.proofs.lemmas.Bool.{false≢true}
 use Rattle.pipe_model.specs.declared.event.Event.{Event}
@@ -9,7 +9,7 @@ use Rattle.pipe_model.specs.declared.report.Report.{Report}
 use Rattle.pipe_model.specs.declared.trap.TrapAt.{TrapAt}
 use Rattle.pipe_model.specs.Language.Programs.{store_of}
 use Rattle.pipe_model.specs.Language.ProgramsOfTrees.{pipeline_after_init, whole_of}
-use Rattle.pipe_model.specs.Language.SourceRefusals.{IsAccepted}
+use Rattle.pipe_model.specs.Language.CheckingRules.{BreaksNoRule}
 use Rattle.pipe_model.specs.Language.SyntaxTree.{SyntaxTree}
 use Rattle.pipe_model.specs.Orders.Starts.{starts_of}
 use Rattle.pipe_model.specs.Pipelines.SerialElision.{unless}
@@ -119,14 +119,14 @@ loop_was_played tree input limits choices play r no_trap loop end =
 -- ---- the headline
 
 -- a finished play agrees with the serial elision
-agrees : (source : List ℕ) (tree : SyntaxTree) (input : List ℤ) (limits : PlayLimits) (choices : List ℕ) (r : Played) → IsAccepted source tree
+agrees : (tree : SyntaxTree) (input : List ℤ) (limits : PlayLimits) (choices : List ℕ) (r : Played) → BreaksNoRule tree
     → IsPlayed tree input limits choices r → IsTrue r.finished → HasElisionResults (whole_of tree input) r
-agrees source tree input limits choices r accepted h over =
+agrees tree input limits choices r accepted h over =
     let w = whole_of tree input in
     let s = state_after r.run_log.events in
     let run : IsFinishedProgramRun w limits.throttle r.run_log = record { run = h.log.run; finished = h.log.finished.0 over; columns = h.log.columns } in
-    let meets = accepted_programs_meet_the_elision source tree input limits.throttle r.run_log accepted run in
-    let headline = runs_meet_the_headline source tree input limits.throttle r.run_log r.reports [] accepted run h.reports.right in
+    let meets = accepted_programs_meet_the_elision tree input limits.throttle r.run_log accepted run in
+    let headline = runs_meet_the_headline tree input limits.throttle r.run_log r.reports [] accepted run h.reports.right in
     let free : r.reports ≡ [] → IsRaceFree (columns_after r.run_log.events) (accesses_after r.run_log.events) =
     λ none. meets.races.1 (headline.silent.0 none) in
     let ran : r.reports ≡ [] → reaches_final r.finished r.reports ≡ true =
@@ -155,22 +155,22 @@ going_before s [] after h = going_at_first s after h
 going_before s (e ∷ before) after h = going_before (next_state s e) before after h
 
 -- the run of the loop, if `init` did not trap
-loop_run : (source : List ℕ) (tree : SyntaxTree) (input : List ℤ) (limits : PlayLimits) (choices : List ℕ) (r : Played) → IsAccepted source tree
+loop_run : (tree : SyntaxTree) (input : List ℤ) (limits : PlayLimits) (choices : List ℕ) (r : Played) → BreaksNoRule tree
     → 0 < limits.throttle → 0 < limits.workers → IsPlayed tree input limits choices r → is_some (init_trap (whole_of tree input)) ≡ false
     → IsPlayedRun (pipeline_after_init tree input) limits.throttle limits.workers r.run_log.events (state_after r.run_log.events)
-loop_run source tree input limits choices r accepted throttle workers h none =
+loop_run tree input limits choices r accepted throttle workers h none =
     let p = pipeline_after_init tree input in
     let es = played p limits.throttle limits.workers choices limits.turns in
     let events : r.run_log.events ≡ es = h.log.events ∙ ap (λ b. unless b es) none in
-    let well = well_formed_after (whole_of tree input) (accepted_is_well_formed source tree input accepted) in
+    let well = well_formed_after (whole_of tree input) (accepted_is_well_formed tree input accepted) in
     let schedule = schedules_play_runs p limits.throttle limits.workers choices limits.turns well throttle workers in
     subst (λ l. IsPlayedRun p limits.throttle limits.workers l (state_after l)) (sym events)
     (played_runs_are_runs p limits.throttle limits.workers es (state_after es) schedule.run well)
 
 -- a play with enough turns is finished
-finishes : (source : List ℕ) (tree : SyntaxTree) (input : List ℤ) (limits : PlayLimits) (choices : List ℕ) (r : Played) → IsAccepted source tree
+finishes : (tree : SyntaxTree) (input : List ℤ) (limits : PlayLimits) (choices : List ℕ) (r : Played) → BreaksNoRule tree
     → 0 < limits.throttle → 0 < limits.workers → IsPlayed tree input limits choices r → enough_turns tree ≤ limits.turns → IsTrue r.finished
-finishes source tree input limits choices r accepted throttle workers h enough = by (is_some (init_trap w)) refl
+finishes tree input limits choices r accepted throttle workers h enough = by (is_some (init_trap w)) refl
   where
     w : WholeProgram
     w = whole_of tree input
@@ -181,14 +181,14 @@ finishes source tree input limits choices r accepted throttle workers h enough =
         let events : r.run_log.events ≡ played (pipeline_after_init tree input) limits.throttle limits.workers choices limits.turns =
         h.log.events ∙ ap (λ b. unless b (played (pipeline_after_init tree input) limits.throttle limits.workers choices limits.turns)) none in
         h.log.finished.1 (WithLoop none (subst (λ es. IsFinished (state_after es)) (sym events)
-        (schedules_finish source tree input limits.throttle limits.workers choices limits.turns accepted throttle workers enough)))
+        (schedules_finish tree input limits.throttle limits.workers choices limits.turns accepted throttle workers enough)))
 
 -- each state of a play that is not finished can go on
-goes_on : (source : List ℕ) (tree : SyntaxTree) (input : List ℤ) (limits : PlayLimits) (choices : List ℕ) (r : Played) → IsAccepted source tree
+goes_on : (tree : SyntaxTree) (input : List ℤ) (limits : PlayLimits) (choices : List ℕ) (r : Played) → BreaksNoRule tree
     → 0 < limits.throttle → 0 < limits.workers → IsPlayed tree input limits choices r → (before after : List Event) → r.run_log.events ≡ before ++ after
     → (ProgramIsFinished (whole_of tree input) (state_after before) → ⊥)
     → candidates (pipeline_after_init tree input) limits.throttle limits.workers (state_after before) ≢ []
-goes_on source tree input limits choices r accepted throttle workers h before after are unfinished = by (is_some (init_trap w)) refl
+goes_on tree input limits choices r accepted throttle workers h before after are unfinished = by (is_some (init_trap w)) refl
   where
     w : WholeProgram
     w = whole_of tree input
@@ -199,8 +199,8 @@ goes_on source tree input limits choices r accepted throttle workers h before af
     by : (b : Bool) → is_some (init_trap w) ≡ b → candidates p limits.throttle limits.workers (state_after before) ≢ []
     by true some = absurd (unfinished (WithoutLoop some))
     by false none = λ empty.
-        let well = well_formed_after w (accepted_is_well_formed source tree input accepted) in
-        let run = loop_run source tree input limits choices r accepted throttle workers h none in
+        let well = well_formed_after w (accepted_is_well_formed tree input accepted) in
+        let run = loop_run tree input limits choices r accepted throttle workers h none in
         let s = state_after r.run_log.events in
         let front = front_is_run p limits.throttle before after s (subst (λ l. Run p limits.throttle l s) are run.run) in
         let going = going_before initial_state before after (subst (λ l. (state_after l).stopped ≡ false) are run.not_stopped) in
@@ -212,9 +212,9 @@ record IsBounded (tree : SyntaxTree) (events : List Event) : Type 0 where
   starts : length (starts_of events) ≤ most_instances tree
 
 -- a play has few events and few instances
-bounded : (source : List ℕ) (tree : SyntaxTree) (input : List ℤ) (limits : PlayLimits) (choices : List ℕ) (r : Played) → IsAccepted source tree
+bounded : (tree : SyntaxTree) (input : List ℤ) (limits : PlayLimits) (choices : List ℕ) (r : Played) → BreaksNoRule tree
     → 0 < limits.throttle → 0 < limits.workers → IsPlayed tree input limits choices r → IsBounded tree r.run_log.events
-bounded source tree input limits choices r accepted throttle workers h = by (is_some (init_trap w)) refl
+bounded tree input limits choices r accepted throttle workers h = by (is_some (init_trap w)) refl
   where
     w : WholeProgram
     w = whole_of tree input
@@ -227,21 +227,21 @@ bounded source tree input limits choices r accepted throttle workers h = by (is_
         let nothing : r.run_log.events ≡ [] = h.log.events ∙ ap (λ b. unless b (played p limits.throttle limits.workers choices limits.turns)) some in
         subst (IsBounded tree) (sym nothing) (record { most = omega arith; starts = omega arith })
     by false none =
-        let run = loop_run source tree input limits choices r accepted throttle workers h none in
+        let run = loop_run tree input limits choices r accepted throttle workers h none in
         let events = r.run_log.events in
         let counted = starts_are_counted p limits.throttle events (state_after events) run.run in
-        let few = program_instances_are_bounded source tree input limits.throttle events (state_after events) accepted run.run in
+        let few = program_instances_are_bounded tree input limits.throttle events (state_after events) accepted run.run in
         record {
-          most = (program_runs_are_bounded source tree input limits.throttle events (state_after events) accepted run.run run.not_stopped).0;
+          most = (program_runs_are_bounded tree input limits.throttle events (state_after events) accepted run.run run.not_stopped).0;
           starts = omega (arith, counted, few);
         }
 
-pub plays_meet_the_headline : (source : List ℕ) (tree : SyntaxTree) (input : List ℤ) (limits : PlayLimits) (choices : List ℕ) (r : Played)
-    → IsAccepted source tree → 0 < limits.throttle → 0 < limits.workers → IsPlayed tree input limits choices r → MeetsPlayedHeadline tree input limits r
-plays_meet_the_headline source tree input limits choices r accepted throttle workers h = record {
-  elision = agrees source tree input limits choices r accepted h;
-  enough = finishes source tree input limits choices r accepted throttle workers h;
-  goes_on = goes_on source tree input limits choices r accepted throttle workers h;
-  bounded = (bounded source tree input limits choices r accepted throttle workers h).most;
-  instances = (bounded source tree input limits choices r accepted throttle workers h).starts;
+pub plays_meet_the_headline : (tree : SyntaxTree) (input : List ℤ) (limits : PlayLimits) (choices : List ℕ) (r : Played)
+    → BreaksNoRule tree → 0 < limits.throttle → 0 < limits.workers → IsPlayed tree input limits choices r → MeetsPlayedHeadline tree input limits r
+plays_meet_the_headline tree input limits choices r accepted throttle workers h = record {
+  elision = agrees tree input limits choices r accepted h;
+  enough = finishes tree input limits choices r accepted throttle workers h;
+  goes_on = goes_on tree input limits choices r accepted throttle workers h;
+  bounded = (bounded tree input limits choices r accepted throttle workers h).most;
+  instances = (bounded tree input limits choices r accepted throttle workers h).starts;
 }

@@ -21,7 +21,7 @@ use Rattle.pipe_model.specs.declared.column.Column.{Column}
 use Rattle.pipe_model.specs.declared.event.Event.{Event}
 use Rattle.pipe_model.specs.declared.node.Node.{Node}
 use Rattle.pipe_model.specs.Language.ProgramsOfTrees.{pipeline_after_init, whole_of}
-use Rattle.pipe_model.specs.Language.SourceRefusals.{IsAccepted}
+use Rattle.pipe_model.specs.Language.CheckingRules.{BreaksNoRule}
 use Rattle.pipe_model.specs.Language.SyntaxTree.{SyntaxTree, tree_of}
 use Rattle.pipe_model.specs.Orders.Starts.{starts_of}
 use Rattle.pipe_model.specs.Pipelines.Pipeline.{IsWellFormed, Pipeline}
@@ -63,18 +63,18 @@ pub record IsDetectable (columns : List Column) (events : List Event) (accesses 
   pub inside : All (λ (a : NodeAccess). IsNodeOf (log_columns events) a.node) accesses
   pub found : found_reports (log_columns events) (log_starts events) accesses ≡ found_reports (own_columns (state_after events)) (starts_of events) accesses
 
-pub detectable : (source : List ℕ) (tree : SyntaxTree) (input : List ℤ) (limit : ℕ) (events : List Event) (columns : List Column) (accesses : List NodeAccess)
-    → IsAccepted source tree → Run (pipeline_after_init tree input) limit events (state_after events) → columns ≡ made_columns events
+pub detectable : (tree : SyntaxTree) (input : List ℤ) (limit : ℕ) (events : List Event) (columns : List Column) (accesses : List NodeAccess)
+    → BreaksNoRule tree → Run (pipeline_after_init tree input) limit events (state_after events) → columns ≡ made_columns events
     → accesses ≡ (state_after events).accesses → IsDetectable columns events accesses
-detectable source tree input limit events columns accesses accepted run made are =
+detectable tree input limit events columns accesses accepted run made are =
     let p = pipeline_after_init tree input in
     let s = state_after events in
     let d = runs_are_detected p limit events s run in
     let rules = runs_keep_rules p limit events s run in
     let ended : columns ≡ ended_columns_after events = made ∙ runs_make_their_columns p limit events run in
     let counted = starts_are_counted p limit events s run in
-    let small = program_instances_are_bounded source tree input limit events s accepted run in
-    let few = (accepted_programs_are_planned source tree input accepted).few in
+    let small = program_instances_are_bounded tree input limit events s accepted run in
+    let few = (accepted_programs_are_planned tree input accepted).few in
     let starts = ap length d.starts in
     record {
       ended = ended;

@@ -1,11 +1,11 @@
 //! The loop of a program, played on one thread by a schedule.
 
-ghost use Rattle.std.specs.Prelude.{◌≡◌, ◌<◌, ◌≤◌, ◌+◌, ℕ, List, IfOk};
+ghost use Rattle.std.specs.Prelude.{◌≡◌, ◌<◌, ◌≤◌, ◌+◌, ℕ, List, IfOk, None};
 ghost use Rattle.cell_store.specs.ShardState.{IsStateAfter};
 ghost use Rattle.pipe_model.specs.Language.CheckingRules.{cell_total};
 ghost use Rattle.pipe_model.specs.Language.Programs.{store_of};
 ghost use Rattle.pipe_model.specs.Language.ProgramsOfTrees.{whole_of};
-ghost use Rattle.pipe_model.specs.Language.SourceRefusals.{IsAccepted};
+ghost use Rattle.pipe_model.specs.Language.CheckingRules.{BreaksNoRule};
 ghost use Rattle.pipe_model.specs.Language.SyntaxTree.{tree_of};
 ghost use Rattle.pipe_model.specs.Pipelines.WholePrograms.{init_accesses};
 ghost use Rattle.schedule_play.specs.LoopPlays.{IsEndOf, IsLoopPlay};
@@ -58,7 +58,7 @@ pub struct LoopPlay {
 // Finds the races of a run that was played.
 fn end_play<B: PlayedCode>(alloc: Global, player: Player<B>) -> Result<LoopPlay, NoMemory>
     requires play { IsPlay B.code B.cells player }
-    requires accepted { (source : List ℕ) × IsAccepted source (tree_of player.book.program) }
+    requires accepted { BreaksNoRule (tree_of player.book.program) }
     requires limit { 0 < player.book.limit }
     ensures { IfOk result (IsEndOf player) }
 {
@@ -89,7 +89,7 @@ fn play_coded<B: PlayedCode>(
     requires code { code.now ≡ B.code }
     requires count { cells.shard.cells ≡ B.cells }
     requires code_of { IsCodeOf (tree_of checked.now) code.now }
-    requires accepted { (source : List ℕ) × IsAccepted source (tree_of checked.now) }
+    requires accepted { BreaksNoRule (tree_of checked.now) }
     requires workers { 0 < limits.workers }
     requires throttle { 0 < limits.throttle }
     requires served { cell_total (tree_of checked.now).cells + 2 ≤ cells.shard.cells }
@@ -126,7 +126,7 @@ pub fn play_loop(
     cells: Cells,
 ) -> Result<LoopPlay, NoMemory>
     requires code_of { IsCodeOf (tree_of checked.now) code.now }
-    requires accepted { (source : List ℕ) × IsAccepted source (tree_of checked.now) }
+    requires accepted { BreaksNoRule (tree_of checked.now) }
     requires workers { 0 < limits.workers }
     requires throttle { 0 < limits.throttle }
     requires served { cell_total (tree_of checked.now).cells + 2 ≤ cells.shard.cells }

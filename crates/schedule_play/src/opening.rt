@@ -1,9 +1,9 @@
 //! The book with which a play begins.
 
-ghost use Rattle.std.specs.Prelude.{◌≡◌, ◌≤◌, ◌<◌, ◌+◌, ℕ, List, All, IfOk, length};
+ghost use Rattle.std.specs.Prelude.{◌≡◌, ◌≤◌, ◌<◌, ◌+◌, ℕ, List, All, IfOk, None, length};
 ghost use Rattle.frame_book.specs.NewBooks.{new_book};
 ghost use Rattle.pipe_model.specs.Language.CheckingRules.{cell_total};
-ghost use Rattle.pipe_model.specs.Language.SourceRefusals.{IsAccepted};
+ghost use Rattle.pipe_model.specs.Language.CheckingRules.{BreaksNoRule};
 ghost use Rattle.pipe_model.specs.Language.SyntaxTree.{tree_of};
 ghost use Rattle.stage_interp.specs.MachineState.{IsMadeFor};
 ghost use Rattle.stage_interp.specs.Standing.{IsCodeOf};
@@ -61,7 +61,7 @@ pub(crate) fn open_book<B: PlayedCode>(
     requires code { code.now ≡ B.code }
     requires code_of { IsCodeOf (tree_of checked.now) code.now }
     requires served { cell_total (tree_of checked.now).cells + 2 ≤ B.cells }
-    requires accepted { (source : List ℕ) × IsAccepted source (tree_of checked.now) }
+    requires accepted { BreaksNoRule (tree_of checked.now) }
     requires throttle { 0 < throttle }
     ensures tree { IfOk result (λ book. tree_of book.program ≡ tree_of checked.now) }
     ensures book { IfOk result (λ book. book ≡ new_book book.program input.now throttle no_lists) }

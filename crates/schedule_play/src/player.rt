@@ -6,7 +6,7 @@ ghost use Rattle.frame_book.specs.BookStates.{item_or};
 ghost use Rattle.pipe_model.specs.Language.CheckingRules.{cell_total};
 ghost use Rattle.pipe_model.specs.Language.Programs.{store_of};
 ghost use Rattle.pipe_model.specs.Language.ProgramsOfTrees.{whole_of};
-ghost use Rattle.pipe_model.specs.Language.SourceRefusals.{IsAccepted};
+ghost use Rattle.pipe_model.specs.Language.CheckingRules.{BreaksNoRule};
 ghost use Rattle.pipe_model.specs.Language.SyntaxTree.{tree_of};
 ghost use Rattle.pipe_model.specs.Pipelines.WholePrograms.{init_accesses};
 ghost use Rattle.stage_interp.specs.Standing.{IsCodeOf};
@@ -86,7 +86,7 @@ impl<B: PlayedCode> Player<B> {
     ) -> Result<Self, NoMemory>
         requires code { code.now ≡ B.code }
         requires code_of { IsCodeOf (tree_of checked.now) code.now }
-        requires accepted { (source : List ℕ) × IsAccepted source (tree_of checked.now) }
+        requires accepted { BreaksNoRule (tree_of checked.now) }
         requires throttle { 0 < throttle }
         requires cells { cells.shard.cells ≡ B.cells }
         requires served { cell_total (tree_of checked.now).cells + 2 ≤ cells.shard.cells }

@@ -1,11 +1,11 @@
 //! A program, played on one thread by a schedule: `init`, the loop, `final`.
 
-ghost use Rattle.std.specs.Prelude.{◌≡◌, ◌≢◌, ◌↔◌, ◌<◌, ◌≤◌, ◌++◌, ◌&&◌, ◌+◌, ◌*◌, [], ℕ, List, IfOk, IsTrue, false, is_some, length, not};
+ghost use Rattle.std.specs.Prelude.{◌≡◌, ◌≢◌, ◌↔◌, ◌<◌, ◌≤◌, ◌++◌, ◌&&◌, ◌+◌, ◌*◌, [], ℕ, List, IfOk, None, IsTrue, false, is_some, length, not};
 ghost use Rattle.cell_store.specs.ShardState.{IsStateAfter};
 ghost use Rattle.pipe_model.specs.declared.event.Event.{Event as EventOf};
 ghost use Rattle.pipe_model.specs.Language.Programs.{natural, store_of};
 ghost use Rattle.pipe_model.specs.Language.ProgramsOfTrees.{pipeline_after_init, whole_of};
-ghost use Rattle.pipe_model.specs.Language.SourceRefusals.{IsAccepted};
+ghost use Rattle.pipe_model.specs.Language.CheckingRules.{BreaksNoRule};
 ghost use Rattle.pipe_model.specs.Language.SyntaxTree.{SyntaxTree, tree_of};
 ghost use Rattle.pipe_model.specs.Orders.Starts.{starts_of};
 ghost use Rattle.pipe_model.specs.Pipelines.WholePrograms as whole_programs;
@@ -105,7 +105,7 @@ fn end_after_loop(
 ) -> Result<Played, NoMemory>
     requires code { IsCodeOf (tree_of prepared.now.checked.now) prepared.now.code.now }
     requires made { IsMadeFor prepared.now.code.now machine.old }
-    requires accepted { (source : List ℕ) × IsAccepted source (tree_of prepared.now.checked.now) }
+    requires accepted { BreaksNoRule (tree_of prepared.now.checked.now) }
     requires no_trap { is_some (whole_programs.init_trap (whole_of (tree_of prepared.now.checked.now) prepared.now.input.now)) ≡ false }
     requires run { (limit : ℕ) × Run (pipeline_after_init (tree_of prepared.now.checked.now) prepared.now.input.now) limit play.run_log.events (state_after play.run_log.events) }
     requires columns { play.run_log.columns ≡ ended_columns_after play.run_log.events }
@@ -151,7 +151,7 @@ fn play_prepared(
 ) -> Result<Played, NoMemory>
     requires code { IsCodeOf (tree_of prepared.now.checked.now) prepared.now.code.now }
     requires made { IsMadeFor prepared.now.code.now machine.old }
-    requires accepted { (source : List ℕ) × IsAccepted source (tree_of prepared.now.checked.now) }
+    requires accepted { BreaksNoRule (tree_of prepared.now.checked.now) }
     requires workers { 0 < limits.workers }
     requires throttle { 0 < limits.throttle }
     ensures played { IfOk result (IsPlayed (tree_of prepared.now.checked.now) prepared.now.input.now limits choices.now) }
@@ -227,7 +227,7 @@ pub fn play(
     turns: u64,
 ) -> Result<Played, NoMemory>
     requires code { IsCodeOf (tree_of checked.now) code.now }
-    requires accepted { (source : List ℕ) × IsAccepted source (tree_of checked.now) }
+    requires accepted { BreaksNoRule (tree_of checked.now) }
     requires workers { 0 < workers }
     requires throttle { 0 < throttle }
     ensures events { IfOk result (λ r. r.run_log.events ≡ played_events (tree_of checked.now) input.now workers throttle choices.now turns) }

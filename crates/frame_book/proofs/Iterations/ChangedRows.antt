@@ -1,5 +1,6 @@
 -- Rows of which one was changed.
-use Rattle.std.proofs.Common.{◌≡◌, ◌≢◌, ℕ, zero, suc, ◌+◌, ◌<◌, List, [], ◌∷◌, ◌++◌, length, map, get_or, set, refl, ap, sym, ◌∙◌, arith, subst, Bool, Some}
+use Rattle.pipe_model.specs.declared.ticket.Entry.{Entry}
+use Rattle.std.proofs.Common.{None, ◌≡◌, ◌≢◌, ℕ, zero, suc, ◌+◌, ◌<◌, List, [], ◌∷◌, ◌++◌, length, map, get_or, set, refl, ap, sym, ◌∙◌, arith, subst, Bool, Some}
 use Rattle.pipe_model.specs.Runs.State.{Frame, frame_at, update_frame}
 use Rattle.frame_book.specs.RowsOfFrames.{AreRows, IsRowOf, token_at}
 use Rattle.frame_book.specs.Rooms.{total}
@@ -58,3 +59,9 @@ pub rooms_set : {M : Type 0} → (rs spare : List (Row M)) (i : ℕ) (r y : Row 
 rooms_set [] spare i r y e q = refl
 rooms_set (x ∷ rs) spare zero r y e q = let s : x ≡ r = cc in ap (λ n. n ∷ map (λ (z : Row _). z.room) (rs ++ spare)) (q ∙ ap (λ (z : Row _). z.room) (sym s))
 rooms_set (x ∷ rs) spare (suc i) r y e q = ap (λ l. x.room ∷ l) (rooms_set rs spare i r y e q)
+
+-- the traces of a row
+pub traces_of_row : {M : Type 0} → (rs : List (Row M)) (i : ℕ) (r : Row M) → row_at rs i ≡ Some r → get_or (map (λ (z : Row M). z.traces) rs) i [] ≡ r.traces
+traces_of_row [] i r e = absurd (let z : None ≡ Some r = e in cc)
+traces_of_row (x ∷ rs) zero r e = let z : x ≡ r = cc in ap (λ (y : Row _). y.traces) z
+traces_of_row (x ∷ rs) (suc i) r e = traces_of_row rs i r e

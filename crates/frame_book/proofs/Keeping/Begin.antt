@@ -502,4 +502,5 @@ module _ {M : Type 0} (Whole : SyntaxTree → M → Type 0) (Stands : SyntaxTree
           stands = subst (λ ts. Stands (tree_of b.program) b.input m' (length b.rows) (map replies_of ts)) (sym (ap (λ ts. get_or ts (length b.rows) []) traces_are ∙ (get_or_push traces [] [] (length b.rows) (length-map b.rows (λ (z : Row M). z.traces))))) stands;
         };
         knows = subst (λ z. KnowsMarks z q_marks) (sym tied) (knows_new (tie m).lists with_begin.orders (length b.orders.down.log) (down_at Whole Stands tie b h going unclosed ended home m taken) (right_at Whole Stands tie b h going unclosed ended home m taken) (omega (arith, ld)) (omega (arith, lr, dl, rl)) at_place.down at_place.right);
+        parts = ap (λ ts. length (map replies_of (get_or ts (length b.rows) []))) traces_are ∙ ap (λ ts. length (map replies_of ts)) (get_or_push traces [] [] (length b.rows) (length-map b.rows (λ (z : Row M). z.traces)));
       }

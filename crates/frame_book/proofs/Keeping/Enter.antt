@@ -53,7 +53,7 @@ use Rattle.frame_book.proofs.BookLogs.LogEntries.{last_ticket_with, length_with,
 use Rattle.frame_book.proofs.Keeping.Name.{alive_set, closed_moved, left_passed_moved}
 use Rattle.frame_book.proofs.Keeping.LeaveReady.{sized_set}
 use Rattle.frame_book.proofs.Iterations.FrameRows.{row_of_frame, rows_length, row_at_within, token_of_row}
-use Rattle.frame_book.proofs.Iterations.ChangedRows.{rows_set, token_at_set, token_at_other, map_set_same, map_at}
+use Rattle.frame_book.proofs.Iterations.ChangedRows.{rows_set, token_at_set, token_at_other, map_set_same, map_at, traces_of_row}
 use Rattle.frame_book.proofs.StartedInstances.StartMarks.{parent_marks, takes_right_below}
 use Rattle.frame_book.proofs.StartedInstances.GrownMarks.{down_grows, right_grows, marks_grow, marks_same, kept_grows, names_seen, knows_new, length_entries}
 use Rattle.frame_book.proofs.BookLogs.TokensOfStates.{token_at_events}
@@ -533,4 +533,11 @@ module _ {M : Type 0} (Whole : SyntaxTree → M → Type 0) (Stands : SyntaxTree
               stands = subst (λ ts. Stands (tree_of b.program) b.input m' i (map replies_of (get_or ts i []))) (sym traces_are) (stands (map replies_of (get_or traces i [])) kept.stands);
             };
             knows = subst (λ z. KnowsMarks z marks) (sym tied) (knows_new (tie t.payload).lists with_enter.orders (length b.orders.down.log) down_at right_at (omega (arith, ld)) (omega (arith, lr, down_length, right_length)) placed.down placed.right);
+            parts = (
+                let same = ap (λ ts. length (map replies_of (get_or ts i []))) traces_are in
+                let row = ap (λ ts. length (map replies_of ts)) (traces_of_row b.rows i r at_row) in
+                let long = length-map r.traces replies_of in
+                let counted : length r.traces ≡ length f.nodes = subst (λ w. HasTraceCount w (length r.traces) (length f.nodes)) may.named (row_matches.traces (inl (ap (λ s. not (not s)) going))) in
+                let index = kept.index in
+                omega (arith, same, row, long, counted, index));
           }))

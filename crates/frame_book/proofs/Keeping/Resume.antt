@@ -13,19 +13,20 @@ use Rattle.pipe_model.specs.declared.status.Status.TheVariants.{Running, Pending
 use Rattle.pipe_model.specs.Language.SyntaxTree.{SyntaxTree, tree_of}
 use Rattle.pipe_frame.specs.CallResults.{CanGoOn, resume_events, pending_events}
 use Rattle.pipe_frame.specs.Ties.{Tie}
+use Rattle.pipe_frame.specs.TokenFields.{fields_of}
 use Rattle.pipe_frame.specs.declared.token.FrameToken.{FrameToken}
 use Rattle.frame_book.specs.BookStates.{BookState, Out, Spent, Kept, events_of, state_of, with_events}
 use Rattle.pipe_frame.specs.Replies.{replies_of}
 use Rattle.frame_book.specs.Invariant.{IsBook, HasActions}
-use Rattle.frame_book.specs.RowsOfFrames.{IsRowOf, TokenFits, token_at, no_marks}
+use Rattle.frame_book.specs.RowsOfFrames.{HasTraceCount, IsRowOf, TokenFits, token_at, no_marks}
 use Rattle.frame_book.specs.KeptTokens.{IsKeptToken}
 use Rattle.frame_book.specs.IterationRows.{Row, row_at}
 use Rattle.frame_book.specs.CallEffects.{with_resumed, with_entered, IsReady, identities_of_orders}
 use Rattle.frame_book.specs.Tables.{Tables, book_state, token_state_of, token_state_by}
-use Rattle.frame_book.specs.GivenTokens.{IsGivenBy}
+use Rattle.frame_book.specs.GivenTokens.{IsGivenBeside, IsGivenBy}
 use Rattle.frame_book.proofs.Keeping.LeaveReady.{sized_set}
 use Rattle.frame_book.proofs.Iterations.FrameRows.{row_of_frame, row_at_within, token_of_row}
-use Rattle.frame_book.proofs.Iterations.ChangedRows.{rows_set_same, token_at_set, token_at_other, map_set_same, total_set_same}
+use Rattle.frame_book.proofs.Iterations.ChangedRows.{rows_set_same, token_at_set, token_at_other, map_at, map_set_same, total_set_same, traces_of_row}
 
 -- a row that is put back
 pub set_itself : {M : Type 0} → (rs : List (Row M)) (i : ℕ) (r : Row M) → row_at rs i ≡ Some r → set rs i r ≡ rs
@@ -175,4 +176,18 @@ module _ {M : Type 0} (Whole : SyntaxTree → M → Type 0) (Stands : SyntaxTree
         };
         payload = record { belongs = kept.belongs; stands = subst (λ ts. Stands (tree_of b.program) b.input t.payload i (map replies_of (get_or ts i []))) (sym traces_are) kept.stands };
         knows = kept.knows runs;
+        parts = (
+            let same = ap (λ ts. length (map replies_of (get_or ts i []))) traces_are in
+            let row = ap (λ ts. length (map replies_of ts)) (traces_of_row b.rows i r at_row) in
+            let long = length-map r.traces replies_of in
+            let counted : suc (length r.traces) ≡ length f.nodes = subst (λ w. HasTraceCount w (length r.traces) (length f.nodes)) runs (row_matches.traces (inl (ap (λ s. not (not s)) going))) in
+            let index = kept.index in
+            omega (arith, same, row, long, counted, index));
       })
+
+  -- it is the one that was kept
+  pub resume_beside : IsGivenBeside (resume_events (frame_at c.frames i) i) (book_state b) (book_state with_resume) (fields_of t)
+  resume_beside =
+      let none : resume_events (frame_at c.frames i) i ≡ [] = ap (λ o. resume_events o i) is ∙ ap (λ w. pending_events w i) runs in
+      let place : get_or (map token_state_of b.rows) i Spent ≡ Kept (fields_of t) = map_at token_state_of b.rows i r Spent at_row ∙ ap (λ o. token_state_by o r.status) held in
+      subst (λ es. IsGivenBeside es (book_state b) (book_state with_resume) (fields_of t)) (sym none) (ap (λ k. get_or (map token_state_of b.rows) k Spent) kept.iteration ∙ place)

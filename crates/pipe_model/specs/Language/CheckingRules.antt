@@ -1,6 +1,6 @@
 -- The rules that a program must obey besides the grammar, and the first that it breaks.
 -- Limits are checked first, in their order, and then the marks, in the order of the text; at one mark the rule that is earlier in the list counts.
-use Rattle.std.specs.Prelude.{ℕ, ℤ, pos, Bool, true, false, not, ◌&&◌, ◌||◌, List, [], ◌∷◌, length, Option, Some, None, ◌+◌, ◌==◌, if◌then◌else◌, is_some, nat_lt, nat_le, int_lt}
+use Rattle.std.specs.Prelude.{◌≡◌, ℕ, ℤ, pos, Bool, true, false, not, ◌&&◌, ◌||◌, List, [], ◌∷◌, length, Option, Some, None, ◌+◌, ◌==◌, if◌then◌else◌, is_some, nat_lt, nat_le, int_lt}
 use Rattle.pipe_model.specs.declared.bounds.TheConstants.{MOST_CELLS, MOST_LOCALS, MOST_ITERATIONS, MOST_STAGES, MOST_INSTANCES, MOST_STEPS, MOST_EMITS}
 use Rattle.std.proofs.Math.IntN.{◌*ℤ◌}
 use Rattle.std.specs.List.{list_any}
@@ -161,3 +161,7 @@ limit_fault_or None rest = rest
 -- the first fault of a program, if it breaks a rule
 abbrev pub fault_of : SyntaxTree → Option Fault
 fault_of tree = limit_fault_or (first_limit_out tree.limits) (first_fault 0 (marks_of tree))
+
+-- the program breaks no rule
+pub record BreaksNoRule (tree : SyntaxTree) : Type 0 where
+  pub obeys : fault_of tree ≡ None

@@ -7,7 +7,7 @@ use Rattle.language_laws.proofs.WellFormed.{accepted_is_well_formed}
 use Rattle.pipe_model.specs.declared.tree.Program.{Program}
 use Rattle.pipe_model.specs.Language.Programs.{natural, store_of}
 use Rattle.pipe_model.specs.Language.ProgramsOfTrees.{pipeline_after_init, whole_of}
-use Rattle.pipe_model.specs.Language.SourceRefusals.{IsAccepted}
+use Rattle.pipe_model.specs.Language.CheckingRules.{BreaksNoRule}
 use Rattle.pipe_model.specs.Language.SyntaxTree.{SyntaxTree, tree_of}
 use Rattle.pipe_model.specs.Pipelines.WholePrograms.{init_accesses}
 use Rattle.pipe_model.specs.Runs.Run.{EmptyRun}
@@ -28,11 +28,11 @@ natural_most (pos m) n h = grind (arith, h)
 natural_most (negsuc m) n h = omega arith
 
 -- runs of an accepted program are short
-short_runs : (source : List ℕ) (tree : SyntaxTree) (input : List ℤ) (limit : ℕ) → IsAccepted source tree → HasRangesOfLimits tree.limits
+short_runs : (tree : SyntaxTree) (input : List ℤ) (limit : ℕ) → BreaksNoRule tree → HasRangesOfLimits tree.limits
     → HasShortRuns (pipeline_after_init tree input) limit
-short_runs source tree input limit accepted ranges events s run going =
-    let bound = program_runs_are_bounded source tree input limit events s accepted run going in
-    let few = (accepted_programs_are_planned source tree input accepted).few in
+short_runs tree input limit accepted ranges events s run going =
+    let bound = program_runs_are_bounded tree input limit events s accepted run going in
+    let few = (accepted_programs_are_planned tree input accepted).few in
     let steps : natural tree.limits.steps ≤ 1000000 = natural_most tree.limits.steps 1000000 ranges.steps.1 in
     let iterations : natural tree.limits.iterations ≤ 65536 = natural_most tree.limits.iterations 65536 ranges.iterations.1 in
     let spent : 2 * natural tree.limits.steps + 2 ≤ 2 * 1000000 + 2 = omega (arith, steps) in
@@ -42,23 +42,23 @@ short_runs source tree input limit accepted ranges events s run going =
     let b = bound.1 in
     (omega (arith, a, product), omega (arith, b, iterations))
 
-pub new_play : (code : FlatCode) (source : List ℕ) (tree : SyntaxTree) (input : List ℤ) (limit : ℕ) (program : Program) (cells : ShardState) (schedule : ScheduleState)
-    → IsAccepted source tree → HasRangesOfLimits tree.limits → tree_of program ≡ tree
+pub new_play : (code : FlatCode) (tree : SyntaxTree) (input : List ℤ) (limit : ℕ) (program : Program) (cells : ShardState) (schedule : ScheduleState)
+    → BreaksNoRule tree → HasRangesOfLimits tree.limits → tree_of program ≡ tree
     → IsStateAfter (store_of tree) (init_accesses (whole_of tree input)) cells → HasAllCells cells → cells.shard.cells ≤ 4294967296
     → IsScheduleOf initial_state schedule → schedule.limit ≡ limit
     → IsPlay code cells.shard.cells (record { book = new_book program input limit no_lists; schedule = schedule; running = []; cells = cells; events = []; accesses = [] })
-new_play code source tree input limit program cells schedule accepted ranges same state all few scheduled limited =
-    subst (λ (x : SyntaxTree). IsAccepted source x → HasRangesOfLimits x.limits → IsStateAfter (store_of x) (init_accesses (whole_of x input)) cells
+new_play code tree input limit program cells schedule accepted ranges same state all few scheduled limited =
+    subst (λ (x : SyntaxTree). BreaksNoRule x → HasRangesOfLimits x.limits → IsStateAfter (store_of x) (init_accesses (whole_of x input)) cells
     → IsPlay code cells.shard.cells (record { book = new_book program input limit no_lists; schedule = schedule; running = []; cells = cells; events = []; accesses = [] }))
     same here accepted ranges state
   where
-    here : IsAccepted source (tree_of program) → HasRangesOfLimits (tree_of program).limits → IsStateAfter (store_of (tree_of program)) (init_accesses (whole_of (tree_of program) input)) cells
+    here : BreaksNoRule (tree_of program) → HasRangesOfLimits (tree_of program).limits → IsStateAfter (store_of (tree_of program)) (init_accesses (whole_of (tree_of program) input)) cells
         → IsPlay code cells.shard.cells (record { book = new_book program input limit no_lists; schedule = schedule; running = []; cells = cells; events = []; accesses = [] })
     here accepted ranges state =
-        let well = accepted_is_well_formed source (tree_of program) input accepted in
+        let well = accepted_is_well_formed (tree_of program) input accepted in
         record {
           proper = record { legal = well.legal; closes = well.closes };
-          short = short_runs source (tree_of program) input limit accepted ranges;
+          short = short_runs (tree_of program) input limit accepted ranges;
           run = EmptyRun;
           going = refl;
           log = refl;

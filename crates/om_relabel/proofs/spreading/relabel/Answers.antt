@@ -36,10 +36,11 @@ loop-k-preserved c =
     let at = i.element c.loop-k-test.true in
     let same = r.labelled.same in
     let next = ap vec_items i.next in
+    let long = i.long in
     let within : c.loop-k.element < length c.loop-k.links.next.items = omega (arith, inside, at, same, ap (length {A = ℕ}) next) in
     let link = c.index-element.ensures ∙ (get_or_default_zero c.loop-k.links.next.items c.loop-k.element c.index-element.result.now within
     ∙ (ap (λ ns. slice_index ns c.loop-k.element) next ∙ ap (λ n. slice_index links.next.items n) at)) in
-    let one = one_more_spread links r.labelled c.args.range.now range c.loop-k.links.label.items i.long c.loop-k.k c.loop-k.element c.spread.result
+    let one = one_more_spread links r.labelled c.args.range.now range c.loop-k.links.label.items (omega (arith, long)) c.loop-k.k c.loop-k.element c.spread.result
     c.loop-k-test.true at c.spread.ensures.label record { spread = i.spread; others = i.others } in
     record {
       element = λ m. link ∙ range_next links r.labelled c.args.range.now range c.loop-k.k m;

@@ -1,7 +1,7 @@
-use Rattle.std.proofs.Common.{subst, sym}
+use Rattle.std.proofs.Common.{◌≡◌, None, subst, sym}
 use Rattle.language_laws.proofs.SpellablePrograms.{spelled_is_spellable}
 use Rattle.pipe_model.specs.declared.tree.Program.{Program}
-use Rattle.pipe_model.specs.Language.SourceRefusals.{IsAccepted}
+use Rattle.pipe_model.specs.Language.CheckingRules.{BreaksNoRule}
 use Rattle.pipe_model.specs.Language.SyntaxTree.{tree_of}
 use Rattle.play_tests.proofs.sources.accepted.Goals as goal
 
@@ -11,10 +11,5 @@ check-requires c =
 
 pub returns : goal.returns
 returns c =
-    let told = c.in-Ok-check.ensures in (
-      c.args.source.now,
-      subst (λ (p : Program). IsAccepted c.args.source.now (tree_of p)) (sym told.program) (record {
-        spelled = record { tokens = _; lexed = c.in-Ok.ensures.tokens; spelled = c.in-Ok-parse.ensures.program };
-        obeys = told.ok;
-      }),
-    )
+    let told = c.in-Ok-check.ensures in
+    subst (λ (p : Program). BreaksNoRule (tree_of p)) (sym told.program) (record { obeys = told.ok })

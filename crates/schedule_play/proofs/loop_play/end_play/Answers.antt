@@ -14,8 +14,8 @@ detect-requires-clause-own g c =
     let v = c.args.player in
     let accepted = c.requires.accepted in
     let told = c.into_run-events.ensures in
-    let can = detectable accepted.0 (tree_of v.book.program) v.book.input v.book.limit c.into_run-events.result.0 c.in_ok-columns.columns c.into_run-events.result.1
-    accepted.1 (subst (λ es. Run (pipeline_played v) v.book.limit es (state_after es)) (sym told.events) c.requires.play.run)
+    let can = detectable (tree_of v.book.program) v.book.input v.book.limit c.into_run-events.result.0 c.in_ok-columns.columns c.into_run-events.result.1
+    accepted (subst (λ es. Run (pipeline_played v) v.book.limit es (state_after es)) (sym told.events) c.requires.play.run)
     (c.in_ok-columns.ensures ∙ ap made_columns c.as_slice.ensures) (told.accesses ∙ c.requires.play.accesses ∙ ap (λ es. (state_after es).accesses) (sym told.events)) in
     can.own
 
@@ -24,8 +24,8 @@ detect-requires-clause-few g c =
     let v = c.args.player in
     let accepted = c.requires.accepted in
     let told = c.into_run-events.ensures in
-    let can = detectable accepted.0 (tree_of v.book.program) v.book.input v.book.limit c.into_run-events.result.0 c.in_ok-columns.columns c.into_run-events.result.1
-    accepted.1 (subst (λ es. Run (pipeline_played v) v.book.limit es (state_after es)) (sym told.events) c.requires.play.run)
+    let can = detectable (tree_of v.book.program) v.book.input v.book.limit c.into_run-events.result.0 c.in_ok-columns.columns c.into_run-events.result.1
+    accepted (subst (λ es. Run (pipeline_played v) v.book.limit es (state_after es)) (sym told.events) c.requires.play.run)
     (c.in_ok-columns.ensures ∙ ap made_columns c.as_slice.ensures) (told.accesses ∙ c.requires.play.accesses ∙ ap (λ es. (state_after es).accesses) (sym told.events)) in
     can.few
 
@@ -34,8 +34,8 @@ detect-requires-clause-inside g c =
     let v = c.args.player in
     let accepted = c.requires.accepted in
     let told = c.into_run-events.ensures in
-    let can = detectable accepted.0 (tree_of v.book.program) v.book.input v.book.limit c.into_run-events.result.0 c.in_ok-columns.columns c.into_run-events.result.1
-    accepted.1 (subst (λ es. Run (pipeline_played v) v.book.limit es (state_after es)) (sym told.events) c.requires.play.run)
+    let can = detectable (tree_of v.book.program) v.book.input v.book.limit c.into_run-events.result.0 c.in_ok-columns.columns c.into_run-events.result.1
+    accepted (subst (λ es. Run (pipeline_played v) v.book.limit es (state_after es)) (sym told.events) c.requires.play.run)
     (c.in_ok-columns.ensures ∙ ap made_columns c.as_slice.ensures) (told.accesses ∙ c.requires.play.accesses ∙ ap (λ es. (state_after es).accesses) (sym told.events)) in
     can.inside
 
@@ -44,8 +44,8 @@ returns g c =
     let v = c.args.player in
     let accepted = c.requires.accepted in
     let told = c.into_run-events.ensures in
-    let can = detectable accepted.0 (tree_of v.book.program) v.book.input v.book.limit c.into_run-events.result.0 c.in_ok-columns.columns c.into_run-events.result.1
-    accepted.1 (subst (λ es. Run (pipeline_played v) v.book.limit es (state_after es)) (sym told.events) c.requires.play.run)
+    let can = detectable (tree_of v.book.program) v.book.input v.book.limit c.into_run-events.result.0 c.in_ok-columns.columns c.into_run-events.result.1
+    accepted (subst (λ es. Run (pipeline_played v) v.book.limit es (state_after es)) (sym told.events) c.requires.play.run)
     (c.in_ok-columns.ensures ∙ ap made_columns c.as_slice.ensures) (told.accesses ∙ c.requires.play.accesses ∙ ap (λ es. (state_after es).accesses) (sym told.events)) in
     record {
       events = told.events;

@@ -15,7 +15,7 @@ pub new-requires-clause-planned : goal.new-requires-clause-planned
 new-requires-clause-planned g c =
     let accepted = c.requires.accepted in
     subst (λ (p : Program). IsPlannedProgram (tree_of p) c.args.input.now) (sym c.program.ensures.program)
-    (accepted_programs_are_planned accepted.0 (tree_of c.args.checked.now) c.args.input.now accepted.1)
+    (accepted_programs_are_planned (tree_of c.args.checked.now) c.args.input.now accepted)
 
 pub new-requires-clause-whole : goal.new-requires-clause-whole
 new-requires-clause-whole g c = λ k d less.
@@ -34,7 +34,7 @@ new-requires-clause-whole g c = λ k d less.
 pub new-requires-clause-room : goal.new-requires-clause-room
 new-requires-clause-room g c =
     let accepted = c.requires.accepted in
-    let planned = accepted_programs_are_planned accepted.0 (tree_of c.args.checked.now) c.args.input.now accepted.1 in
+    let planned = accepted_programs_are_planned (tree_of c.args.checked.now) c.args.input.now accepted in
     let few = planned.few in
     let same : most_instances (tree_of c.program.result.now) ≡ most_instances (tree_of c.args.checked.now) =
     ap (λ (p : Program). most_instances (tree_of p)) c.program.ensures.program in

@@ -20,21 +20,21 @@ least_trap-trap-requires-clause-count c =
     let accepted = c.requires.accepted in
     let run = c.requires.run in
     subst (λ l. length l ≤ 4294967296) (sym (c.as_slice.ensures ∙ c.requires.columns))
-    (columns_are_small accepted.0 (tree_of c.args.prepared.now.checked.now) c.args.prepared.now.input.now run.0 c.args.play.run_log.events accepted.1 run.1).count
+    (columns_are_small (tree_of c.args.prepared.now.checked.now) c.args.prepared.now.input.now run.0 c.args.play.run_log.events accepted run.1).count
 
 pub least_trap-trap-requires-clause-some : goal.least_trap-trap-requires-clause-some
 least_trap-trap-requires-clause-some c =
     let accepted = c.requires.accepted in
     let run = c.requires.run in
     subst (λ l. All (λ (column : Column). 0 < length column.nodes) l) (sym (c.as_slice.ensures ∙ c.requires.columns))
-    (columns_are_small accepted.0 (tree_of c.args.prepared.now.checked.now) c.args.prepared.now.input.now run.0 c.args.play.run_log.events accepted.1 run.1).some
+    (columns_are_small (tree_of c.args.prepared.now.checked.now) c.args.prepared.now.input.now run.0 c.args.play.run_log.events accepted run.1).some
 
 pub least_trap-trap-requires-clause-few : goal.least_trap-trap-requires-clause-few
 least_trap-trap-requires-clause-few c =
     let accepted = c.requires.accepted in
     let run = c.requires.run in
     subst (λ l. All (λ (column : Column). length column.nodes ≤ 4294967296) l) (sym (c.as_slice.ensures ∙ c.requires.columns))
-    (columns_are_small accepted.0 (tree_of c.args.prepared.now.checked.now) c.args.prepared.now.input.now run.0 c.args.play.run_log.events accepted.1 run.1).few
+    (columns_are_small (tree_of c.args.prepared.now.checked.now) c.args.prepared.now.input.now run.0 c.args.play.run_log.events accepted run.1).few
 
 pub returns-then-not-runs_final : goal.returns-then-not-runs_final
 returns-then-not-runs_final c =

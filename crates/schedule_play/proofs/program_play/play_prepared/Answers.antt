@@ -11,7 +11,7 @@ pub returns-then-is_some-clause-meets : goal.returns-then-is_some-clause-meets
 returns-then-is_some-clause-meets c =
     let tree = tree_of c.args.prepared.now.checked.now in
     let accepted = c.requires.accepted in
-    plays_meet_the_headline accepted.0 tree c.args.prepared.now.input.now c.args.limits c.args.choices.now c.end_after_init.result accepted.1
+    plays_meet_the_headline tree c.args.prepared.now.input.now c.args.limits c.args.choices.now c.end_after_init.result accepted
     c.requires.throttle c.requires.workers c.end_after_init.ensures
 
 pub end_after_loop-requires-clause-no_trap : goal.end_after_loop-requires-clause-no_trap
@@ -39,5 +39,5 @@ returns-clause-meets c =
     let trap : c.in_ok-trap.trap ≡ init_trap w = c.in_ok-trap.ensures.trap [] c.in_ok-cells.ensures.state in
     let none : is_some (init_trap w) ≡ false = ap is_some (sym trap) ∙ sym c.is_some.ensures ∙ c.if-is_some.false in
     map_ok c.end_after_loop.result c.end_after_loop.ensures (λ r end.
-    plays_meet_the_headline accepted.0 tree input c.args.limits c.args.choices.now r accepted.1 c.requires.throttle c.requires.workers
+    plays_meet_the_headline tree input c.args.limits c.args.choices.now r accepted c.requires.throttle c.requires.workers
     (loop_was_played tree input c.args.limits c.args.choices.now c.in_ok-play.play r none c.in_ok-play.ensures end))

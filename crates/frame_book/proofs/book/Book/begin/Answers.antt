@@ -7,7 +7,7 @@ use Rattle.pipe_model.specs.Runs.Allowed.{MayBegin, IsClosed, LastEndedFirstInst
 use Rattle.pipe_model.specs.Runs.State.{alive}
 use Rattle.pipe_model.specs.Language.SyntaxTree.{tree_of}
 use Rattle.frame_book.specs.AliveLists.{HasAliveList}
-use Rattle.frame_book.specs.BookStates.{BookState, state_of}
+use Rattle.frame_book.specs.BookStates.{last_ticket, BookState, state_of}
 use Rattle.frame_book.specs.BookTables.{tables_of}
 use Rattle.frame_book.specs.RowsOfFrames.{AreRows}
 use Rattle.frame_book.specs.IterationRows.{head_marks}
@@ -16,6 +16,8 @@ use Rattle.frame_book.specs.Tables.{book_state}
 use Rattle.frame_book.proofs.Keeping.Begin.{may, few, there, placed, room, spare_some, row_room, begin_keeps, begin_view, begin_given, was_home}
 use Rattle.frame_book.proofs.Keeping.Stop.{log_room, last_below}
 use Rattle.frame_book.proofs.Iterations.AliveRows.{alive_push}
+use Rattle.frame_book.specs.TicketLog.{Ledger}
+use Rattle.frame_book.proofs.BookLogs.LogEntries.{last_ticket_with}
 use Rattle.frame_book.proofs.book.Book.begin.Goals as goal
 
 pub returns-then-not-last_has_ended_first-clause-answer : goal.returns-then-not-last_has_ended_first-clause-answer
@@ -165,3 +167,9 @@ returns-clause-token g c =
     rw (c.push_reserved.ensures.items, c.enter.ensures, c.start_head-marks.ensures.marks, c.start_head-marks.ensures.lists, c.as_slice-2.ensures.value, c.stamp-now.ensures.log, n, c.stamp-now.ensures.ticket, c.new.ensures) (begin_given g.M.Stands.whole g.M.Stands.stands g.M.Stands.tie (tables_of c.self.inside) c.self.invariant.0 c.if-self.false c.if-self-2.false ended c.take.new.self.home c.in-Some.payload c.in-Some.ensures.some c.pop.new.self.items c.in-Some-pop.row c.in-Some-pop.ensures.items c.start_head-marks.new.payload
     (c.start_head-marks.ensures.stands (tree_of c.self.inside.program) c.self.inside.input (length c.self.inside.rows.items) [] (subst (λ k. g.M.Stands.stands (tree_of c.self.inside.program) c.self.inside.input c.begin.new.self k []) n (c.begin.ensures.stands (tree_of c.self.inside.program) c.self.inside.input was.whole)))
     (c.start_head-marks.ensures.tie ∙ ap₂ (λ x o. record { lists = seen_whole x.lists o; seat = x.seat }) c.begin.ensures.tie orders_are))
+
+pub returns-clause-now : goal.returns-clause-now
+returns-clause-now g c =
+    let t = c.stamp-now.ensures.ticket in
+    let q = ap (λ (l : Ledger). last_ticket l.log) c.stamp-now.ensures.log ∙ last_ticket_with c.self.inside.ledger.log 0 _ in
+    omega (arith, t, q)

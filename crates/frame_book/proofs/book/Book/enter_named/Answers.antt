@@ -11,7 +11,7 @@ use Rattle.pipe_model.specs.Runs.State.{is_completed, own_columns}
 use Rattle.pipe_model.specs.Races.Columns.{nodes_at}
 use Rattle.pipe_model.specs.Language.SyntaxTree.{tree_of}
 use Rattle.run_laws.proofs.RunStates.Frames.{frame_at_within}
-use Rattle.frame_book.specs.BookStates.{state_of}
+use Rattle.frame_book.specs.BookStates.{last_ticket, state_of}
 use Rattle.frame_book.specs.BookTables.{tables_of}
 use Rattle.frame_book.specs.IterationRows.{Row, left_numbers, WaitsAt, marks_at, left_marks}
 use Rattle.frame_book.specs.CallEffects.{seen_whole}
@@ -21,6 +21,8 @@ use Rattle.frame_book.proofs.Keeping.Enter.{rows, row_matches, at_home, status_i
 use Rattle.frame_book.proofs.Iterations.FrameRows.{rows_length, row_at_read}
 use Rattle.frame_book.proofs.Keeping.Stop.{log_room, last_below}
 use Rattle.frame_book.proofs.Iterations.AliveRows.{alive_set}
+use Rattle.frame_book.specs.TicketLog.{Ledger}
+use Rattle.frame_book.proofs.BookLogs.LogEntries.{last_ticket_with}
 use Rattle.frame_book.proofs.book.Book.enter_named.Goals as goal
 
 pub index_mut-row-requires : goal.index_mut-row-requires
@@ -327,3 +329,9 @@ returns-clause-token g c =
     rw (set-set c.self.inside.rows.items c.args.iteration c.take_token.new.self c.enter.new.self, c.enter.ensures, e2, c.start_below-marks.ensures.marks, c.start_below-marks.ensures.lists, rows_too, c.stamp.ensures.log, num, c.stamp.ensures.ticket, c.unwrap_or.ensures) (enter_given g.M.Stands.whole g.M.Stands.stands g.M.Stands.tie (tables_of c.self.inside) c.self.invariant.0 c.args.iteration going m r at c.in-Some.token held c.left_place-left.result none some nothing c.start_below-marks.new.payload
     (λ replies q. c.start_below-marks.ensures.stands (tree_of c.self.inside.program) c.self.inside.input c.args.iteration replies q)
     (c.start_below-marks.ensures.tie ∙ ap (λ o. record { lists = seen_whole (g.M.Stands.tie c.in-Some.token.payload).lists o; seat = (g.M.Stands.tie c.in-Some.token.payload).seat }) (c.start_below-marks.ensures.lists ∙ ap (λ rs. with_start c.self.inside.orders (down_taken (Some (marks_at rs c.args.iteration c.in-Some.token.index)) (left_marks rs c.args.iteration c.left_place-left.result)) (right_taken (Some (marks_at rs c.args.iteration c.in-Some.token.index)) (left_marks rs c.args.iteration c.left_place-left.result))) rows_too)))
+
+pub returns-clause-now : goal.returns-clause-now
+returns-clause-now g c =
+    let t = c.stamp.ensures.ticket in
+    let q = ap (λ (l : Ledger). last_ticket l.log) c.stamp.ensures.log ∙ last_ticket_with c.self.inside.ledger.log c.in-Some.token.now _ in
+    omega (arith, t, q)
