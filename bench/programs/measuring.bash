@@ -9,25 +9,13 @@ print_heading() {
     echo "$(nproc) processors, $(sed -n 's/^model name[^:]*: //p' /proc/cpuinfo | head -n 1); load at the start $(cut -d ' ' -f 1 /proc/loadavg)"
 }
 
-# Makes a call this many times, and sets `median` and `least` to its processor seconds, `status` to the last one's status, and
-# `printed` to the number of bytes that it printed. The call reads nothing.
+# Makes a call this many times, and sets `median` and `least` to its processor seconds, `status` to the last one's status, `size` to
+# the number of bytes that it printed, and `peak` to the greatest memory of a call in MB. The text is in the file `printed` of `room`.
 time_calls() {
-    local count=$1 call user system all TIMEFORMAT='%3U %3S'
+    local count=$1
     shift
-    for ((call = 0; call < count; call++)); do
-        status=0
-        { time "$@" </dev/null >"$room/printed" 2>"$room/complaints" || status=$?; } 2>"$room/times"
-        read -r user system <"$room/times"
-        echo $((10#${user/./} + 10#${system/./}))
-    done >"$room/calls"
-    mapfile -t all < <(sort -n "$room/calls")
-    least=$(as_seconds "${all[0]}")
-    median=$(as_seconds "${all[count / 2]}")
-    printed=$(wc -c <"$room/printed")
+    read -r median least status size peak < <(python3 "$top/bench/programs/timed_calls.py" "$count" "$room/printed" "$@")
 }
-
-# Prints a number of milliseconds in seconds.
-as_seconds() { printf '%d.%03d\n' $(($1 / 1000)) $(($1 % 1000)); }
 
 # Prints the nanoseconds of one of so many things, if all take this many seconds.
 nanoseconds_each() { awk -v seconds="$1" -v number="$2" 'BEGIN { printf "%.0f\n", seconds * 1e9 / number }'; }
