@@ -1,14 +1,14 @@
 //! Scripts of calls. Each row has a call, its result, and the last ticket after it.
 
-use crate::play::Call::{
+use book_tests::play::Call::{
     Advance, Begin, CheckRight, Enter, LeaveReady, NameNext, Reads, Rescue, Stop,
 };
-use crate::play::Seen::{
+use book_tests::play::Seen::{
     Absent, Closed, Count, Done, Ended, Finished, MayBegin, NotYet, Nothing, Refused, Stopped,
     Suspended, Throttled, Token, Waits,
 };
-use crate::play::{Call, Play, Seen};
-use crate::program::Source;
+use book_tests::play::{Call, Play, Seen};
+use book_tests::program::Source;
 use pipe_model::column::ColumnEnd;
 use pipe_model::event::Event;
 use pipe_model::node::Kind;
