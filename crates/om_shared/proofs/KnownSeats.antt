@@ -79,4 +79,5 @@ module _ (capacity : ℕ) (s : State ℕ View) (r : IsOrdered capacity s) where
       others j seen (Writing st sq ls) other k = absurd (other (k.0 ∙ sym own))
       others j seen Spent other k = tt
       others j seen (Asking at ns) other k =
-          (k.0, (let a = k.1 in omega (arith, a, more)), k.2, λ even here. notes at seen ns k.1 even here k.0 k.2 (λ e. k.3 even e))
+          let a = k.1 in
+          (k.0, omega (arith, a, more), k.2, λ even here. notes at seen ns k.1 even here k.0 k.2 (λ e. k.3 even e))

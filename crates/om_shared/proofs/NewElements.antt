@@ -26,7 +26,8 @@ agree_pushed : (words labels : List ℕ) (label : ℕ) → length labels < lengt
     → ((x : ℕ) → slice_index words x ≡ slice_index labels x)
     → (x : ℕ) → slice_index (slice_set words (length labels) label) x ≡ slice_index (labels ++ label ∷ []) x
 agree_pushed words labels label small agree x = elim (cases_eq x (length labels)) [
-  | inl here ↦ rw here (get_or-set_same words (length labels) label 0 small ∙ sym (get_or_push labels label 0 (length labels) refl))
+  | inl here ↦ rw here
+      (get_or-set_same words (length labels) label 0 small ∙ sym (get_or_push labels label 0 (length labels) refl))
   | inr apart ↦ get_or-set_other words (length labels) x label 0 apart ∙ (agree x ∙ sym (push_other labels label x apart))
 ]
 

@@ -42,7 +42,8 @@ element_word links log range capacity words k element kept s below words_are l a
     (omega (arith, inside, at, count, below, words_are), omega (arith, inside, at))
 
 -- one label more has been stored
-pub one_more_moved : (capacity words sequence : ℕ) (links : Links) (range : LabelRange) (k element label : ℕ) (m m' : SeatState)
+pub one_more_moved : (capacity words sequence : ℕ) (links : Links) (range : LabelRange) (k element label : ℕ)
+    (m m' : SeatState)
     → AreLabelled links → IsSparseRange links range → length links.label.items ≤ capacity → k < range.count
     → element ≡ slice_index (elements_of links range) k → label ≡ spread_label range k
     → m' ≡ (view m.0.log m.0.told (labelling ((element + 2) - 2) label m.0.role), m.1)
@@ -66,7 +67,8 @@ one_more_moved capacity words sequence links range k element label m m' h s fits
     }
 
 -- all labels of the range have been stored
-pub enough_moved : (stage : Stage) (capacity words sequence : ℕ) (links : Links) (range : LabelRange) (k n : ℕ) (m : SeatState) → n ≤ k
+pub enough_moved : (stage : Stage) (capacity words sequence : ℕ) (links : Links) (range : LabelRange) (k n : ℕ)
+    (m : SeatState) → n ≤ k
     → IsMoved stage capacity words sequence links range k m → IsMoved stage capacity words sequence links range n m
 enough_moved stage capacity words sequence links range k n m l i = record {
   labels = i.labels;
@@ -110,7 +112,8 @@ ready capacity words sequence old new range m m' count k log moved spread next l
       stage = Settled;
       labels = moved.labels;
       seat = moved.seat;
-      agree = spread_agree old range count (label_at moved.labels) (label_of new) record { spread = moved.spread; others = moved.others } spread;
+      agree = spread_agree old range count (label_at moved.labels) (label_of new)
+          record { spread = moved.spread; others = moved.others } spread;
       kept = subst (IsKept new) (sym log) (kept_relabelled old new m.0.log k.kept next long labelled);
       below = omega (arith, below, same);
       even = omega (arith, even);

@@ -47,9 +47,11 @@ module _ (capacity : ℕ) where
       → ((s : State ℕ View) (r : IsOrdered capacity s) → Knows r.now id v → Knows r.now other w → Knows r.now id both)
       → Joins (IsOrdered capacity) id v other w both spent_view
   joins id v other w both mine s r at apart there =
-      let was : get_elem? s.views other ≡ some w = ⊎_elim (λ x. absurd (apart x.0)) (λ x. x.1) (at_set s.views id other both w there) in
+      let was : get_elem? s.views other ≡ some w =
+      ⊎_elim (λ x. absurd (apart x.0)) (λ x. x.1) (at_set s.views id other both w there) in
       let left = mine s r (r.each id v at) (r.each other w was) in
-      with_views capacity s r _ _ _ refl (one_view (Knows r.now) (set s.views id both) other spent_view record { told = (r.now.log, refl); role = tt }
+      with_views capacity s r _ _ _ refl (one_view (Knows r.now) (set s.views id both) other spent_view
+      record { told = (r.now.log, refl); role = tt }
       (λ j d _. one_view (Knows r.now) s.views id both left (λ i y _. r.each i y) j d))
 
   -- a seat is told what another had seen

@@ -50,7 +50,8 @@ module _ (capacity : ℕ) where
       subst (λ (n : ℕ). FitsStage from n (length r.now.log)) (sym k.3) (fits_stage s r from k.2) in
       let same = k.3 in
       let v : View = view m.0.log m.0.told (at_stage to (sequence + 1) m.0.role) in
-      let now : Contents = record { writer = r.now.writer; log = r.now.log; stage = to; sequence = sequence + 1; labels = r.now.labels } in
+      let now : Contents =
+      record { writer = r.now.writer; log = r.now.log; stage = to; sequence = sequence + 1; labels = r.now.labels } in
       let mine : KnowsAs now id m.0.log (at_stage to (sequence + 1) m.0.role) =
       subst (λ (o : Role). KnowsAs now id m.0.log (at_stage to (sequence + 1) o)) (sym is) (k.0, k.1, refl, refl, k.4) in (
         v,
@@ -72,7 +73,8 @@ module _ (capacity : ℕ) where
       let f = fits_stage s r Resting k.2 in
       let even = f.0 in
       let same = k.3 in
-      turns slots id m Resting Moving sequence labels is (λ count f. (let a = f.0 in let b = f.1 in (omega (arith, a), omega (arith, b))))
+      turns slots id m Resting Moving sequence labels is
+      (λ count f. (let a = f.0 in let b = f.1 in (omega (arith, a), omega (arith, b))))
       (λ e. absurd (omega (arith, e, even, same))) s r l have fits
 
   pub ends_moving : (slots id : ℕ) (m : SeatState) (sequence : ℕ) (labels : List ℕ)
@@ -80,7 +82,8 @@ module _ (capacity : ℕ) where
       → RiseAlong labels m.0.log
       → MayTurn Settled capacity slots id m (sequence + 1)
   ends_moving slots id m sequence labels is up =
-      turns slots id m Moving Settled sequence labels is (λ count f. (let a = f.0 in let b = f.1 in (omega (arith, a), omega (arith, b)))) (λ _. up)
+      turns slots id m Moving Settled sequence labels is
+      (λ count f. (let a = f.0 in let b = f.1 in (omega (arith, a), omega (arith, b)))) (λ _. up)
 
   -- the writer stores a label, which changes no note that counts
   stores : (slots id : ℕ) (m : SeatState) (x label : ℕ) (stage : Stage) (sequence : ℕ) (labels : List ℕ)
@@ -95,7 +98,8 @@ module _ (capacity : ℕ) where
       let k = known capacity s r id m.0 (Writing stage sequence labels) is have in
       let v : View = view m.0.log m.0.told (labelling x label m.0.role) in
       let labels' : List ℕ = set r.now.labels x label in
-      let now : Contents = record { writer = r.now.writer; log = r.now.log; stage = r.now.stage; sequence = r.now.sequence; labels = labels' } in
+      let now : Contents =
+      record { writer = r.now.writer; log = r.now.log; stage = r.now.stage; sequence = r.now.sequence; labels = labels' } in
       let back : x ≡ (x + 2) - 2 = omega arith in
       let two : x + 2 ≡ suc (suc x) = omega arith in
       let mine : KnowsAs now id m.0.log (labelling x label m.0.role) =
@@ -108,7 +112,8 @@ module _ (capacity : ℕ) where
         rewritten capacity s r (x + 2) label id m.1 v r.now.stage r.now.sequence labels' (rw (two, r.words) refl)
             (length-set r.now.labels x label ∙ r.wide) r.fits h.0 k.0 (le_refl r.now.sequence)
             record { told = (r.each id m.0 have).told; role = mine }
-            (λ at seen ns le even here prefix named old. h.1 seen ns (ap (λ (z : ℕ). z % 2) (sym here) ∙ even) prefix named (old here)),
+            (λ at seen ns le even here prefix named old.
+            h.1 seen ns (ap (λ (z : ℕ). z % 2) (sym here) ∙ even) prefix named (old here)),
         ap (λ (y : ℕ). (view m.0.log m.0.told (labelling y label m.0.role), m.1)) back,
       )
 
@@ -169,12 +174,15 @@ module _ (capacity : ℕ) where
       let there : found ≡ c = ap (λ (ws : List ℕ). get_or ws 1 0) r.words ∙ omega (arith, count, long) in
       let log' : List ℕ = r.now.log ++ x ∷ [] in
       let more = length-append r.now.log (x ∷ []) in
-      let becomes : either (eqb found c) (c + 1) found ≡ length log' = rw (eq-eqb found c there) (omega (arith, more, count, long)) in
-      let now : Contents = record { writer = r.now.writer; log = log'; stage = Resting; sequence = r.now.sequence; labels = r.now.labels } in
+      let becomes : either (eqb found c) (c + 1) found ≡ length log' =
+      rw (eq-eqb found c there) (omega (arith, more, count, long)) in
+      let now : Contents =
+      record { writer = r.now.writer; log = log'; stage = Resting; sequence = r.now.sequence; labels = r.now.labels } in
       let log_is : m.0.log ++ x ∷ [] ≡ log' = ap (λ (l : List ℕ). l ++ x ∷ []) k.1 in
       let role : KnowsAs now id (m.0.log ++ x ∷ []) (rested m.0.role) =
       subst (λ (o : Role). KnowsAs now id (m.0.log ++ x ∷ []) (rested o)) (sym is) (k.0, log_is, refl, k.3, k.4) in
-      let mine : Knows now id (with_insertion x m.0) = record { told = prefix_pushed r.now.log m.0.told x (r.each id m.0 have).told; role = role } in (
+      let told = prefix_pushed r.now.log m.0.told x (r.each id m.0 have).told in
+      let mine : Knows now id (with_insertion x m.0) = record { told = told; role = role } in (
         with_insertion x m.0,
         keeps,
         tt,
@@ -187,17 +195,20 @@ module _ (capacity : ℕ) where
           valid = (entries_insert_elements r.now.log x).names r.valid (omega (arith, lx, long));
           fits = (
             omega (arith, even, same),
-            let f = even_fits r.now.stage r.now.sequence (length r.now.log) (omega (arith, even, same)) r.fits in omega (arith, f, more),
+            let f = even_fits r.now.stage r.now.sequence (length r.now.log) (omega (arith, even, same)) r.fits in
+                omega (arith, f, more),
           );
           rises = λ _. subst (λ (y : List ℕ × List ℕ). RiseAlong y.0 y.1) (λ i. (k.4 i, log_is i)) up;
-          each = one_view (Knows now) s.views id (with_insertion x m.0) mine (λ j d other at. others s r x id k.0 j d other (r.each j d at));
+          each = one_view (Knows now) s.views id (with_insertion x m.0) mine
+              (λ j d other at. others s r x id k.0 j d other (r.each j d at));
         },
         λ y e. ap (λ (z : ℕ). (with_insertion z m.0, m.1)) (some-injective x y e),
       )
     where
       with_entry : {s : State ℕ View} (r : IsOrdered capacity s) (x : ℕ) → Contents
       with_entry {s} r x =
-          record { writer = r.now.writer; log = r.now.log ++ x ∷ []; stage = Resting; sequence = r.now.sequence; labels = r.now.labels }
+          let log = r.now.log ++ x ∷ [] in
+          record { writer = r.now.writer; log = log; stage = Resting; sequence = r.now.sequence; labels = r.now.labels }
 
       in_role : (s : State ℕ View) (r : IsOrdered capacity s) (x id : ℕ) → id ≡ r.now.writer
           → (j : ℕ) (seen : List ℕ) (o : Role)
@@ -232,7 +243,8 @@ pub publishes_after : (capacity slots id : ℕ) (m m' : SeatState) (x c sequence
     → MayPublish capacity slots id m' x c
 publishes_after capacity slots id m m' x c sequence labels stage e count even lx small up =
     subst (λ (k : SeatState). MayPublish capacity slots id k x c) (sym e)
-    (publishes capacity slots id (view m.0.log m.0.told (Writing stage sequence labels), m.1) x c sequence labels stage refl count even
+    (publishes capacity slots id (view m.0.log m.0.told (Writing stage sequence labels), m.1) x c sequence labels stage refl
+    count even
     (omega (arith, lx, count)) (omega (arith, small, count)) up)
 
 -- labels have moved, by the sequence number at which they began to

@@ -51,7 +51,8 @@ published step m found m' = (x : ℕ) → step.said ≡ some x → m' ≡ (with_
 -- what the writer was told is a prefix of its log
 abbrev pub checked_told : Step ℕ → SeatState → ℕ → SeatState → Type 0
 checked_told step m found m' = (m' ≡ m)
-    × ((stage : Stage) (sequence : ℕ) (labels : List ℕ) → m.0.role ≡ Writing stage sequence labels → StartsWith m.0.log m.0.told)
+    × ((stage : Stage) (sequence : ℕ) (labels : List ℕ) → m.0.role ≡ Writing stage sequence labels
+    → StartsWith m.0.log m.0.told)
 
 -- ---- steps of a pass
 

@@ -34,27 +34,40 @@ pub fn shared_orders(
 mod tests {
     use super::*;
     use order_2d::two_passes::Asking;
+    use pipe_model::marks::{Marks, Placeholder};
     use pipe_model::orders::Orders;
     use std::test::Fail;
 
-    // An instance, the one below it, and the one to the right of it.
+    const ZERO: Placeholder = Placeholder {
+        down_first: 0,
+        right_first: 0,
+    };
+
     #[test]
-    fn passes_order_the_marks_of_starts(rt: HostRuntime) -> Result<(), Fail> {
+    fn passes_of_two_lists_are_asked_and_meet(rt: HostRuntime) -> Result<(), Fail> {
         let (mut orders, mut early) = shared_orders(rt.alloc(), 8)?;
-        let first = orders.start_first();
         let mut late = early.split()?;
-        orders.confirm(&mut early);
-        let below = orders.start_node(Some(first), None);
-        let beside = orders.start_node(None, Some(first));
-        orders.confirm(&mut late);
-        early.meet(&mut late);
+        let mut down = early.split()?;
+        let mut right = early.split()?;
+        let first = Marks {
+            down_first: 0,
+            right_first: 0,
+            down: ZERO,
+            right: ZERO,
+        };
         let mut asking = Asking {
             rt: &rt,
-            passes: &mut early,
+            passes: &mut down,
         };
-        assert!(rt; asking.down_before(&first, &below) && asking.right_before(&first, &below));
-        assert!(rt; asking.down_before(&first, &beside) && asking.right_before(&first, &beside));
-        assert!(rt; asking.down_before(&below, &beside) && !asking.right_before(&below, &beside));
+        assert!(rt; !asking.down_before(&first, &first));
+        let mut asking = Asking {
+            rt: &rt,
+            passes: &mut right,
+        };
+        assert!(rt; !asking.right_before(&first, &first));
+        orders.start_first();
+        orders.confirm(&mut late);
+        early.meet(&mut late);
         Ok(())
     }
 }

@@ -23,8 +23,11 @@ load-a-requires c =
     let small = k.1 in
     let l = c.requires.first in
     let before = c.load-before.ensures in
-    let same = same_length c.args.seat.now.me c.load-before.new.seat.me _ _ before.2 in
-    (before.0 ∙ c.requires.own, omega (arith, words, small, l), notes_label c.args.words.now.key _ _ _ c.args.x (omega (arith, l, same)))
+    let same = same_length c.args.seat.now.me c.load-before.new.seat.me _ _ before.2 in (
+      before.0 ∙ c.requires.own,
+      omega (arith, words, small, l),
+      notes_label c.args.words.now.key _ _ _ c.args.x (omega (arith, l, same)),
+    )
 
 pub load-b-requires : goal.load-b-requires
 load-b-requires c =
@@ -34,7 +37,8 @@ load-b-requires c =
     let l = c.requires.second in
     let before = c.load-before in
     let a = c.load-a in
-    let first = one_noted c.args.seat.now.me before.new.seat.me a.new.seat.me c.args.x before.result a.result [] before.ensures.2 a.ensures.2 in
+    let first = one_noted c.args.seat.now.me before.new.seat.me a.new.seat.me c.args.x before.result a.result []
+    before.ensures.2 a.ensures.2 in
     let same = same_length c.args.seat.now.me a.new.seat.me _ _ first in (
       a.ensures.0 ∙ (before.ensures.0 ∙ c.requires.own),
       omega (arith, words, small, l),
@@ -55,9 +59,12 @@ returns-then-after-before-clause-asking c =
     let before = c.load-before in
     let a = c.load-a in
     let b = c.load-b in
-    let first = one_noted m before.new.seat.me a.new.seat.me c.args.x before.result a.result [] before.ensures.2 a.ensures.2 in
-    let second = one_noted m a.new.seat.me b.new.seat.me c.args.y before.result b.result ((c.args.x, a.result) ∷ []) first b.ensures.2 in
-    still_asks _ _ m c.load-after.new.seat.me _ _ _ _ (c.load-after.ensures.2.0 ∙ second) c.requires.asking.1 c.requires.asking
+    let first = one_noted m before.new.seat.me a.new.seat.me c.args.x before.result a.result []
+    before.ensures.2 a.ensures.2 in
+    let second = one_noted m a.new.seat.me b.new.seat.me c.args.y before.result b.result ((c.args.x, a.result) ∷ [])
+    first b.ensures.2 in
+    still_asks _ _ m c.load-after.new.seat.me _ _ _ _ (c.load-after.ensures.2.0 ∙ second)
+    c.requires.asking.1 c.requires.asking
 
 pub returns-else-after-before-clause-asking : goal.returns-else-after-before-clause-asking
 returns-else-after-before-clause-asking c =
@@ -65,9 +72,12 @@ returns-else-after-before-clause-asking c =
     let before = c.load-before in
     let a = c.load-a in
     let b = c.load-b in
-    let first = one_noted m before.new.seat.me a.new.seat.me c.args.x before.result a.result [] before.ensures.2 a.ensures.2 in
-    let second = one_noted m a.new.seat.me b.new.seat.me c.args.y before.result b.result ((c.args.x, a.result) ∷ []) first b.ensures.2 in
-    still_asks _ _ m c.load-after.new.seat.me _ _ _ _ (c.load-after.ensures.2.0 ∙ second) c.requires.asking.1 c.requires.asking
+    let first = one_noted m before.new.seat.me a.new.seat.me c.args.x before.result a.result []
+    before.ensures.2 a.ensures.2 in
+    let second = one_noted m a.new.seat.me b.new.seat.me c.args.y before.result b.result ((c.args.x, a.result) ∷ [])
+    first b.ensures.2 in
+    still_asks _ _ m c.load-after.new.seat.me _ _ _ _ (c.load-after.ensures.2.0 ∙ second)
+    c.requires.asking.1 c.requires.asking
 
 pub returns-then-after-before-clause-order : goal.returns-then-after-before-clause-order
 returns-then-after-before-clause-order c =
@@ -75,9 +85,12 @@ returns-then-after-before-clause-order c =
     let before = c.load-before in
     let a = c.load-a in
     let b = c.load-b in
-    let first = one_noted m before.new.seat.me a.new.seat.me c.args.x before.result a.result [] before.ensures.2 a.ensures.2 in
-    let second = one_noted m a.new.seat.me b.new.seat.me c.args.y before.result b.result ((c.args.x, a.result) ∷ []) first b.ensures.2 in
+    let first = one_noted m before.new.seat.me a.new.seat.me c.args.x before.result a.result []
+    before.ensures.2 a.ensures.2 in
+    let second = one_noted m a.new.seat.me b.new.seat.me c.args.y before.result b.result ((c.args.x, a.result) ∷ [])
+    first b.ensures.2 in
     let same : b.new.seat.me.0.log ≡ m.0.log = ap (λ (k : SeatState). k.0.log) second in
-    let order = c.load-after.ensures.2.1 before.result c.args.x c.args.y a.result b.result (ap (λ (k : SeatState). k.0.role) second)
+    let order = c.load-after.ensures.2.1 before.result c.args.x c.args.y a.result b.result
+    (ap (λ (k : SeatState). k.0.role) second)
     (omega arith) (omega arith) in
     rw (← same) ((λ t. order.1 (ltb-true a.result b.result t)), (λ t. lt-ltb a.result b.result (order.0 t)))
