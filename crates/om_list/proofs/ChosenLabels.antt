@@ -4,13 +4,16 @@ use Rattle.std.proofs.lemmas.Bool.{cases_eq}
 use Rattle.pipe_model.specs.Orders.OrderList.{has}
 use Rattle.om_relabel.specs.declared.label_range.LabelRange.{LabelRange}
 use Rattle.om_relabel.specs.declared.links.Links.{Links}
-use Rattle.om_relabel.specs.declared.links.TheConstants.{END, LABEL_BITS}
+use Rattle.om_relabel.specs.declared.links.TheConstants.{END, LABEL_BITS, TOP}
 use Rattle.om_relabel.specs.LabelledLinks.{AreLabelled, elements, label_of}
 use Rattle.om_relabel.specs.Links.{AreLinked, chain, first_of, label_after}
 use Rattle.om_relabel.specs.Ranges.{IsSparse, aligned, elements_of, elements_within, most_in}
+use Rattle.om_relabel.proofs.ElementsWithin.{has_within}
 use Rattle.om_relabel.proofs.RisingLabels.{has_head, has_later}
+use Rattle.om_relabel.proofs.SparseRanges.{aligned_fits, aligned_high, aligned_low}
 use Rattle.om_relabel.proofs.SpreadLabels.{IsSpread}
-use Rattle.om_list.specs.ChosenLabels.{HasChosenLabel, HasMadeRoom, IsRelabelled, around, first_label, next_label}
+use Rattle.om_relabel.proofs.Walks.{label_below}
+use Rattle.om_list.specs.ChosenLabels.{HasChosenLabel, HasMadeRoom, IsRelabelled, around, first_label, middle_after, next_label}
 
 -- ---- the label of the next element, by its link
 
@@ -59,13 +62,30 @@ pub record IsSmallestSparse (links : Links) (x : ℕ) (range : LabelRange) : Typ
   pub sparse : range.count ≤ most_in range.bits
   pub least : (bits : ℕ) → 1 ≤ bits → bits < range.bits → ¬ IsSparse links x bits
 
+-- it ends below 2^62
+pub chosen_top : (links : Links) → AreLabelled links → (x : ℕ) → x < length links.label.items → (low bits : ℕ)
+    → low ≡ aligned (label_of links x) bits → bits ≤ LABEL_BITS → low + 2 ^ bits ≤ TOP
+chosen_top links h x l low bits is few =
+    let fits = aligned_fits (label_of links x) bits (label_below links h x l) few in
+    omega (arith, fits, is)
+
+-- and has the element
+pub chosen_has : (links : Links) → AreLabelled links → (x : ℕ) → x < length links.label.items → (range : LabelRange)
+    → range.low ≡ aligned (label_of links x) range.bits → has x (elements_of links range) ≡ true
+chosen_has links h x l range low =
+    let above = aligned_low (label_of links x) range.bits in
+    let below = aligned_high (label_of links x) range.bits in
+    has_within (label_of links) range.low (range.low + 2 ^ range.bits) (elements links) x (h.each x l)
+    (omega (arith, low, above)) (omega (arith, low, below))
+
 pub is_relabelled : (old new : Links) (x : ℕ) (range : LabelRange) → IsSmallestSparse old x range
     → IsSpread old (label_of new) range range.count → length new.label.items ≡ length old.label.items
     → IsRelabelled (elements old) old.label.items x new.label.items
 is_relabelled old new x range s spread long =
-    let same : elements_of old range ≡ around (elements old) old.label.items x range.bits =
+    let xs : List ℕ = around (elements old) old.label.items x range.bits in
+    let same : elements_of old range ≡ xs =
     ap (λ n. elements_within (label_of old) n (n + 2 ^ range.bits) (elements old)) s.low in
-    let counts : range.count ≡ length (around (elements old) old.label.items x range.bits) = s.count ∙ ap (length {A = ℕ}) same in
+    let counts : range.count ≡ length xs = s.count ∙ ap (length {A = ℕ}) same in
     let sparse = s.sparse in
     record {
       bits = range.bits;
@@ -93,18 +113,24 @@ room_is_made links h x l crowded labels relabelled =
 
 -- ---- the label of the new element
 
+-- the middle, as it is computed
+pub middle_is : (links : Links) → AreLabelled links → (x low high : ℕ) → x < length links.label.items → low ≡ label_of links x
+    → high ≡ label_after links.label.items (slice_index links.next.items x)
+    → low + (high - low) / 2 ≡ middle_after (elements links) links.label.items x
+middle_is links h x low high l low_is high_is =
+    ap (λ n. n + (high - n) / 2) low_is
+    ∙ ap (λ n. label_of links x + (n - label_of links x) / 2) (high_is ∙ next_by_link links h x l)
+
 pub label_is_chosen : (old between new : Links) (x low high : ℕ) → AreLabelled between → x < length between.label.items
-    → between.next.items ≡ old.next.items → HasMadeRoom (elements old) old.label.items x between.label.items → low ≡ label_of between x
-    → high ≡ label_after between.label.items (slice_index between.next.items x)
+    → between.next.items ≡ old.next.items → HasMadeRoom (elements old) old.label.items x between.label.items
+    → low ≡ label_of between x → high ≡ label_after between.label.items (slice_index between.next.items x)
     → new.label.items ≡ between.label.items ++ (low + (high - low) / 2) ∷ []
     → HasChosenLabel (elements old) old.label.items x new.label.items
 label_is_chosen old between new x low high h l next room low_is high_is pushed =
     let labels : List ℕ = between.label.items in
-    let above : high ≡ next_label (elements old) labels x =
-    high_is ∙ (next_by_link between h x l ∙ ap (λ ns. next_label (chain ns) labels x) next) in
+    let middle = middle_is between h x low high l low_is high_is ∙ ap (λ ns. middle_after (chain ns) labels x) next in
     record {
       before = labels;
       room = room;
-      middle = pushed ∙ (ap (λ n. labels ++ (n + (high - n) / 2) ∷ []) low_is
-          ∙ ap (λ n. labels ++ (label_of between x + (n - label_of between x) / 2) ∷ []) above);
+      middle = pushed ∙ ap (λ n. labels ++ n ∷ []) middle;
     }

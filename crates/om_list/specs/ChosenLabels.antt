@@ -1,4 +1,5 @@
--- The label that an insertion chooses (Bender et al. 2002), given by the elements in the order of the list and the label of each.
+-- The label that an insertion chooses (Bender et al. 2002), given by `xs`, the elements in the order of the list, and by
+-- the label of each.
 use Rattle.std.specs.Prelude.{◌≡◌, ◌≢◌, ℕ, ◌+◌, ◌-◌, ◌*◌, ◌/◌, ◌^◌, ◌<◌, ◌≤◌, List, [], ◌∷◌, ◌++◌, ◌==◌, if◌then◌else◌, length, slice_index, true}
 use Rattle.pipe_model.specs.Orders.OrderList.{has}
 use Rattle.om_relabel.specs.Ranges.{aligned, elements_within, most_in}
@@ -24,16 +25,19 @@ middle_after xs labels x = slice_index labels x + (next_label xs labels x - slic
 -- the elements whose labels are in the aligned range of 2^bits labels around that of x
 abbrev pub around : List ℕ → List ℕ → ℕ → ℕ → List ℕ
 around xs labels x bits =
-    elements_within (λ y. slice_index labels y) (aligned (slice_index labels x) bits) (aligned (slice_index labels x) bits + 2 ^ bits) xs
+    let low : ℕ = aligned (slice_index labels x) bits in
+    elements_within (λ y. slice_index labels y) low (low + 2 ^ bits) xs
 
--- the elements of the smallest sparse range of labels around x are spread evenly over it, and all others keep their labels
+-- the elements of the smallest sparse range of labels around x are spread evenly over it, and all others keep their
+-- labels
 pub record IsRelabelled (xs labels : List ℕ) (x : ℕ) (new : List ℕ) : Type 0 where
   pub bits : ℕ
   pub some : 1 ≤ bits
   pub few : bits ≤ 62
   pub sparse : length (around xs labels x bits) ≤ most_in bits
   pub least : (fewer : ℕ) → 1 ≤ fewer → fewer < bits → ¬ (length (around xs labels x fewer) ≤ most_in fewer)
-  pub spread : (k : ℕ) → k < length (around xs labels x bits) → slice_index new (slice_index (around xs labels x bits) k)
+  pub spread : (k : ℕ) → k < length (around xs labels x bits)
+      → slice_index new (slice_index (around xs labels x bits) k)
       ≡ aligned (slice_index labels x) bits + k * (2 ^ bits / length (around xs labels x bits))
   pub others : (y : ℕ) → has y (around xs labels x bits) ≢ true → slice_index new y ≡ slice_index labels y
   pub long : length new ≡ length labels

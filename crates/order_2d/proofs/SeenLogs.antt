@@ -1,17 +1,14 @@
 -- A longer log keeps the order of the elements that were seen.
 use Rattle.std.proofs.Common.{◌≡◌, ℕ, ◌+◌, ◌<◌, ◌≤◌, List, [], ◌∷◌, ◌++◌, length, true, subst, sym, ap, arith, length-append}
 use Rattle.om_shared.specs.SharedLists.{StartsWith}
+use Rattle.om_shared.proofs.SeenLogs.{log_prefix}
 use Rattle.pipe_model.specs.Orders.GrowingLists.{KeepsOrder}
 use Rattle.pipe_model.specs.Orders.OrderList.{IsLog, has, list_of_log}
 use Rattle.run_laws.proofs.ListOrders.InsertionLists.{list_has_below}
 use Rattle.run_laws.proofs.ListOrders.LongerLogs.{longer_logs_keep_the_order}
 
--- a prefix of a log is a log
-pub log_prefix : (e : ℕ) (log more : List ℕ) → IsLog e (log ++ more) → IsLog e log
-log_prefix e [] more h = tt
-log_prefix e (z ∷ log) more h = (h.0, log_prefix (e + 1) log more h.1)
-
-pub seen_keeps_order : (whole part : List ℕ) → IsLog 1 whole → StartsWith whole part → KeepsOrder (list_of_log part) (list_of_log whole)
+pub seen_keeps_order : (whole part : List ℕ) → IsLog 1 whole → StartsWith whole part
+    → KeepsOrder (list_of_log part) (list_of_log whole)
 seen_keeps_order whole part ok starts =
     let rest : List ℕ = starts.0 in
     let is : whole ≡ part ++ rest = starts.1 in

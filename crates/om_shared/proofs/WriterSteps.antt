@@ -1,0 +1,256 @@
+-- The steps of the writer keep the rule.
+use Rattle.std.proofs.Common.{◌≡◌, ◌≢◌, ℕ, suc, ◌+◌, ◌-◌, ◌*◌, ◌%◌, ◌<◌, ◌≤◌, ◌^◌, List, [], ◌∷◌, ◌++◌, length, get_or, set, refl, sym, ap, ◌∙◌, subst, arith, le_refl, length-set, length-append, eqb, eq-eqb, get_or-set_other}
+use prog.Atomic.{either}
+use mathlib.Core.Option.{none, some, some-injective}
+use Rattle.atomic_table.specs.Table.{State, step, keeps, Allows}
+use Rattle.pipe_model.specs.Orders.OrderList.{list_of_log}
+use Rattle.run_laws.proofs.ListOrders.InsertionLists.{entries_insert_elements, list_has_below}
+use Rattle.om_relabel.proofs.RisingLabels.{rises_same}
+use Rattle.om_shared.specs.declared.view.View.{View}
+use Rattle.om_shared.specs.declared.view.Role.{Role}
+use Rattle.om_shared.specs.declared.view.Role.TheVariants.{Writing, Asking, Spent}
+use Rattle.om_shared.specs.declared.view.Stage.{Stage}
+use Rattle.om_shared.specs.declared.view.Stage.TheVariants.{Resting, Moving, Settled}
+use Rattle.om_shared.specs.SharedLists.{StartsWith}
+use Rattle.om_shared.specs.Rule.{AreCurrent, AreOfElements, Contents, FitsStage, IsOrdered, Knows, KnowsAs, RiseAlong, label_at, view}
+use Rattle.om_shared.specs.Steps.{SeatState, at_stage, labelling, published, rested, stored, turned_to, with_insertion}
+use Rattle.om_shared.proofs.KnownSeats.{known, one_view, rewritten}
+use Rattle.om_shared.proofs.SeenLogs.{prefix_pushed}
+
+-- the writer may store a sequence number, and is then at a stage
+abbrev pub MayTurn : Stage → (capacity slots id : ℕ) → SeatState → ℕ → Type 0
+MayTurn to capacity slots id m n =
+    Allows (IsOrdered capacity) slots id m 0 (λ _. n) (λ _. turned_to to (step slots 0 n 0 none) m n)
+
+-- the writer may store a label of element x
+abbrev pub MayStore : (capacity slots id : ℕ) → SeatState → ℕ → ℕ → Type 0
+MayStore capacity slots id m x label =
+    Allows (IsOrdered capacity) slots id m (x + 2) (λ _. label) (λ _. stored (step slots (x + 2) label 0 none) m label)
+
+-- the writer may announce an insertion after x, if there are c so far
+abbrev pub MayPublish : (capacity slots id : ℕ) → SeatState → ℕ → ℕ → Type 0
+MayPublish capacity slots id m x c =
+    Allows (IsOrdered capacity) slots id m 1 (λ n. either (eqb n c) (c + 1) n) (published (step slots 1 c (c + 1) (some x)) m)
+
+module _ (capacity : ℕ) where
+  -- what the writer knows of a stage, of which the rule has a bound
+  fits_stage : (s : State ℕ View) (r : IsOrdered capacity s) (stage : Stage) → stage ≡ r.now.stage
+      → FitsStage stage r.now.sequence (length r.now.log)
+  fits_stage s r stage is = subst (λ (st : Stage). FitsStage st r.now.sequence (length r.now.log)) (sym is) r.fits
+
+  -- the writer stores another sequence number, at a stage that fits it
+  turns : (slots id : ℕ) (m : SeatState) (from to : Stage) (sequence : ℕ) (labels : List ℕ)
+      → m.0.role ≡ Writing from sequence labels
+      → ((count : ℕ) → FitsStage from sequence count → FitsStage to (sequence + 1) count)
+      → ((sequence + 1) % 2 ≡ 0 → RiseAlong labels m.0.log)
+      → MayTurn to capacity slots id m (sequence + 1)
+  turns slots id m from to sequence labels is fits up s r _ have _ =
+      let k = known capacity s r id m.0 (Writing from sequence labels) is have in
+      let old : FitsStage from sequence (length r.now.log) =
+      subst (λ (n : ℕ). FitsStage from n (length r.now.log)) (sym k.3) (fits_stage s r from k.2) in
+      let same = k.3 in
+      let v : View = view m.0.log m.0.told (at_stage to (sequence + 1) m.0.role) in
+      let now : Contents =
+      record { writer = r.now.writer; log = r.now.log; stage = to; sequence = sequence + 1; labels = r.now.labels } in
+      let mine : KnowsAs now id m.0.log (at_stage to (sequence + 1) m.0.role) =
+      subst (λ (o : Role). KnowsAs now id m.0.log (at_stage to (sequence + 1) o)) (sym is) (k.0, k.1, refl, refl, k.4) in (
+        v,
+        keeps,
+        tt,
+        rewritten capacity s r 0 (sequence + 1) id m.1 v to (sequence + 1) r.now.labels
+            (ap (λ (ws : List ℕ). set ws 0 (sequence + 1)) r.words) r.wide (fits (length r.now.log) old)
+            (λ even. subst (λ (x : List ℕ × List ℕ). RiseAlong x.0 x.1) (λ i. (k.4 i, k.1 i)) (up even))
+            k.0 (omega (arith, same)) record { told = (r.each id m.0 have).told; role = mine }
+            (λ at seen ns le even here _ _ _. absurd (omega (arith, le, here, same))),
+        refl,
+      )
+
+  pub starts_moving : (slots id : ℕ) (m : SeatState) (sequence : ℕ) (labels : List ℕ)
+      → m.0.role ≡ Writing Resting sequence labels
+      → MayTurn Moving capacity slots id m (sequence + 1)
+  starts_moving slots id m sequence labels is s r l have fits =
+      let k = known capacity s r id m.0 (Writing Resting sequence labels) is have in
+      let f = fits_stage s r Resting k.2 in
+      let even = f.0 in
+      let same = k.3 in
+      turns slots id m Resting Moving sequence labels is
+      (λ count f. (let a = f.0 in let b = f.1 in (omega (arith, a), omega (arith, b))))
+      (λ e. absurd (omega (arith, e, even, same))) s r l have fits
+
+  pub ends_moving : (slots id : ℕ) (m : SeatState) (sequence : ℕ) (labels : List ℕ)
+      → m.0.role ≡ Writing Moving sequence labels
+      → RiseAlong labels m.0.log
+      → MayTurn Settled capacity slots id m (sequence + 1)
+  ends_moving slots id m sequence labels is up =
+      turns slots id m Moving Settled sequence labels is
+      (λ count f. (let a = f.0 in let b = f.1 in (omega (arith, a), omega (arith, b)))) (λ _. up)
+
+  -- the writer stores a label, which changes no note that counts
+  stores : (slots id : ℕ) (m : SeatState) (x label : ℕ) (stage : Stage) (sequence : ℕ) (labels : List ℕ)
+      → m.0.role ≡ Writing stage sequence labels
+      → ((s : State ℕ View) (r : IsOrdered capacity s) → KnowsAs r.now id m.0.log (Writing stage sequence labels)
+      → (r.now.sequence % 2 ≡ 0 → RiseAlong (set r.now.labels x label) r.now.log)
+      × ((seen : List ℕ) (notes : List (ℕ × ℕ)) → r.now.sequence % 2 ≡ 0 → StartsWith r.now.log seen
+      → AreOfElements (length seen) notes → AreCurrent r.now.labels notes
+      → AreCurrent (set r.now.labels x label) notes))
+      → MayStore capacity slots id m x label
+  stores slots id m x label stage sequence labels is still s r _ have _ =
+      let k = known capacity s r id m.0 (Writing stage sequence labels) is have in
+      let v : View = view m.0.log m.0.told (labelling x label m.0.role) in
+      let labels' : List ℕ = set r.now.labels x label in
+      let now : Contents =
+      record { writer = r.now.writer; log = r.now.log; stage = r.now.stage; sequence = r.now.sequence; labels = labels' } in
+      let back : x ≡ (x + 2) - 2 = omega arith in
+      let two : x + 2 ≡ suc (suc x) = omega arith in
+      let mine : KnowsAs now id m.0.log (labelling x label m.0.role) =
+      subst (λ (o : Role). KnowsAs now id m.0.log (labelling x label o)) (sym is)
+      (k.0, k.1, k.2, k.3, ap (λ (ls : List ℕ). set ls x label) k.4) in
+      let h = still s r k in (
+        v,
+        keeps,
+        tt,
+        rewritten capacity s r (x + 2) label id m.1 v r.now.stage r.now.sequence labels' (rw (two, r.words) refl)
+            (length-set r.now.labels x label ∙ r.wide) r.fits h.0 k.0 (le_refl r.now.sequence)
+            record { told = (r.each id m.0 have).told; role = mine }
+            (λ at seen ns le even here prefix named old.
+            h.1 seen ns (ap (λ (z : ℕ). z % 2) (sym here) ∙ even) prefix named (old here)),
+        ap (λ (y : ℕ). (view m.0.log m.0.told (labelling y label m.0.role), m.1)) back,
+      )
+
+  -- while labels move, no note counts
+  pub stores_moved : (slots id : ℕ) (m : SeatState) (x label sequence : ℕ) (labels : List ℕ)
+      → m.0.role ≡ Writing Moving sequence labels
+      → MayStore capacity slots id m x label
+  stores_moved slots id m x label sequence labels is = stores slots id m x label Moving sequence labels is
+      (λ s r k.
+      let odd = (fits_stage s r Moving k.2).0 in (
+        (λ even. absurd (omega (arith, even, odd))),
+        (λ seen ns even _ _ _. absurd (omega (arith, even, odd))),
+      ))
+
+  still_current : (labels : List ℕ) (e label count : ℕ) (notes : List (ℕ × ℕ)) → count < e → AreOfElements count notes
+      → AreCurrent labels notes → AreCurrent (set labels e label) notes
+  still_current labels e label count [] lt named k = tt
+  still_current labels e label count (n ∷ ns) lt named k = (
+    k.0 ∙ sym (get_or-set_other labels e n.0 label 0 (λ x. let q = named.0 in absurd (omega (arith, x, q, lt)))),
+    still_current labels e label count ns lt named.1 k.1,
+  )
+
+  -- the label of an element that is in no log yet
+  pub stores_new : (slots id : ℕ) (m : SeatState) (e label : ℕ) (stage : Stage) (sequence : ℕ) (labels : List ℕ)
+      → m.0.role ≡ Writing stage sequence labels → length m.0.log < e
+      → MayStore capacity slots id m e label
+  stores_new slots id m e label stage sequence labels is new = stores slots id m e label stage sequence labels is
+      (λ s r k.
+      let long = ap (λ (x : List ℕ). length x) k.1 in
+      let h = list_has_below r.now.log r.valid in (
+        (λ even. rises_same (label_at r.now.labels) (label_at (set r.now.labels e label)) 0 (2 ^ 62) (list_of_log r.now.log)
+            (λ y inside.
+            let q = h.only y inside in
+            get_or-set_other r.now.labels e y label 0 (λ x. absurd (omega (arith, x, q, long, new)))) (r.rises even)),
+        (λ seen ns _ prefix named current.
+            let p = ap (λ (x : List ℕ). length x) prefix.1 in
+            let q = length-append seen prefix.0 in
+            still_current r.now.labels e label (length seen) ns (omega (arith, p, q, long, new)) named current),
+      ))
+
+  even_fits : (stage : Stage) (sequence count : ℕ) → sequence % 2 ≡ 0 → FitsStage stage sequence count
+      → sequence ≤ 2 * count + 2
+  even_fits Resting sequence count even f = let a = f.1 in omega (arith, a)
+  even_fits Moving sequence count even f = let a = f.0 in absurd (omega (arith, a, even))
+  even_fits Settled sequence count even f = f.1
+
+  -- the new element is in the log from now on
+  pub publishes : (slots id : ℕ) (m : SeatState) (x c sequence : ℕ) (labels : List ℕ) (stage : Stage)
+      → m.0.role ≡ Writing stage sequence labels
+      → c ≡ length m.0.log → sequence % 2 ≡ 0 → x ≤ length m.0.log → length m.0.log + 1 < capacity
+      → RiseAlong labels (m.0.log ++ x ∷ [])
+      → MayPublish capacity slots id m x c
+  publishes slots id m x c sequence labels stage is count even lx small up s r _ have _ =
+      let k = known capacity s r id m.0 (Writing stage sequence labels) is have in
+      let long = ap (λ (l : List ℕ). length l) k.1 in
+      let same = k.3 in
+      let found : ℕ = get_or s.words 1 0 in
+      let there : found ≡ c = ap (λ (ws : List ℕ). get_or ws 1 0) r.words ∙ omega (arith, count, long) in
+      let log' : List ℕ = r.now.log ++ x ∷ [] in
+      let more = length-append r.now.log (x ∷ []) in
+      let becomes : either (eqb found c) (c + 1) found ≡ length log' =
+      rw (eq-eqb found c there) (omega (arith, more, count, long)) in
+      let now : Contents =
+      record { writer = r.now.writer; log = log'; stage = Resting; sequence = r.now.sequence; labels = r.now.labels } in
+      let log_is : m.0.log ++ x ∷ [] ≡ log' = ap (λ (l : List ℕ). l ++ x ∷ []) k.1 in
+      let role : KnowsAs now id (m.0.log ++ x ∷ []) (rested m.0.role) =
+      subst (λ (o : Role). KnowsAs now id (m.0.log ++ x ∷ []) (rested o)) (sym is) (k.0, log_is, refl, k.3, k.4) in
+      let told = prefix_pushed r.now.log m.0.told x (r.each id m.0 have).told in
+      let mine : Knows now id (with_insertion x m.0) = record { told = told; role = role } in (
+        with_insertion x m.0,
+        keeps,
+        tt,
+        record {
+          now = now;
+          words = ap (λ (ws : List ℕ). set ws 1 (either (eqb found c) (c + 1) found)) r.words
+              ∙ ap (λ (n : ℕ). r.now.sequence ∷ n ∷ r.now.labels) becomes;
+          wide = r.wide;
+          room = omega (arith, more, long, small);
+          valid = (entries_insert_elements r.now.log x).names r.valid (omega (arith, lx, long));
+          fits = (
+            omega (arith, even, same),
+            let f = even_fits r.now.stage r.now.sequence (length r.now.log) (omega (arith, even, same)) r.fits in
+                omega (arith, f, more),
+          );
+          rises = λ _. subst (λ (y : List ℕ × List ℕ). RiseAlong y.0 y.1) (λ i. (k.4 i, log_is i)) up;
+          each = one_view (Knows now) s.views id (with_insertion x m.0) mine
+              (λ j d other at. others s r x id k.0 j d other (r.each j d at));
+        },
+        λ y e. ap (λ (z : ℕ). (with_insertion z m.0, m.1)) (some-injective x y e),
+      )
+    where
+      with_entry : {s : State ℕ View} (r : IsOrdered capacity s) (x : ℕ) → Contents
+      with_entry {s} r x =
+          let log = r.now.log ++ x ∷ [] in
+          record { writer = r.now.writer; log = log; stage = Resting; sequence = r.now.sequence; labels = r.now.labels }
+
+      in_role : (s : State ℕ View) (r : IsOrdered capacity s) (x id : ℕ) → id ≡ r.now.writer
+          → (j : ℕ) (seen : List ℕ) (o : Role)
+          → j ≢ id → KnowsAs r.now j seen o → KnowsAs (with_entry r x) j seen o
+      in_role s r x id own j seen (Writing st sq ls) other k = absurd (other (k.0 ∙ sym own))
+      in_role s r x id own j seen Spent other k = tt
+      in_role s r x id own j seen (Asking at ns) other k = (prefix_pushed r.now.log seen x k.0, k.1, k.2, k.3)
+
+      others : (s : State ℕ View) (r : IsOrdered capacity s) (x id : ℕ) → id ≡ r.now.writer → (j : ℕ) (d : View)
+          → j ≢ id
+          → Knows r.now j d → Knows (with_entry r x) j d
+      others s r x id own j d other k =
+          record { told = prefix_pushed r.now.log d.told x k.told; role = in_role s r x id own j d.log d.role other k.role }
+
+-- ---- the seat of the writer
+
+-- the seat after a label was stored
+pub after_storing : (m m' : SeatState) (stage : Stage) (e label sequence : ℕ) (labels : List ℕ)
+    → m' ≡ (view m.0.log m.0.told (labelling ((e + 2) - 2) label m.0.role), m.1)
+    → m.0.role ≡ Writing stage sequence labels
+    → m' ≡ (view m.0.log m.0.told (Writing stage sequence (set labels e label)), m.1)
+after_storing m m' stage e label sequence labels is role =
+    let back : (e + 2) - 2 ≡ e = omega arith in
+    is ∙ (ap (λ (k : ℕ). (view m.0.log m.0.told (labelling k label m.0.role), m.1)) back
+    ∙ ap (λ (o : Role). (view m.0.log m.0.told (labelling e label o), m.1)) role)
+
+-- the insertion may be published, by the seat after the label was stored
+pub publishes_after : (capacity slots id : ℕ) (m m' : SeatState) (x c sequence : ℕ) (labels : List ℕ) (stage : Stage)
+    → m' ≡ (view m.0.log m.0.told (Writing stage sequence labels), m.1) → c ≡ length m.0.log → sequence % 2 ≡ 0
+    → x ≤ c → c + 1 < capacity
+    → RiseAlong labels (m.0.log ++ x ∷ [])
+    → MayPublish capacity slots id m' x c
+publishes_after capacity slots id m m' x c sequence labels stage e count even lx small up =
+    subst (λ (k : SeatState). MayPublish capacity slots id k x c) (sym e)
+    (publishes capacity slots id (view m.0.log m.0.told (Writing stage sequence labels), m.1) x c sequence labels stage refl
+    count even
+    (omega (arith, lx, count)) (omega (arith, small, count)) up)
+
+-- labels have moved, by the sequence number at which they began to
+pub ends_moving_at : (capacity slots id : ℕ) (m : SeatState) (sequence from : ℕ) (labels : List ℕ) → from ≡ sequence + 1
+    → m.0.role ≡ Writing Moving from labels → RiseAlong labels m.0.log
+    → MayTurn Settled capacity slots id m (sequence + 2)
+ends_moving_at capacity slots id m sequence from labels e role up =
+    let two : from + 1 ≡ sequence + 2 = omega (arith, e) in
+    subst (λ (n : ℕ). MayTurn Settled capacity slots id m n) two (ends_moving capacity slots id m from labels role up)
