@@ -43,6 +43,13 @@ impl Folded {
         }
     }
 
+    /// Returns the counter that is kept.
+    pub fn kept(&self) -> Option<Counter>
+        ensures { result ≡ self.now }
+    {
+        self.kept
+    }
+
     /// Keeps this counter, in place of the one that was kept.
     pub fn learn(&mut self, counter: Counter)
         ensures { self.new ≡ Some counter }

@@ -229,6 +229,7 @@ impl<M: Payload<L>, L: ListWriter + Drop> Book<M, L> {
         ensures book { self.new ≡ after_begin self.old result }
         ensures token { IfStarted result (IsGivenBy M.stands M.tie self.new) }
         ensures now { IfStarted result (λ t. t.now ≡ last_ticket self.new.log) }
+        ensures folded { IfStarted result (λ t. t.folded ≡ None) }
     {
         if self.stopped {
             return Begun::Stopped;
@@ -458,6 +459,7 @@ impl<M: Payload<L>, L: ListWriter + Drop> Book<M, L> {
         ensures book { self.new ≡ after_enter self.old result }
         ensures token { IfSome result (IsGivenBy M.stands M.tie self.new) }
         ensures now { IfSome result (λ t. t.now ≡ last_ticket self.new.log) }
+        ensures folded { IfSome result (λ t. t.folded ≡ kept_folded (item_or Spent self.old.tokens iteration)) }
     {
         if self.stopped {
             return None;
@@ -474,6 +476,7 @@ impl<M: Payload<L>, L: ListWriter + Drop> Book<M, L> {
         ensures book { self.new ≡ after_enter self.old result }
         ensures token { IfSome result (IsGivenBy M.stands M.tie self.new) }
         ensures now { IfSome result (λ t. t.now ≡ last_ticket self.new.log) }
+        ensures folded { IfSome result (λ t. t.folded ≡ kept_folded (item_or Spent self.old.tokens (iteration + 1))) }
     {
         if iteration as usize + 1 >= self.rows.len() {
             return None;
@@ -490,6 +493,7 @@ impl<M: Payload<L>, L: ListWriter + Drop> Book<M, L> {
         ensures book { self.new ≡ after_rescue self.old result }
         ensures token { IfToken result (IsGivenBy M.stands M.tie self.new) }
         ensures now { IfToken result (λ t. IsGivenBeside (resume_events (frame_at (state_of self.old).frames t.iteration) t.iteration) self.old self.new (fields_of t)) }
+        ensures folded { IfToken result (λ t. t.folded ≡ kept_folded (item_or Spent self.old.tokens t.iteration)) }
         ensures nothing { IfNothing result ((i : ℕ) × IsOut self.old i) }
     {
         if self.stopped {
@@ -548,6 +552,7 @@ impl<M: Payload<L>, L: ListWriter + Drop> Book<M, L> {
         ensures book { self.new ≡ with_resumed self.old iteration }
         ensures token { IsGivenBy M.stands M.tie self.new result }
         ensures now { IsGivenBeside (resume_events (frame_at (state_of self.old).frames iteration) iteration) self.old self.new (fields_of result) }
+        ensures folded { result.folded ≡ kept_folded (item_or Spent self.old.tokens iteration) }
     {
         let row = &mut self.rows[iteration as usize];
         match row.status() {
@@ -567,8 +572,7 @@ impl<M: Payload<L>, L: ListWriter + Drop> Book<M, L> {
         requires knows { KnowsMarks (M.tie token.payload) token.marks }
         ensures { self.new ≡ after_leave_ready self.old (fields_of token) }
     {
-        let row = &mut self.rows[token.iteration as usize];
-        row.keep(token);
+        self.rows[token.iteration as usize].keep(token);
     }
 
     /// Raises the ticket of `Stop`, the last event of a stopped run, to at least `least`.

@@ -1,2 +1,3 @@
+pub mod ChosenLabels
 pub mod Insertions
 pub mod LinkedLists

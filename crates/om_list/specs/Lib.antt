@@ -1,2 +1,3 @@
+pub mod ChosenLabels
 pub mod KeptLists
 pub mod LabelledList

@@ -3,6 +3,7 @@
 ghost use Rattle.std.specs.Prelude.{◌≡◌, ◌≢◌, ◌<◌, ◌+◌, ◌++◌, ◌∷◌, [], length, slice_index, vec_capacity, vec_len};
 ghost use Rattle.om_relabel.specs.LabelledLinks.{AreLabelled, elements, label_of};
 ghost use Rattle.om_relabel.specs.Links.{label_after};
+ghost use Rattle.om_list.specs.ChosenLabels.{HasChosenLabel};
 ghost use Rattle.om_list.specs.KeptLists.{links_back, links_with};
 ghost use Rattle.pipe_model.specs.Orders.OrderList.{insert_after};
 
@@ -73,6 +74,7 @@ pub(crate) fn insert_element(links: &mut Links, x: u32)
     requires label_room { vec_len links.old.label < vec_capacity links.old.label }
     ensures labelled { AreLabelled links.new }
     ensures list { elements links.new ≡ insert_after x (length links.old.label.items) (elements links.old) }
+    ensures label { HasChosenLabel (elements links.old) links.old.label.items x links.new.label.items }
     ensures long { length links.new.label.items ≡ length links.old.label.items + 1 }
     ensures next_room { vec_capacity links.new.next ≡ vec_capacity links.old.next }
     ensures prev_room { vec_capacity links.new.prev ≡ vec_capacity links.old.prev }

@@ -1,6 +1,7 @@
 //! The list, kept as links and labels.
 
 ghost use Rattle.std.specs.Prelude.{◌≡◌, ◌<◌, ◌≤◌, ◌+◌, ◌++◌, ◌∷◌, [], ◌↔◌, IfOk, IsTrue, length, slice_index};
+ghost use Rattle.om_list.specs.ChosenLabels.{HasChosenLabel};
 ghost use Rattle.om_list.specs.LabelledList.{HasRisingLabels};
 ghost use Rattle.pipe_model.specs.Orders.OrderList.{StandsBefore, list_of_log};
 
@@ -43,6 +44,7 @@ impl OmList {
         ensures log { IfOk result (λ list. list.log ≡ []) }
         ensures capacity { IfOk result (λ list. list.capacity ≡ capacity) }
         ensures labels { IfOk result HasRisingLabels }
+        ensures first { IfOk result (λ list. list.labels ≡ 0 ∷ []) }
     {
         let mut next = Vec::with_capacity(alloc, capacity as usize)?;
         let mut prev = Vec::with_capacity(alloc, capacity as usize)?;
@@ -93,6 +95,7 @@ impl OmList {
         ensures log { self.new.log ≡ self.old.log ++ x ∷ [] }
         ensures capacity { self.new.capacity ≡ self.old.capacity }
         ensures labels { HasRisingLabels self.new }
+        ensures label { HasChosenLabel (list_of_log self.old.log) self.old.labels x self.new.labels }
     {
         let element = self.len();
         insert_element(&mut self.links, x);

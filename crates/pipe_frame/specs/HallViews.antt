@@ -1,5 +1,5 @@
 -- What a worker sees of the scheduler in one call.
-use Rattle.std.specs.Prelude.{◌≡◌, ℕ, ℤ, List, [], ◌∷◌, ◌++◌, length, Option, Some, None, Contains}
+use Rattle.std.specs.Prelude.{◌≡◌, ℕ, ℤ, List, [], ◌∷◌, ◌++◌, Option, Some, None, Contains}
 use Rattle.pipe_model.specs.declared.access.Access.{Access}
 use Rattle.pipe_model.specs.declared.event.Event.{Event}
 use Rattle.pipe_model.specs.declared.ticket.Entry.{Entry}
@@ -8,12 +8,11 @@ use Rattle.pipe_model.specs.Runs.Allowed.{IsRunning}
 use Rattle.pipe_model.specs.Runs.RunLogs.{state_after}
 use Rattle.pipe_model.specs.Runs.State.{State}
 use Rattle.pipe_frame.specs.CallResults.{RescueReturns, rescue_events}
-use Rattle.pipe_frame.specs.Ties.{InstanceSeat, KnowsMarks, SeenLists, Tie}
-use Rattle.pipe_frame.specs.TokenFields.{TokenFields, fields_of}
+use Rattle.pipe_frame.specs.Ties.{InstanceSeat, SeenLists, Tie}
+use Rattle.pipe_frame.specs.TokenFields.{TokenFields}
 use Rattle.pipe_frame.specs.declared.results.Reply.{Reply}
 use Rattle.pipe_frame.specs.declared.results.Reply.TheVariants.{Value, Done, Stopped}
 use Rattle.pipe_frame.specs.declared.results.Rescue.{Rescue}
-use Rattle.pipe_frame.specs.declared.token.FrameToken.{FrameToken}
 
 -- ---- events
 
@@ -36,22 +35,6 @@ pub record RescueSees {M : Type 0} (limit : ℕ) (before after : List Event) (re
   pub ready : List ℕ
   pub running : (i : ℕ) → Contains ready i → IsRunning (state_after base) i
   pub returns : RescueReturns limit (state_after base) (λ i. Contains ready i) result
-
--- ---- tokens that are out
-
--- what is known of a token that is out: its payload knows its marks, its seat has its ticket, and there is one list of replies for each
--- instance before it
-pub record IsOutToken (f : TokenFields) (t : Tie) (replies : List (List ℤ)) : Type 0 where
-  pub knows : KnowsMarks t f.marks
-  pub now : (s : InstanceSeat) → t.seat ≡ Some s → s.fields.now ≡ f.now
-  pub parts : length replies ≡ f.index
-
--- a token that a call returns is out, its payload is at the start of its instance, and the instance has made no access
-pub record IsGivenToken {M : Type 0} (Out : TokenFields → Tie → Type 0) (replies : TokenFields → Tie → List (List ℤ))
-    (entries : TokenFields → Tie → List Entry) (Stands : M → ℕ → List (List ℤ) → Type 0) (tie : M → Tie) (t : FrameToken M) : Type 0 where
-  pub out : Out (fields_of t) (tie t.payload)
-  pub stands : Stands t.payload t.iteration (replies (fields_of t) (tie t.payload))
-  pub fresh : entries (fields_of t) (tie t.payload) ≡ []
 
 -- ---- accesses
 

@@ -7,3 +7,4 @@ pub mod RunningTokens
 pub mod CallResults
 pub mod ResultTokens
 pub mod HallViews
+pub mod SeatedTokens

@@ -2,13 +2,15 @@
 
 ghost use Rattle.std.specs.Prelude.{◌≡◌, ◌+◌, ◌++◌, ◌∷◌, ◌<◌, [], true, length, IfSome};
 ghost use Rattle.pipe_model.specs.Language.Programs.{pipeline_of, store_of};
+ghost use Rattle.pipe_model.specs.Runs.ControlRun.{ControlRun};
 ghost use Rattle.pipe_model.specs.Runs.RunLogs.{state_after};
 ghost use Rattle.pipe_frame.specs.CallResults.{AdvanceReturns, BeginReturns, EnterReturns, advance_events, begin_events, enter_events};
-ghost use Rattle.pipe_frame.specs.HallViews.{AccessReturns, BeginsWith, IsGivenToken, IsSameInstance, RescueSees, Sees};
+ghost use Rattle.pipe_frame.specs.HallViews.{AccessReturns, BeginsWith, IsSameInstance, RescueSees, Sees};
 ghost use Rattle.pipe_frame.specs.Replies.{IsPerformed, replies_of};
 ghost use Rattle.pipe_frame.specs.ResultTokens.{IfGo, IfStarted, IfToken};
 ghost use Rattle.pipe_frame.specs.StageEndCases.{NamesNextStage};
 ghost use Rattle.pipe_frame.specs.RunningTokens.{IsTokenOf};
+ghost use Rattle.pipe_frame.specs.SeatedTokens.{IsGivenToken, IsSeated, seated_entries, seated_replies};
 ghost use Rattle.pipe_frame.specs.TokenFields.{fields_of};
 ghost use Rattle.std.specs.Prelude.{ℕ, ℤ, List};
 ghost use Rattle.pipe_model.specs.Language.SyntaxTree.{SyntaxTree};
@@ -25,36 +27,22 @@ use std::sync::Wait;
 /// once; what it returns is right after the events that were there, and its own events follow them.
 /// There is no call that stops a run: a run is stopped by an access that runs out of memory.
 pub trait Hall<M: Stands + Drop> {
-    ghost use Rattle.std.specs.Prelude.{ℕ, ℤ, List};
+    ghost use Rattle.std.specs.Prelude.{List};
     ghost use Rattle.pipe_model.specs.declared.event.Event.{Event};
-    ghost use Rattle.pipe_model.specs.declared.ticket.Entry.{Entry};
-    ghost use Rattle.pipe_frame.specs.HallViews.{IsOutToken};
-    ghost use Rattle.pipe_frame.specs.Ties.{HallName, Tie};
-    ghost use Rattle.pipe_frame.specs.TokenFields.{TokenFields};
+    ghost use Rattle.pipe_frame.specs.Ties.{HallName};
 
     /// Its program, input and throttling limit, and which hall it is. No call changes them.
     ghost named: { Self → HallName };
 
-    /// Whether a token with these fields, and a payload with this tie, is out.
-    ghost is_out: { HallName → TokenFields → Tie → Type 0 };
-
-    /// The replies that the iteration of such a token had before the running instance.
-    ghost replies: { HallName → TokenFields → Tie → List (List ℤ) };
-
-    /// The accesses that the running instance has made.
-    ghost entries: { HallName → TokenFields → Tie → List Entry };
-
     /// The events of the book, as far as this value has seen them.
     ghost seen: { Self → List Event };
-
-    /// What is known of a token that is out.
-    ghost out_tells: { (h : HallName) (f : TokenFields) (t : Tie) → is_out h f t → IsOutToken f t (replies h f t) };
 
     /// Begins the next iteration if it may begin.
     fn begin<R: Wait>(&mut self, rt: &R) -> Begun<M>
         ensures named { named self.new ≡ named self.old }
         ensures sees { Sees (seen self.old) (seen self.new) (begin_events result) (λ s. BeginReturns (named self.old).limit s result) }
-        ensures token { IfStarted result (IsGivenToken (is_out (named self.old)) (replies (named self.old)) (entries (named self.old)) (M.stands (named self.old).tree (named self.old).input) M.tie) }
+        ensures seen_runs { ControlRun (named self.new).limit (seen self.new) (state_after (seen self.new)) }
+        ensures token { IfStarted result (IsGivenToken M.stands M.tie (named self.old)) }
         ensures runs { IfStarted result (λ t. IsTokenOf (seen self.new) (fields_of t)) };
 
     /// Ends the instance of the token, which made these accesses, and starts the next one if it may
@@ -66,38 +54,42 @@ pub trait Hall<M: Stands + Drop> {
         end: StageEnd,
         trace: Trace,
     ) -> Next<M>
-        requires out { is_out (named self.old) (fields_of token) (M.tie token.payload) }
-        requires trace { trace ≡ entries (named self.old) (fields_of token) (M.tie token.payload) }
+        requires out { IsSeated (named self.old) (fields_of token) (M.tie token.payload) }
+        requires trace { trace ≡ seated_entries (M.tie token.payload) }
         requires whole { M.whole (named self.old).tree token.payload }
-        requires performs { IsPerformed (pipeline_of (named self.old).tree (named self.old).input) token.iteration (replies (named self.old) (fields_of token) (M.tie token.payload)) trace end }
-        requires stands { NamesNextStage end → M.stands (named self.old).tree (named self.old).input token.payload token.iteration (replies (named self.old) (fields_of token) (M.tie token.payload) ++ replies_of trace ∷ []) }
+        requires performs { IsPerformed (pipeline_of (named self.old).tree (named self.old).input) token.iteration (seated_replies (M.tie token.payload)) trace end }
+        requires stands { NamesNextStage end → M.stands (named self.old).tree (named self.old).input token.payload token.iteration (seated_replies (M.tie token.payload) ++ replies_of trace ∷ []) }
         requires stopped { end ≡ StageEnd.Stopped → (state_after (seen self.old)).stopped ≡ true }
         ensures named { named self.new ≡ named self.old }
         ensures sees { Sees (seen self.old) (seen self.new) (advance_events token.iteration end result) (λ s. AdvanceReturns s token.iteration token.index end result) }
-        ensures token { IfGo result (IsGivenToken (is_out (named self.old)) (replies (named self.old)) (entries (named self.old)) (M.stands (named self.old).tree (named self.old).input) M.tie) }
+        ensures seen_runs { ControlRun (named self.new).limit (seen self.new) (state_after (seen self.new)) }
+        ensures token { IfGo result (IsGivenToken M.stands M.tie (named self.old)) }
         ensures runs { IfGo result (λ t. IsTokenOf (seen self.new) (fields_of t)) };
 
     /// Starts the instance for which the right neighbour of an iteration waits, if it may start.
     fn check_right<R: Wait>(&mut self, rt: &R, iteration: u32) -> Option<FrameToken<M>>
         ensures named { named self.new ≡ named self.old }
         ensures sees { Sees (seen self.old) (seen self.new) (enter_events result) (λ s. EnterReturns s (iteration + 1) result) }
-        ensures token { IfSome result (IsGivenToken (is_out (named self.old)) (replies (named self.old)) (entries (named self.old)) (M.stands (named self.old).tree (named self.old).input) M.tie) }
+        ensures seen_runs { ControlRun (named self.new).limit (seen self.new) (state_after (seen self.new)) }
+        ensures token { IfSome result (IsGivenToken M.stands M.tie (named self.old)) }
         ensures runs { IfSome result (λ t. IsTokenOf (seen self.new) (fields_of t)) };
 
     /// Returns something to do for a worker that has nothing.
     fn rescue<R: Wait>(&mut self, rt: &R) -> Rescue<M>
         ensures named { named self.new ≡ named self.old }
         ensures sees { RescueSees (named self.old).limit (seen self.old) (seen self.new) result }
-        ensures token { IfToken result (IsGivenToken (is_out (named self.old)) (replies (named self.old)) (entries (named self.old)) (M.stands (named self.old).tree (named self.old).input) M.tie) }
+        ensures seen_runs { ControlRun (named self.new).limit (seen self.new) (state_after (seen self.new)) }
+        ensures token { IfToken result (IsGivenToken M.stands M.tie (named self.old)) }
         ensures runs { IfToken result (λ t. IsTokenOf (seen self.new) (fields_of t)) };
 
     /// Leaves an instance that has made no access to others, which find it by `rescue`.
     fn leave_ready<R: Wait>(&mut self, rt: &R, token: FrameToken<M>)
-        requires out { is_out (named self.old) (fields_of token) (M.tie token.payload) }
-        requires fresh { entries (named self.old) (fields_of token) (M.tie token.payload) ≡ [] }
-        requires stands { M.stands (named self.old).tree (named self.old).input token.payload token.iteration (replies (named self.old) (fields_of token) (M.tie token.payload)) }
+        requires out { IsSeated (named self.old) (fields_of token) (M.tie token.payload) }
+        requires fresh { seated_entries (M.tie token.payload) ≡ [] }
+        requires stands { M.stands (named self.old).tree (named self.old).input token.payload token.iteration (seated_replies (M.tie token.payload)) }
         ensures named { named self.new ≡ named self.old }
-        ensures sees { Sees (seen self.old) (seen self.new) [] (λ s. Unit {0}) };
+        ensures sees { Sees (seen self.old) (seen self.new) [] (λ s. Unit {0}) }
+        ensures seen_runs { ControlRun (named self.new).limit (seen self.new) (state_after (seen self.new)) };
 
     /// Reads a cell, or writes a value to it, for the instance of the token, and appends the access
     /// to its trace. `Stopped` is returned if memory runs out, and then nothing was done but that the
@@ -110,18 +102,19 @@ pub trait Hall<M: Stands + Drop> {
         cell: CellId,
         write: Option<i64>,
     ) -> Reply
-        requires out { is_out (named self.old) (fields_of token.old) (M.tie token.old.payload) }
-        requires trace { trace.old ≡ entries (named self.old) (fields_of token.old) (M.tie token.old.payload) }
+        requires out { IsSeated (named self.old) (fields_of token.old) (M.tie token.old.payload) }
+        requires trace { trace.old ≡ seated_entries (M.tie token.old.payload) }
         requires cell { cell.0 < length (store_of (named self.old).tree).values }
         ensures named { named self.new ≡ named self.old }
-        ensures out { is_out (named self.old) (fields_of token.new) (M.tie token.new.payload) }
+        ensures out { IsSeated (named self.old) (fields_of token.new) (M.tie token.new.payload) }
         ensures instance { IsSameInstance (fields_of token.old) (fields_of token.new) (M.tie token.old.payload) (M.tie token.new.payload) }
         ensures whole { (tree : SyntaxTree) → M.whole tree token.old.payload → M.whole tree token.new.payload }
         ensures stands { (tree : SyntaxTree) (input : List ℤ) (i : ℕ) (before : List (List ℤ)) → M.stands tree input token.old.payload i before → M.stands tree input token.new.payload i before }
-        ensures replies { replies (named self.old) (fields_of token.new) (M.tie token.new.payload) ≡ replies (named self.old) (fields_of token.old) (M.tie token.old.payload) }
+        ensures replies { seated_replies (M.tie token.new.payload) ≡ seated_replies (M.tie token.old.payload) }
         ensures access { AccessReturns cell.0 write trace.old trace.new result }
-        ensures trace { trace.new ≡ entries (named self.old) (fields_of token.new) (M.tie token.new.payload) }
+        ensures trace { trace.new ≡ seated_entries (M.tie token.new.payload) }
         ensures stopped { result ≡ Reply.Stopped → (state_after (seen self.new)).stopped ≡ true }
         ensures seen { BeginsWith (seen self.new) (seen self.old) }
+        ensures seen_runs { ControlRun (named self.new).limit (seen self.new) (state_after (seen self.new)) }
         ensures unseen { (result ≡ Reply.Stopped → ⊥) → seen self.new ≡ seen self.old };
 }

@@ -15,13 +15,13 @@ use Rattle.pipe_frame.specs.CallResults.{CanGoOn, resume_events, pending_events}
 use Rattle.pipe_frame.specs.Ties.{Tie}
 use Rattle.pipe_frame.specs.TokenFields.{fields_of}
 use Rattle.pipe_frame.specs.declared.token.FrameToken.{FrameToken}
-use Rattle.frame_book.specs.BookStates.{BookState, Out, Spent, Kept, events_of, state_of, with_events}
+use Rattle.frame_book.specs.BookStates.{BookState, Out, Spent, Kept, events_of, item_or, state_of, with_events}
 use Rattle.pipe_frame.specs.Replies.{replies_of}
 use Rattle.frame_book.specs.Invariant.{IsBook, HasActions}
 use Rattle.frame_book.specs.RowsOfFrames.{HasTraceCount, IsRowOf, TokenFits, token_at, no_marks}
 use Rattle.frame_book.specs.KeptTokens.{IsKeptToken}
 use Rattle.frame_book.specs.IterationRows.{Row, row_at}
-use Rattle.frame_book.specs.CallEffects.{with_resumed, with_entered, IsReady, identities_of_orders}
+use Rattle.frame_book.specs.CallEffects.{with_resumed, with_entered, IsReady, identities_of_orders, kept_folded}
 use Rattle.frame_book.specs.Tables.{Tables, book_state, token_state_of, token_state_by}
 use Rattle.frame_book.specs.GivenTokens.{IsGivenBeside, IsGivenBy}
 use Rattle.frame_book.proofs.Keeping.LeaveReady.{sized_set}
@@ -191,3 +191,9 @@ module _ {M : Type 0} (Whole : SyntaxTree → M → Type 0) (Stands : SyntaxTree
       let none : resume_events (frame_at c.frames i) i ≡ [] = ap (λ o. resume_events o i) is ∙ ap (λ w. pending_events w i) runs in
       let place : get_or (map token_state_of b.rows) i Spent ≡ Kept (fields_of t) = map_at token_state_of b.rows i r Spent at_row ∙ ap (λ o. token_state_by o r.status) held in
       subst (λ es. IsGivenBeside es (book_state b) (book_state with_resume) (fields_of t)) (sym none) (ap (λ k. get_or (map token_state_of b.rows) k Spent) kept.iteration ∙ place)
+
+  -- its counter is the one that was kept
+  pub resume_folded : t.folded ≡ kept_folded (item_or Spent (book_state b).tokens i)
+  resume_folded =
+      let place : get_or (map token_state_of b.rows) i Spent ≡ Kept (fields_of t) = map_at token_state_of b.rows i r Spent at_row ∙ ap (λ o. token_state_by o r.status) held in
+      ap kept_folded (sym place)

@@ -1,27 +1,14 @@
--- The element is in the chosen range, after each of whose elements a label is then free.
-use Rattle.std.proofs.Common.{◌+◌, ◌^◌, arith}
-use Rattle.om_relabel.specs.LabelledLinks.{elements, label_of}
-use Rattle.om_relabel.proofs.ElementsWithin.{has_within}
-use Rattle.om_relabel.proofs.SparseRanges.{aligned_fits, aligned_high, aligned_low}
-use Rattle.om_relabel.proofs.Walks.{label_below}
+-- Labels move only if none is free.
+use Rattle.std.proofs.Common.{◌∙◌, sym}
+use Rattle.om_list.proofs.ChosenLabels.{room_is_free, room_is_made}
 use Rattle.om_list.proofs.labels.free_label_after.Goals as goal
 
-pub relabel-requires-clause-top : goal.relabel-requires-clause-top
-relabel-requires-clause-top c =
-    let links = c.args.links.now in
-    let range = c.choose_range-range.ensures in
-    let below = label_below links c.requires.labelled c.args.x c.requires.there in
-    let fits = aligned_fits (label_of links c.args.x) c.choose_range-range.result.bits below range.few_bits in
-    let low = range.low in
-    omega (arith, fits, low)
+pub returns-then-not-has_free_label-clause-room : goal.returns-then-not-has_free_label-clause-room
+returns-then-not-has_free_label-clause-room c =
+    room_is_made c.args.links.now c.requires.labelled c.args.x c.requires.there
+    (λ free. let t = sym c.if-not-has_free_label.true ∙ c.has_free_label.ensures.1 free in cc) c.relabel_around.new.links.label.items
+    c.relabel_around.ensures.relabelled
 
-pub returns-clause-free : goal.returns-clause-free
-returns-clause-free c =
-    let links = c.args.links.now in
-    let range = c.choose_range-range.result in
-    let low = c.choose_range-range.ensures.low in
-    let above = aligned_low (label_of links c.args.x) range.bits in
-    let below = aligned_high (label_of links c.args.x) range.bits in
-    let inside = has_within (label_of links) range.low (range.low + 2 ^ range.bits) (elements links) c.args.x
-    (c.requires.labelled.each c.args.x c.requires.there) (omega (arith, low, above)) (omega (arith, low, below)) in
-    c.relabel.ensures.free c.args.x inside
+pub returns-else-not-has_free_label-clause-room : goal.returns-else-not-has_free_label-clause-room
+returns-else-not-has_free_label-clause-room c =
+    room_is_free c.args.links.now c.requires.labelled c.args.x c.requires.there (c.has_free_label.ensures.0 c.if-not-has_free_label.false)

@@ -1,7 +1,7 @@
 // Calls over files and sinks in memory, for the tests of the top call.
 
-use crate::call::{Ended, cilkp};
-use crate::gate::OpenGate;
+use cilkp_program::call::{Ended, cilkp};
+use cilkp_program::gate::OpenGate;
 use pipe_io::mem_files::MemFiles;
 use pipe_io::mem_sink::MemSink;
 use pipe_model::list::Bytes;

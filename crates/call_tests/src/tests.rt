@@ -1,7 +1,7 @@
 // The real files and the real sink, and the files and sinks in memory that never fail. `row_tests`
 // has those that fail.
 
-use crate::gate::{Gate, OpenGate};
+use cilkp_program::gate::{Gate, OpenGate};
 use pipe_io::files::{Files, ReadPart};
 use pipe_io::mem_files::CleanFiles;
 use pipe_io::mem_sink::CleanSink;

@@ -599,7 +599,7 @@ fn prefix_or_all(alloc: Global, rest: &str, status: u8, text: &str) -> Result<()
     Ok(())
 }
 
-// Two calls for `bench/refused_memory`, which makes one allocation after the other fail.
+// Two calls for `checks/refused_memory`, which makes one allocation after the other fail.
 #[test]
 fn an_allocation_may_fail(rt: HostRuntime) -> Result<(), Fail> {
     prefix_or_all(rt.alloc(), PREFIX_SUMS, 0, "1\n3\n6\n")?;

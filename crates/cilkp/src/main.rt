@@ -2,32 +2,8 @@
 //! top call, and exits with the status that the call returns.
 #![tactic(auto)]
 
-pub mod bench;
-pub mod call;
-#[cfg(test)]
-mod cases;
-pub mod gate;
-#[cfg(test)]
-mod language_rows;
-pub mod law;
-pub mod load;
-#[cfg(test)]
-mod play_rows;
-pub mod program_play;
-pub mod program_run;
-#[cfg(test)]
-mod race_rows;
-pub mod refusal;
-#[cfg(test)]
-mod refusal_tests;
-#[cfg(test)]
-mod row_tests;
-#[cfg(test)]
-mod tests;
-pub mod text;
-
-use crate::call::{Ended, cilkp};
-use crate::gate::OpenGate;
+use cilkp_program::call::{Ended, cilkp};
+use cilkp_program::gate::OpenGate;
 use pipe_io::real::{RealFiles, RealSink};
 use pipe_model::memory::NoMemory;
 use std::env;

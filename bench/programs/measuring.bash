@@ -1,0 +1,57 @@
+# What the scripts of bench/ have in common. Each of them sets `top`, the top of the repository, and reads this file.
+
+# Prints date, commit and machine, above a table.
+print_heading() {
+    local commit
+    commit=$(git -C "$top" rev-parse --short HEAD)
+    [[ -z $(git -C "$top" status --porcelain --untracked-files=no) ]] || commit="$commit, with changes"
+    echo "$(date '+%Y-%m-%d %H:%M'); commit $commit"
+    echo "$(nproc) processors, $(sed -n 's/^model name[^:]*: //p' /proc/cpuinfo | head -n 1); load at the start $(cut -d ' ' -f 1 /proc/loadavg)"
+}
+
+# Makes a call this many times, and sets `median` and `least` to its processor seconds, `status` to the last one's status, and
+# `printed` to the number of bytes that it printed. The call reads nothing.
+time_calls() {
+    local count=$1 call user system all TIMEFORMAT='%3U %3S'
+    shift
+    for ((call = 0; call < count; call++)); do
+        status=0
+        { time "$@" </dev/null >"$room/printed" 2>"$room/complaints" || status=$?; } 2>"$room/times"
+        read -r user system <"$room/times"
+        echo $((10#${user/./} + 10#${system/./}))
+    done >"$room/calls"
+    mapfile -t all < <(sort -n "$room/calls")
+    least=$(as_seconds "${all[0]}")
+    median=$(as_seconds "${all[count / 2]}")
+    printed=$(wc -c <"$room/printed")
+}
+
+# Prints a number of milliseconds in seconds.
+as_seconds() { printf '%d.%03d\n' $(($1 / 1000)) $(($1 % 1000)); }
+
+# Prints the nanoseconds of one of so many things, if all take this many seconds.
+nanoseconds_each() { awk -v seconds="$1" -v number="$2" 'BEGIN { printf "%.0f\n", seconds * 1e9 / number }'; }
+
+# Copies the crates into the folder `room`, as a repository.
+copy_crates() {
+    tar -C "$top" -c --exclude='crates/*/out' --exclude='crates/*/must-fail' crates crates.txt HANDLES | tar -x -C "$room"
+}
+
+# Adds the program NAME of bench/programs to the copy; the other words are the crates that it uses.
+add_program() {
+    local name=$1 file from=$top/bench/programs/$1 to=$room/crates/$1
+    shift
+    echo "$name: $*" >>"$room/crates.txt"
+    mkdir -p "$to/proofs"
+    (cd "$from" && find . -name '*.txt') | while read -r file; do
+        mkdir -p "$to/${file%/*}"
+        cp "$from/$file" "$to/${file%.txt}"
+    done
+    touch "$to/proofs/Lib.antt"
+}
+
+# Proves and builds a program of the copy, which does nothing without words, and sets `program` to its file.
+build_program() {
+    program=$room/crates/$1/out/$1
+    (cd "$room/crates/$1" && rt run) >"$room/log" 2>&1 || { cat "$room/log"; exit 1; }
+}

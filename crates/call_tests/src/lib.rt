@@ -1,0 +1,17 @@
+//! Tests of the top call, over files and sinks in memory, and of the real files and the real sink.
+#![tactic(auto)]
+
+#[cfg(test)]
+mod cases;
+#[cfg(test)]
+mod language_rows;
+#[cfg(test)]
+mod play_rows;
+#[cfg(test)]
+mod race_rows;
+#[cfg(test)]
+mod refusal_tests;
+#[cfg(test)]
+mod row_tests;
+#[cfg(test)]
+mod tests;
