@@ -6,7 +6,7 @@ use Rattle.pipe_model.specs.declared.column.ColumnEnd.{ColumnEnd}
 use Rattle.pipe_model.specs.declared.trap.Trap.TheVariants as traps
 use Rattle.pipe_model.specs.Pipelines.Behaviour.{closes_at_once}
 use Rattle.pipe_model.specs.Language.Evaluation.{Setting, first_environment, run_iteration}
-use Rattle.pipe_model.specs.Language.CheckingRules.{Fault, fault_of, is_between, limit_fault_or, first_limit_out}
+use Rattle.pipe_model.specs.Language.CheckingRules.{BreaksNoRule, Fault, fault_of, is_between, limit_fault_or, first_limit_out}
 use Rattle.pipe_model.specs.Language.Interaction.{Interaction, with_budget}
 use Rattle.pipe_model.specs.Pipelines.Pipeline.{AlwaysClosesLoop, IsWellFormed}
 use Rattle.pipe_model.specs.Language.Programs.{natural, pipeline_of, setting_of}
