@@ -10,7 +10,7 @@ use Rattle.pipe_model.specs.declared.event.RunLog.{RunLog}
 use Rattle.pipe_model.specs.Language.CheckingRules.{Fault, fault_of, first_limit_out, is_between, limit_fault_or}
 use Rattle.pipe_model.specs.Language.Programs.{natural}
 use Rattle.pipe_model.specs.Language.ProgramsOfTrees.{whole_of}
-use Rattle.pipe_model.specs.Language.SourceRefusals.{IsAccepted}
+use Rattle.pipe_model.specs.Language.CheckingRules.{BreaksNoRule}
 use Rattle.pipe_model.specs.Language.SyntaxTree.{SyntaxTree}
 use Rattle.pipe_model.specs.Orders.Starts.{starts_of}
 use Rattle.pipe_model.specs.Pipelines.WholePrograms.{WholeProgram, loop_after_init, program_columns, program_log}
