@@ -3,13 +3,12 @@
 ghost use Rattle.std.specs.Prelude.{◌≡◌, ◌<◌};
 
 use crate::sources::accepted;
-use cell_store::cells::Cells;
 use pipe_model::access::CellId;
 use pipe_model::list::{Bytes, Numbers};
 use pipe_model::memory::NoMemory;
 use run_record::log_text::text;
 use schedule_play::choices::choices;
-use schedule_play::loop_play::{LoopPlay, PlayLimits, play_loop};
+use schedule_play::program_play::{Played, play};
 use stage_code::lower::lower;
 use std::alloc::Global;
 use std::test::Fail;
@@ -62,11 +61,19 @@ const WAITING_LINES: [&str; 17] = [
     "end 1\n",
 ];
 
-fn limits(workers: u32, throttle: u32, turns: u64) -> PlayLimits
+// The most instances that run at a time, the most iterations that are alive, and the most events.
+#[derive(Clone, Copy)]
+struct Limits {
+    workers: u32,
+    throttle: u32,
+    turns: u64,
+}
+
+fn limits(workers: u32, throttle: u32, turns: u64) -> Limits
     ensures workers { result.workers ≡ workers }
     ensures throttle { result.throttle ≡ throttle }
 {
-    PlayLimits {
+    Limits {
         workers,
         throttle,
         turns,
@@ -76,23 +83,26 @@ fn limits(workers: u32, throttle: u32, turns: u64) -> PlayLimits
 // A loop that was played, and the lines of its log.
 #[derive(Drop)]
 struct Seen {
-    play: LoopPlay,
+    play: Played,
     lines: Bytes,
 }
 
-// Plays the loop of a source without `init`, without an input.
-fn played(alloc: Global, source: &str, limits: PlayLimits, choices: &[u32]) -> Result<Seen, Fail>
+// Plays a source without an input.
+fn played(alloc: Global, source: &str, limits: Limits, choices: &[u32]) -> Result<Seen, Fail>
     requires workers { 0 < limits.workers }
     requires throttle { 0 < limits.throttle }
 {
     let checked = accepted(alloc, source.as_bytes())?;
-    if !checked.program().init.statements.is_empty() {
-        return Err(Fail::new(format_args!("the source has an init")));
-    }
     let code = lower(alloc, &checked)?;
-    let cells = Cells::new(alloc, &checked, 0, 1)?;
     let input = Numbers::new(alloc);
-    let play = play_loop(alloc, &checked, &code, &input, limits, choices, cells)?;
+    let Limits {
+        workers,
+        throttle,
+        turns,
+    } = limits;
+    let play = play(
+        alloc, &checked, &code, &input, workers, throttle, choices, turns,
+    )?;
     let lines = text(alloc, &play.run_log, &checked)?;
     Ok(Seen { play, lines })
 }

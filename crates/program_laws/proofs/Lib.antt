@@ -3,6 +3,7 @@ pub mod BookOrder
 pub mod BoundedWork
 pub mod Candidates
 pub mod ControlOutlines
+pub mod DeclaredCells
 pub mod Headlines
 pub mod HistoryFolds
 pub mod InstanceBounds

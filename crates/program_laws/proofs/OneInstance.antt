@@ -17,7 +17,7 @@ use Rattle.pipe_model.specs.Language.ProgramsOfTrees.{part_of}
 use Rattle.program_laws.specs.ProgramRunLaws.{PartsAreOneInstance}
 
 -- no mark breaks a rule
-abbrev AreUnbroken : List Mark → Type 0
+abbrev pub AreUnbroken : List Mark → Type 0
 AreUnbroken [] = Unit {0}
 AreUnbroken (m ∷ ms) = (broken_at m ≡ None) × AreUnbroken ms
 
@@ -25,13 +25,13 @@ none_or_none : (o : Option CheckingRule) (n : ℕ) (rest : Option Fault) → fau
 none_or_none None n rest h = (refl, h)
 none_or_none (Some rule) n rest h = absurd (cc)
 
-unbroken : (n : ℕ) (ms : List Mark) → first_fault n ms ≡ None → AreUnbroken ms
+pub unbroken : (n : ℕ) (ms : List Mark) → first_fault n ms ≡ None → AreUnbroken ms
 unbroken n [] h = tt
 unbroken n (m ∷ ms) h =
     let both = none_or_none (broken_at m) n (first_fault (n + 1) ms) h in
     (both.0, unbroken (n + 1) ms both.1)
 
-unbroken_left : (xs ys : List Mark) → AreUnbroken (xs ++ ys) → AreUnbroken xs
+pub unbroken_left : (xs ys : List Mark) → AreUnbroken (xs ++ ys) → AreUnbroken xs
 unbroken_left [] ys u = tt
 unbroken_left (x ∷ xs) ys u = (u.0, unbroken_left xs ys u.1)
 
@@ -157,7 +157,7 @@ one_instance tree input statements k =
     one-with_budget (natural tree.limits.steps) (natural tree.limits.steps)
     (straight-bind (straight-execute_all (setting_of tree input 0) statements first_environment k) (λ env h. Returns tt))
 
-rest_is_none : (o : Option ℕ) (rest : Option Fault) → limit_fault_or o rest ≡ None → rest ≡ None
+pub rest_is_none : (o : Option ℕ) (rest : Option Fault) → limit_fault_or o rest ≡ None → rest ≡ None
 rest_is_none None rest h = h
 rest_is_none (Some which) rest h = absurd (cc)
 

@@ -1,4 +1,5 @@
 pub mod ControlLaws
+pub mod DeclaredCells
 pub mod ExampleParts
 pub mod ExpressionExamples
 pub mod HistoryStateLaws

@@ -1,4 +1,4 @@
-//! Laws of whole programs, schedules, the control part, histories and tickets.
+//! Laws of whole programs, their cells, schedules, the control part, histories and tickets.
 //!
 //! There is no code here. Each public function has an empty body, and its contract is one law about
 //! the definitions of `pipe_model`; `specs/` states the laws, and `proofs/` proves them.
@@ -6,6 +6,7 @@
 
 pub mod cell_histories;
 pub mod control;
+pub mod declared_cells;
 pub mod examples;
 pub mod schedules;
 pub mod tickets;

@@ -8,7 +8,7 @@ use Rattle.pipe_model.specs.declared.stage.StageEnd.TheVariants as stage_ends
 use Rattle.pipe_model.specs.Language.Interaction.{Interaction, Return, Raise, Step, Get, Set, bind, with_budget}
 use Rattle.pipe_model.specs.Language.Interaction as interactions
 use Rattle.pipe_model.specs.Language.Programs.{natural}
-use Rattle.pipe_model.specs.Pipelines.Behaviour.{Behaviour, Accessed, behaviour_after_all}
+use Rattle.pipe_model.specs.Pipelines.Behaviour.{Behaviour, Reading, Writing, Staging, Ending, Accessed, behaviour_after_all}
 use Rattle.stage_code.specs.FlatCode.{FlatCode}
 use Rattle.stage_code.specs.Following.{Follows, Spends, Steps, Gets, Sets, Stages, Raises, GoesOn, Finishes}
 use Rattle.stage_code.specs.Instructions.{CodeSetting, Transition, with_cells}
@@ -19,7 +19,14 @@ use Rattle.stage_interp.specs.declared.pending.Pending.TheVariants as pendings
 use Rattle.stage_interp.specs.Executions.{StopsOnly}
 use Rattle.stage_interp.specs.MachineState.{RunState}
 use Rattle.stage_interp.specs.Standing.{EndsAs, IsAccess, IsPending, IsStopped, RanInstance, Within, setting_in}
-use Rattle.schedule_play.specs.OneAccess.{BeginsWithAccess, StoppedInstancesAccess, access_list}
+use Rattle.schedule_play.specs.OneAccess.{access_list}
+
+-- the next action is an access
+abbrev pub BeginsWithAccess : Behaviour → Type 0
+BeginsWithAccess (Reading c go) = Unit {0}
+BeginsWithAccess (Writing c v d) = Unit {0}
+BeginsWithAccess (Staging k n d) = ⊥
+BeginsWithAccess (Ending e) = ⊥
 
 -- the tree begins with an access
 abbrev IsAccessTree : Interaction Transition → Type 0
@@ -47,7 +54,8 @@ begins_within p budget n m left count t a w =
     let is = with_is p n m (cells_there p n m left (within_safe p budget (with_cells p n m) left count t w)) in
     begins_by p budget left w.steps m w.tree t a (subst (λ x. Follows p w.steps x w.tree) is w.follows) w.behaviour
 
-pub stopped_begins : StoppedInstancesAccess
+-- an instance that was stopped makes an access next
+pub stopped_begins : (code : FlatCode) (cells : ℕ) (input : List ℤ) (run : RunState) (t : Behaviour) → IsStopped code cells input run t → BeginsWithAccess t
 stopped_begins code cells input r t h = by r.pending h.access h.pending
   where
     p : CodeSetting

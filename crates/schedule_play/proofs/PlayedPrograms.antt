@@ -133,6 +133,7 @@ agrees tree input limits choices r accepted h over =
     λ none. ap (reaches_final r.finished) none ∙ ap (λ b. b && true) over in
     record {
       silent = headline.silent;
+      columns = λ none. meets.columns (free none);
       output = λ none. h.results.output ∙ ap (λ b. played_output w b s) (ran none) ∙ (played_where_final_ran w s).0 ∙ meets.output (free none);
       trap = λ none. h.results.trap ∙ ap (λ b. played_trap w b s) (ran none) ∙ (played_where_final_ran w s).1 ∙ meets.trap (free none);
     }

@@ -2,6 +2,7 @@
 use Rattle.std.proofs.Common.{◌≡◌, ◌∙◌, ap, sym, subst, refl, ℕ, ℤ, List, [], ◌∷◌, ◌++◌, map}
 use Rattle.std.proofs.lemmas.List.{map-append}
 use Rattle.pipe_frame.specs.Replies.{accessed, after_instance, after_instances, replies_of}
+use Rattle.pipe_frame.specs.StageEndCases.{NamesNextStage}
 use Rattle.pipe_model.specs.declared.access.Access.{Access}
 use Rattle.pipe_model.specs.declared.column.ColumnEnd.{ColumnEnd}
 use Rattle.pipe_model.specs.declared.column.ColumnEnd.TheVariants as ends
@@ -16,25 +17,41 @@ use Rattle.pipe_model.specs.Pipelines.Behaviour.{Accessed, Staged, Ended, Behavi
 use Rattle.pipe_model.specs.Pipelines.Pipeline.{Pipeline}
 use Rattle.pipe_model.specs.Pipelines.Store.{HasReply, value_after}
 use Rattle.pipe_model.specs.Runs.NextEvents.{event_of_behaviour}
+use Rattle.pipe_model.specs.Runs.StageEnds.{stage_end_actions, stage_end_events}
 use Rattle.run_laws.proofs.Iterations.PerformedActions.{behaviour_after_all-push, performs_push}
 use Rattle.stage_code.specs.FlatCode.{FlatCode}
 use Rattle.stage_interp.specs.MachineState.{RunState}
 use Rattle.stage_interp.specs.Standing.{EndsAs, IsStopped, RanInstance, StandsFor}
-use Rattle.schedule_play.specs.RunningInstances.{InstancesEnd, IsUnderWay, next_of}
+use Rattle.schedule_play.specs.declared.running_instance.NextAction.{NextAction}
+use Rattle.schedule_play.specs.declared.running_instance.NextAction.TheVariants as actions
+use Rattle.schedule_play.specs.RunningInstances.{IsAt, IsUnderWay, action_at, next_of}
 
 -- ---- the beginning
 
+-- a machine that has come to rest is at the next action
+at_rest : (code : FlatCode) (cells : ℕ) (input : List ℤ) (e : StageEnd) (r : RunState) (t : Behaviour) → EndsAs code cells input e r t
+    → IsAt code cells input (action_at e) r t
+at_rest code cells input (stage_ends.Wait n) r t h = (λ q. absurd (cc), h)
+at_rest code cells input (stage_ends.Continue n) r t h = (λ q. absurd (cc), h)
+at_rest code cells input stage_ends.End r t h = (λ q. absurd (cc), h)
+at_rest code cells input stage_ends.Closed r t h = (λ q. absurd (cc), h)
+at_rest code cells input (stage_ends.Trap w) r t h = (λ q. absurd (cc), h)
+at_rest code cells input stage_ends.Stopped r t h = h
+
 pub begins : (code : FlatCode) (cells : ℕ) (input : List ℤ) (t : Behaviour) (r : RunState) (e : StageEnd) → RanInstance code cells input t [] [] r e
-    → IsUnderWay code cells input t r [] e
+    → IsUnderWay code cells input t r [] (action_at e)
 begins code cells input t r e h =
     let none : [] ≡ h.accesses = h.log_is in
-    record { performs = tt; ends_as = subst (λ l. EndsAs code cells input e r (behaviour_after_all t (map Accessed l))) (sym none) h.ends_as }
+    record {
+      performs = tt;
+      is_at = at_rest code cells input e r t (subst (λ l. EndsAs code cells input e r (behaviour_after_all t (map Accessed l))) (sym none) h.ends_as);
+    }
 
 -- ---- an access
 
-pub stopped_here : (code : FlatCode) (cells : ℕ) (input : List ℤ) (t : Behaviour) (r : RunState) (trace : List Entry) (next : StageEnd)
-    → next ≡ stage_ends.Stopped → IsUnderWay code cells input t r trace next → IsStopped code cells input r (behaviour_after_all t (accessed trace))
-stopped_here code cells input t r trace next is h = subst (λ e. EndsAs code cells input e r (behaviour_after_all t (accessed trace))) is h.ends_as
+pub stopped_here : (code : FlatCode) (cells : ℕ) (input : List ℤ) (t : Behaviour) (r : RunState) (trace : List Entry) (next : NextAction)
+    → next ≡ actions.Access → IsUnderWay code cells input t r trace next → IsStopped code cells input r (behaviour_after_all t (accessed trace))
+stopped_here code cells input t r trace next is h = subst (λ a. IsAt code cells input a r (behaviour_after_all t (accessed trace))) is h.is_at
 
 -- the only access of a run
 offered : (code : FlatCode) (cells : ℕ) (input : List ℤ) (d : Behaviour) (a : Access) (r : RunState) (e : StageEnd)
@@ -43,9 +60,10 @@ offered code cells input d a r e h =
     let one : a ∷ [] ≡ h.accesses = h.log_is in
     (subst (λ l. Performs d (map Accessed l)) (sym one) h.performs).0
 
-pub goes_on : (code : FlatCode) (cells : ℕ) (input : List ℤ) (t : Behaviour) (r r' : RunState) (trace : List Entry) (next e : StageEnd) (a : Access) (ticket : ℕ)
+pub goes_on : (code : FlatCode) (cells : ℕ) (input : List ℤ) (t : Behaviour) (r r' : RunState) (trace : List Entry) (next : NextAction) (e : StageEnd)
+    (a : Access) (ticket : ℕ)
     → IsUnderWay code cells input t r trace next → RanInstance code cells input (behaviour_after_all t (accessed trace)) [] (a ∷ []) r' e
-    → IsUnderWay code cells input t r' (trace ++ record { ticket = ticket; access = a } ∷ []) e
+    → IsUnderWay code cells input t r' (trace ++ record { ticket = ticket; access = a } ∷ []) (action_at e)
 goes_on code cells input t r r' trace next e a ticket h ran =
     let left = behaviour_after_all t (accessed trace) in
     let entry : Entry = record { ticket = ticket; access = a } in
@@ -54,9 +72,9 @@ goes_on code cells input t r r' trace next e a ticket h ran =
     record {
       performs = subst (Performs t) (sym more)
           (performs_push t (accessed trace) (Accessed a) h.performs (offered code cells input left a r' e ran));
-      ends_as = subst (EndsAs code cells input e r')
+      is_at = at_rest code cells input e r' (behaviour_after_all t (accessed (trace ++ entry ∷ []))) (subst (EndsAs code cells input e r')
           (sym (ap (behaviour_after_all t) more ∙ behaviour_after_all-push t (accessed trace) (Accessed a)))
-          (subst (λ l. EndsAs code cells input e r' (behaviour_after_all left (map Accessed l))) (sym one) ran.ends_as);
+          (subst (λ l. EndsAs code cells input e r' (behaviour_after_all left (map Accessed l))) (sym one) ran.ends_as));
     }
 
 -- an access that is offered, with the value of its cell if it is a read, is the next event
@@ -116,33 +134,41 @@ ends_now : (t : Behaviour) (trace : List Entry) (x : ColumnEnd) → Performs t (
     → Performs t (accessed trace ++ Ended x ∷ [])
 ends_now t trace x h is = performs_push t (accessed trace) (Ended x) h (subst (λ d. Offers d (Ended x)) (sym is) refl)
 
-pub instance_ends : InstancesEnd
-instance_ends code cells input t run trace (stage_ends.Wait n) h apart = record {
-  performs = names_next code cells input t run trace kinds.Wait n h.ends_as.0 h.performs h.ends_as.1;
-  event = λ p before i. ap (λ d. event_of_behaviour p before i d ∷ []) (sym h.ends_as.1);
-  stands = λ names. subst (StandsFor code cells input run) (after_trace t trace kinds.Wait n h.ends_as.0 h.performs h.ends_as.1) h.ends_as.2;
+-- an instance that is at its end has performed its accesses and the end, which is its next event; if it names a next stage, the machine is at the
+-- beginning of the next instance
+pub record EndsInstance (code : FlatCode) (cells : ℕ) (input : List ℤ) (t : Behaviour) (run : RunState) (trace : List Entry) (end : StageEnd) : Type 0 where
+  pub performs : Performs t (accessed trace ++ stage_end_actions end)
+  pub event : (p : Pipeline) (before : List Access) (i : ℕ) → stage_end_events i end ≡ next_of p before i t trace ∷ []
+  pub stands : NamesNextStage end → StandsFor code cells input run (after_instance t (replies_of trace))
+
+pub instance_ends : (code : FlatCode) (cells : ℕ) (input : List ℤ) (t : Behaviour) (run : RunState) (trace : List Entry) (end : StageEnd)
+    → IsUnderWay code cells input t run trace (actions.End end) → EndsInstance code cells input t run trace end
+instance_ends code cells input t run trace (stage_ends.Wait n) h = record {
+  performs = names_next code cells input t run trace kinds.Wait n h.is_at.1.0 h.performs h.is_at.1.1;
+  event = λ p before i. ap (λ d. event_of_behaviour p before i d ∷ []) (sym h.is_at.1.1);
+  stands = λ names. subst (StandsFor code cells input run) (after_trace t trace kinds.Wait n h.is_at.1.0 h.performs h.is_at.1.1) h.is_at.1.2;
 }
-instance_ends code cells input t run trace (stage_ends.Continue n) h apart = record {
-  performs = names_next code cells input t run trace kinds.Continue n h.ends_as.0 h.performs h.ends_as.1;
-  event = λ p before i. ap (λ d. event_of_behaviour p before i d ∷ []) (sym h.ends_as.1);
-  stands = λ names. subst (StandsFor code cells input run) (after_trace t trace kinds.Continue n h.ends_as.0 h.performs h.ends_as.1) h.ends_as.2;
+instance_ends code cells input t run trace (stage_ends.Continue n) h = record {
+  performs = names_next code cells input t run trace kinds.Continue n h.is_at.1.0 h.performs h.is_at.1.1;
+  event = λ p before i. ap (λ d. event_of_behaviour p before i d ∷ []) (sym h.is_at.1.1);
+  stands = λ names. subst (StandsFor code cells input run) (after_trace t trace kinds.Continue n h.is_at.1.0 h.performs h.is_at.1.1) h.is_at.1.2;
 }
-instance_ends code cells input t run trace stage_ends.End h apart = record {
-  performs = ends_now t trace ends.End h.performs h.ends_as;
-  event = λ p before i. ap (λ d. event_of_behaviour p before i d ∷ []) (sym h.ends_as);
+instance_ends code cells input t run trace stage_ends.End h = record {
+  performs = ends_now t trace ends.End h.performs h.is_at.1;
+  event = λ p before i. ap (λ d. event_of_behaviour p before i d ∷ []) (sym h.is_at.1);
   stands = λ names. elim names [ ];
 }
-instance_ends code cells input t run trace stage_ends.Closed h apart = record {
-  performs = ends_now t trace ends.Closed h.performs h.ends_as;
-  event = λ p before i. ap (λ d. event_of_behaviour p before i d ∷ []) (sym h.ends_as);
+instance_ends code cells input t run trace stage_ends.Closed h = record {
+  performs = ends_now t trace ends.Closed h.performs h.is_at.1;
+  event = λ p before i. ap (λ d. event_of_behaviour p before i d ∷ []) (sym h.is_at.1);
   stands = λ names. elim names [ ];
 }
-instance_ends code cells input t run trace (stage_ends.Trap w) h apart = record {
-  performs = ends_now t trace (ends.Trapped w) h.performs h.ends_as;
-  event = λ p before i. ap (λ d. event_of_behaviour p before i d ∷ []) (sym h.ends_as);
+instance_ends code cells input t run trace (stage_ends.Trap w) h = record {
+  performs = ends_now t trace (ends.Trapped w) h.performs h.is_at.1;
+  event = λ p before i. ap (λ d. event_of_behaviour p before i d ∷ []) (sym h.is_at.1);
   stands = λ names. elim names [ ];
 }
-instance_ends code cells input t run trace stage_ends.Stopped h apart = absurd (apart refl)
+instance_ends code cells input t run trace stage_ends.Stopped h = absurd (h.is_at.0 refl)
 
 -- ---- instances one after the other
 

@@ -1,23 +1,8 @@
--- One access at a time: a behaviour whose next action is an access, and a memory that lets one access pass.
-use Rattle.std.specs.Prelude.{◌≡◌, ◌<◌, ◌∷◌, [], IfSome, List, Bool, true, Option, Some, None, ℕ, ℤ, is_some}
+-- One access at a time: a memory that lets one access pass.
+use Rattle.std.specs.Prelude.{◌≡◌, ◌<◌, ◌∷◌, [], IfSome, List, Bool, true, Option, Some, None, is_some}
 use Rattle.cell_store.specs.ShardState.{IsStateAfter, ShardState}
 use Rattle.pipe_model.specs.declared.access.Access.{Access}
-use Rattle.pipe_model.specs.Pipelines.Behaviour.{Behaviour, Reading, Writing, Staging, Ending}
 use Rattle.pipe_model.specs.Pipelines.Store.{HasReply, InitialStore}
-use Rattle.stage_code.specs.FlatCode.{FlatCode}
-use Rattle.stage_interp.specs.MachineState.{RunState}
-use Rattle.stage_interp.specs.Standing.{IsStopped}
-
--- the next action is an access
-abbrev pub BeginsWithAccess : Behaviour → Type 0
-BeginsWithAccess (Reading c go) = Unit {0}
-BeginsWithAccess (Writing c v d) = Unit {0}
-BeginsWithAccess (Staging k n d) = ⊥
-BeginsWithAccess (Ending e) = ⊥
-
--- an instance that was stopped makes an access next
-abbrev pub StoppedInstancesAccess : Type 0
-StoppedInstancesAccess = (code : FlatCode) (cells : ℕ) (input : List ℤ) (run : RunState) (t : Behaviour) → IsStopped code cells input run t → BeginsWithAccess t
 
 -- one shard has all cells
 pub record HasAllCells (cells : ShardState) : Type 0 where

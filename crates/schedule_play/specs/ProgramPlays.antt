@@ -7,7 +7,7 @@ use Rattle.pipe_model.specs.Language.ProgramsOfTrees.{pipeline_after_init, whole
 use Rattle.pipe_model.specs.Language.SyntaxTree.{SyntaxTree}
 use Rattle.pipe_model.specs.Orders.Starts.{starts_of}
 use Rattle.pipe_model.specs.Pipelines.SerialElision.{unless}
-use Rattle.pipe_model.specs.Pipelines.WholePrograms.{WholeProgram, init_trap, program_output, program_trap}
+use Rattle.pipe_model.specs.Pipelines.WholePrograms.{WholeProgram, init_trap, program_columns, program_output, program_trap}
 use Rattle.pipe_model.specs.Races.Reports.{AreRight}
 use Rattle.pipe_model.specs.Runs.RunLogs.{accesses_after, columns_after, ended_columns_after, state_after}
 use Rattle.pipe_model.specs.Runs.Schedules.{candidates, played, running_instances}
@@ -56,9 +56,10 @@ pub record IsPlayed (tree : SyntaxTree) (input : List ℤ) (limits : PlayLimits)
   pub reports : HasFoundReports r
   pub results : HasPlayedResults (whole_of tree input) (state_after r.run_log.events) r
 
--- a finished play has a report exactly if the program's serial elision has a race, and otherwise the elision's output and trap
+-- a finished play has a report exactly if the program's serial elision has a race, and otherwise the elision's columns, output and trap
 pub record HasElisionResults (w : WholeProgram) (r : Played) : Type 0 where
   pub silent : (r.reports ≡ []) ↔ HasNoProgramRace w
+  pub columns : r.reports ≡ [] → r.run_log.columns ≡ program_columns w
   pub output : r.reports ≡ [] → r.output ≡ program_output w
   pub trap : r.reports ≡ [] → r.trap ≡ program_trap w
 

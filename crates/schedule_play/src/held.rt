@@ -1,6 +1,6 @@
 //! An iteration that runs in a schedule.
 
-ghost use Rattle.std.specs.Prelude.{◌≡◌, ◌≢◌, ◌≤◌, ◌++◌, ◌∷◌, [], ℤ, List, IfOk};
+ghost use Rattle.std.specs.Prelude.{◌≡◌, ◌≤◌, ◌++◌, ◌∷◌, [], ℤ, List, IfOk};
 ghost use Rattle.cell_store.specs.ShardState.{IsStateAfter};
 ghost use Rattle.pipe_frame.specs.CallResults.{NameReturns};
 ghost use Rattle.pipe_frame.specs.Replies.{after_instances};
@@ -21,7 +21,7 @@ ghost use Rattle.schedule_play.specs.RunningInstances.{next_of};
 ghost use Rattle.schedule_play.specs.Runners.{IsAtInstance, no_tie};
 
 use crate::runner::{PlayedCode, Runner};
-use crate::running_instance::RunningInstance;
+use crate::running_instance::{NextAction, RunningInstance};
 use cell_store::cells::Cells;
 use frame_book::book::Book;
 use om_list::om_list::OmList;
@@ -91,8 +91,8 @@ impl<B: PlayedCode> Held<B> {
         }
     }
 
-    /// Returns how the instance ends, or `Stopped` if its next event is an access.
-    pub fn next(&self) -> StageEnd
+    /// Returns what the instance does next.
+    pub fn next(&self) -> NextAction
         ensures { result ≡ self.now.next }
     {
         self.running.next
@@ -111,7 +111,7 @@ impl<B: PlayedCode> Held<B> {
         requires cells { cells.old.shard.cells ≡ B.cells }
         requires all { HasAllCells cells.old }
         requires few { cells.old.shard.cells ≤ 4294967296 }
-        requires stopped { self.old.next ≡ StageEnd.Stopped }
+        requires pending { self.old.next ≡ NextAction.Access }
         requires held { (tree : SyntaxTree) × ((replies : List (List ℤ)) × IsHeld B.code B.cells tree input.now replies self.old) }
         ensures held { IfOk result (λ a. (tree : SyntaxTree) (replies : List (List ℤ)) → IsHeld B.code B.cells tree input.now replies self.old
             → IsHeld B.code B.cells tree input.now replies self.new) }
@@ -131,19 +131,15 @@ impl<B: PlayedCode> Held<B> {
         Ok(access)
     }
 
-    /// Ends the instance, which is at its end: the event `Advance` or `Finish` of the book.
-    pub fn end(self, book: &mut Book<Runner<B>, OmList>) -> Named
+    /// Ends the instance, which does so next: the event `Advance` or `Finish` of the book.
+    pub fn end(self, end: StageEnd, book: &mut Book<Runner<B>, OmList>) -> Named
         requires out { IsOutOf book.old self.token }
-        requires ends { self.next ≢ StageEnd.Stopped }
+        requires ends { self.next ≡ NextAction.End end }
         requires lists { BelongsTo no_tie book.old.lists }
         requires held { IsHeld B.code B.cells (tree_of book.old.program) book.old.input (replies_at book.old self.token.iteration) self }
-        ensures answer { NameReturns (state_of book.old) self.next result }
-        ensures book { book.new ≡ after_name_next book.old self.token self.next self.trace result }
+        ensures answer { NameReturns (state_of book.old) end result }
+        ensures book { book.new ≡ after_name_next book.old self.token end self.trace result }
     {
-        book.name_next(
-            self.token,
-            self.running.next,
-            Trace::from_vec(self.running.trace),
-        )
+        book.name_next(self.token, end, Trace::from_vec(self.running.trace))
     }
 }

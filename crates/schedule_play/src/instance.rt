@@ -1,6 +1,6 @@
 //! Stage instances, one access at a time.
 
-ghost use Rattle.std.specs.Prelude.{◌≡◌, ◌↔◌, ◌≤◌, ◌<◌, IsTrue, ◌++◌, ◌∷◌, [], List, Some};
+ghost use Rattle.std.specs.Prelude.{◌≡◌, ◌≤◌, ◌<◌, ◌++◌, ◌∷◌, [], List, Some};
 ghost use Rattle.cell_store.specs.ShardState.{IsOfShard, IsStateAfter};
 ghost use Rattle.pipe_model.specs.declared.access.Access.{Access as Accessed};
 ghost use Rattle.pipe_model.specs.Language.Programs.{natural};
@@ -21,22 +21,9 @@ use stage_code::code::Code;
 use stage_interp::machine::Machine;
 use std::marker::Brand;
 
-/// Returns whether an instance with this end was stopped, before an access.
-pub(crate) fn is_stopped(end: StageEnd) -> bool
-    ensures { IsTrue result ↔ (end ≡ StageEnd.Stopped) }
-{
-    match end {
-        StageEnd::Stopped => true,
-        StageEnd::Wait(_) => false,
-        StageEnd::Continue(_) => false,
-        StageEnd::End => false,
-        StageEnd::Closed => false,
-        StageEnd::Trap(_) => false,
-    }
-}
-
-/// Runs a stage instance from its beginning up to its first access, which it does not make. Returns
-/// `Stopped` if the instance makes an access, and otherwise its end. It does not allocate.
+/// Runs a stage instance from its beginning up to its first access, which the memory refuses. Returns
+/// how the machine has come to rest: `Stopped` if an access is pending, and otherwise the instance's
+/// end. It does not allocate.
 pub fn run_to_access(machine: &mut Machine, code: &Code, input: &Numbers, cells: &Cells) -> StageEnd
     requires before { (t : Behaviour) × StandsFor code.now cells.now.shard.cells input.now machine.old.run t }
     requires few { cells.now.shard.cells ≤ 4294967296 }
@@ -90,8 +77,8 @@ fn carry_out(cells: &mut Cells, access: Access)
 }
 
 /// Makes the pending access of a stopped stage instance, and runs the instance on up to its next
-/// access, which it does not make. Returns the access, with `Stopped` if a further one is pending, and
-/// otherwise with the instance's end. It does not allocate.
+/// access, which the memory refuses. Returns the access, and how the machine has come to rest:
+/// `Stopped` if a further access is pending, and otherwise the instance's end. It does not allocate.
 pub fn make_access(
     machine: &mut Machine,
     code: &Code,

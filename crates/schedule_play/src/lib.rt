@@ -1,19 +1,18 @@
-//! The parts of a scheduler that plays any schedule of a program on one thread, one event a turn.
+//! Plays any schedule of a program on one thread, one event a turn.
 #![tactic(auto)]
 
 mod changes;
 pub mod choices;
 pub mod examples;
-pub mod held;
-pub mod instance;
-pub mod law;
-pub mod loop_play;
-pub mod one_access;
+mod held;
+mod instance;
+mod loop_play;
+mod one_access;
 mod opening;
-pub mod play;
-pub mod player;
+mod play;
+mod player;
 pub mod program_play;
-pub mod runner;
-pub mod running_instance;
-pub mod schedule;
-pub mod turns;
+mod runner;
+mod running_instance;
+mod schedule;
+mod turns;

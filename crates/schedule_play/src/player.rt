@@ -22,9 +22,9 @@ ghost use Rattle.schedule_play.specs.PlayStates.{IsPlay, KeepsProgram, pipeline_
 ghost use Rattle.schedule_play.specs.Turns.{turn_event};
 
 use crate::held::Held;
-use crate::instance::is_stopped;
 use crate::opening::open_book;
 use crate::runner::{PlayedCode, Runner};
+use crate::running_instance::NextAction;
 use crate::schedule::Schedule;
 use crate::turns::Turn;
 use cell_store::cells::Cells;
@@ -159,9 +159,8 @@ impl<B: PlayedCode> Player<B> {
         Ok(())
     }
 
-    // Returns the next event of the running instance of an iteration, as its end, or `Stopped` for an
-    // access. Returns `None` if none runs.
-    fn end_of_running(&self, iteration: u32) -> Option<StageEnd>
+    // Returns what the running instance of an iteration does next. Returns `None` if none runs.
+    fn next_of_running(&self, iteration: u32) -> Option<NextAction>
         requires there { iteration < length self.now.running }
         ensures { result ≡ option_map (λ (h : HeldState). h.next) (item_or None self.now.running iteration) }
     {
@@ -177,7 +176,7 @@ impl<B: PlayedCode> Player<B> {
         requires input { input.now ≡ self.old.book.input }
         requires play { IsPlay B.code B.cells self.old }
         requires runs { IsRunning (run_state self.old) iteration }
-        requires next { IfSome (item_or None self.old.running iteration) (λ (h : HeldState). h.next ≡ StageEnd.Stopped) }
+        requires next { IfSome (item_or None self.old.running iteration) (λ (h : HeldState). h.next ≡ NextAction.Access) }
         ensures play { IfOk result (λ u. IsPlay B.code B.cells self.new) }
         ensures event { IfOk result (λ u. (e : PlainEvent) → next_event (pipeline_played self.old) (run_state self.old) iteration ≡ Some e
             → self.new.events ≡ self.old.events ++ e ∷ []) }
@@ -199,7 +198,7 @@ impl<B: PlayedCode> Player<B> {
     fn end(&mut self, iteration: u32, end: StageEnd) -> Result<(), NoMemory>
         requires play { IsPlay B.code B.cells self.old }
         requires runs { IsRunning (run_state self.old) iteration }
-        requires next { IfSome (item_or None self.old.running iteration) (λ (h : HeldState). h.next ≡ end) }
+        requires next { IfSome (item_or None self.old.running iteration) (λ (h : HeldState). h.next ≡ NextAction.End end) }
         requires ends { end ≢ StageEnd.Stopped }
         ensures play { IfOk result (λ u. IsPlay B.code B.cells self.new) }
         ensures event { IfOk result (λ u. (e : PlainEvent) → next_event (pipeline_played self.old) (run_state self.old) iteration ≡ Some e
@@ -209,7 +208,7 @@ impl<B: PlayedCode> Player<B> {
         let Some(held) = self.running[iteration as usize].take() else {
             unreachable!()
         };
-        held.end(&mut self.book);
+        held.end(end, &mut self.book);
         let event = self.schedule.end_instance(iteration, end);
         self.events.push(event)?;
         Ok(())
@@ -232,13 +231,12 @@ impl<B: PlayedCode> Player<B> {
             → self.new.events ≡ self.old.events ++ e ∷ []) }
         ensures keeps { IfOk result (λ u. KeepsProgram self.old self.new) }
     {
-        let Some(end) = self.end_of_running(iteration) else {
+        let Some(next) = self.next_of_running(iteration) else {
             return self.enter(alloc, code, input, iteration);
         };
-        if is_stopped(end) {
-            self.access(code, input, iteration)
-        } else {
-            self.end(iteration, end)
+        match next {
+            NextAction::Access => self.access(code, input, iteration),
+            NextAction::End(end) => self.end(iteration, end),
         }
     }
 

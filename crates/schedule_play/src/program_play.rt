@@ -131,12 +131,12 @@ fn end_after_loop(
             finished,
         });
     }
-    let (trap, cells) = run_alone(alloc, machine, prepared, Part::Last, TrapPlace::Last, cells)?;
+    let last = run_alone(alloc, machine, prepared, Part::Last, TrapPlace::Last, cells)?;
     Ok(Played {
         run_log,
         reports,
-        output: cells.into_output(),
-        trap,
+        output: last.cells.into_output(),
+        trap: last.trap,
         finished,
     })
 }
@@ -158,9 +158,9 @@ fn play_prepared(
     ensures meets { IfOk result (MeetsPlayedHeadline (tree_of prepared.now.checked.now) prepared.now.input.now limits) }
 {
     let cells = first_cells(alloc, prepared.checked)?;
-    let (trap, cells) = run_alone(alloc, machine, prepared, Part::Init, TrapPlace::Init, cells)?;
-    if trap.is_some() {
-        return Ok(end_after_init(alloc, prepared, limits, choices, trap, cells));
+    let init = run_alone(alloc, machine, prepared, Part::Init, TrapPlace::Init, cells)?;
+    if init.trap.is_some() {
+        return Ok(end_after_init(alloc, prepared, limits, choices, init.trap, init.cells));
     }
     let play = play_loop(
         alloc,
@@ -169,7 +169,7 @@ fn play_prepared(
         prepared.input,
         limits,
         choices,
-        cells,
+        init.cells,
     )?;
     end_after_loop(alloc, machine, prepared, play)
 }
@@ -211,7 +211,7 @@ pub fn enough_turns(code: &Code) -> u64
 /// most `turns` events are made. Both `workers` and `throttle` are at least 1.
 ///
 /// If the run is finished, it has a report exactly if the program's serial elision has a race, and
-/// otherwise the elision's output and trap. Until then each state has a candidate, and there are at
+/// otherwise the elision's columns, output and trap. Until then each state has a candidate, and there are at
 /// most `enough_turns` events, so with that many turns the run is finished.
 ///
 /// # Errors

@@ -8,7 +8,7 @@ ghost use Rattle.pipe_model.specs.Pipelines.Behaviour.{Behaviour};
 ghost use Rattle.pipe_model.specs.Pipelines.Pipeline.{Pipeline};
 ghost use Rattle.pipe_model.specs.Pipelines.Store.{InitialStore};
 ghost use Rattle.schedule_play.specs.OneAccess.{HasAllCells};
-ghost use Rattle.schedule_play.specs.RunningInstances.{IsUnderWay, next_of};
+ghost use Rattle.schedule_play.specs.RunningInstances.{IsUnderWay, action_at, next_of};
 ghost use Rattle.stage_code.specs.FlatCode.{FlatCode};
 ghost use Rattle.stage_interp.specs.MachineState.{IsMadeFor};
 ghost use Rattle.stage_interp.specs.Standing.{StandsFor};
@@ -24,14 +24,37 @@ use stage_code::code::Code;
 use stage_interp::machine::Machine;
 use std::alloc::Global;
 
+/// What a running stage instance does next.
+#[derive(Clone, Copy, PartialEq, Eq, Debug)]
+pub enum NextAction {
+    /// It makes an access.
+    Access,
+    /// It ends so, which is not `Stopped`.
+    End(StageEnd),
+}
+
+// Returns what an instance does next whose machine has come to rest so.
+fn action_at(rest: StageEnd) -> NextAction
+    ensures { result ≡ action_at rest }
+{
+    match rest {
+        StageEnd::Stopped => NextAction::Access,
+        StageEnd::Wait(_) => NextAction::End(rest),
+        StageEnd::Continue(_) => NextAction::End(rest),
+        StageEnd::End => NextAction::End(rest),
+        StageEnd::Closed => NextAction::End(rest),
+        StageEnd::Trap(_) => NextAction::End(rest),
+    }
+}
+
 /// A stage instance that runs: its accesses so far, and its next event. Its machine is passed to each
 /// call.
 #[derive(Drop)]
 pub struct RunningInstance {
     /// The accesses that it has made, with their tickets.
     pub trace: Vec<Entry>,
-    /// How it ends, or `Stopped` if its next event is an access.
-    pub next: StageEnd,
+    /// What it does next.
+    pub next: NextAction,
 }
 
 impl RunningInstance {
@@ -52,7 +75,7 @@ impl RunningInstance {
     {
         RunningInstance {
             trace: Vec::new(alloc),
-            next: run_to_access(machine, code, input, cells),
+            next: action_at(run_to_access(machine, code, input, cells)),
         }
     }
 
@@ -66,7 +89,7 @@ impl RunningInstance {
         cells: &mut Cells,
         ticket: u64,
     ) -> Result<Access, NoMemory>
-        requires stopped { self.old.next ≡ StageEnd.Stopped }
+        requires pending { self.old.next ≡ NextAction.Access }
         requires before { (t : Behaviour) × IsUnderWay code.now cells.old.shard.cells input.now t machine.old.run self.old.trace.items self.old.next }
         requires all { HasAllCells cells.old }
         requires few { cells.old.shard.cells ≤ 4294967296 }
@@ -85,9 +108,9 @@ impl RunningInstance {
             × (self.new.next ≡ self.old.next)) }
     {
         self.trace.reserve(1)?;
-        let (access, next) = make_access(machine, code, input, cells);
+        let (access, rest) = make_access(machine, code, input, cells);
         self.trace.push_reserved(Entry { ticket, access });
-        self.next = next;
+        self.next = action_at(rest);
         Ok(access)
     }
 }

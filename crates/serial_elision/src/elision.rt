@@ -71,10 +71,10 @@ fn run_final(
             events,
         });
     }
-    let (trap, cells) = run_alone(alloc, machine, prepared, Part::Last, TrapPlace::Last, cells)?;
+    let last = run_alone(alloc, machine, prepared, Part::Last, TrapPlace::Last, cells)?;
     Ok(SerialRun {
-        output: cells.into_output(),
-        trap,
+        output: last.cells.into_output(),
+        trap: last.trap,
         columns,
         accesses,
         events,
@@ -92,7 +92,7 @@ fn run_whole(
     ensures { IfOk result (λ r. IsElision (whole_of (tree_of prepared.now.checked.now) prepared.now.input.now) r) }
 {
     let cells = first_cells(alloc, prepared.checked)?;
-    let (init_trap, cells) = run_alone(
+    let init = run_alone(
         alloc,
         machine,
         prepared,
@@ -100,16 +100,16 @@ fn run_whole(
         TrapPlace::Init,
         cells,
     )?;
-    if init_trap.is_some() {
+    if init.trap.is_some() {
         return Ok(SerialRun {
-            output: cells.into_output(),
-            trap: init_trap,
+            output: init.cells.into_output(),
+            trap: init.trap,
             columns: Columns::new(alloc),
             accesses: NodeAccesses::new(alloc),
             events: Events::new(alloc),
         });
     }
-    let run = run_loop(alloc, machine, prepared, cells)?;
+    let run = run_loop(alloc, machine, prepared, init.cells)?;
     run_final(alloc, machine, prepared, run)
 }
 

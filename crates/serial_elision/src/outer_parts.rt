@@ -8,6 +8,7 @@ ghost use Rattle.pipe_model.specs.Language.SyntaxTree.{tree_of};
 ghost use Rattle.pipe_model.specs.Pipelines.Behaviour.{accesses_in, trace_end};
 ghost use Rattle.pipe_model.specs.Pipelines.SerialElision.{serial_trace};
 ghost use Rattle.pipe_model.specs.Pipelines.WholePrograms as whole_programs;
+ghost use Rattle.pipe_model.specs.Runs.State.{accesses_of};
 ghost use Rattle.stage_interp.specs.MachineState.{IsMadeFor};
 ghost use Rattle.stage_interp.specs.Standing.{IsCodeOf, behaviour_in};
 ghost use Rattle.serial_elision.specs.PartRuns.{Serves};
@@ -18,11 +19,23 @@ use crate::prepared::Prepared;
 use crate::traps::part_trap;
 use cell_store::cells::Cells;
 use pipe_check::checked::Checked;
+use pipe_model::access::{Accesses, NodeAccesses};
 use pipe_model::memory::NoMemory;
 use pipe_model::trap::{TrapAt, TrapPlace};
 use stage_code::instr::Part;
 use stage_interp::machine::Machine;
 use std::alloc::Global;
+
+/// What `init` or `final` did.
+#[derive(Drop)]
+pub struct PartRun {
+    /// Its trap, if it trapped.
+    pub trap: Option<TrapAt>,
+    /// Its accesses, in the order in which they were made.
+    pub accesses: Accesses,
+    /// The cells after it.
+    pub cells: Cells,
+}
 
 /// Returns the cells of a program with their declared values, all in one shard. Returns an error
 /// only if memory runs out.
@@ -34,9 +47,19 @@ pub fn first_cells(alloc: Global, checked: &Checked) -> Result<Cells, NoMemory>
     Cells::new(alloc, checked, 0, 1)
 }
 
-/// Runs `init` or `final` over the cells, and returns its trap, raised at `place`, and the cells after
-/// it. Its accesses are not part of the result: they are recorded in a log that is then dropped.
-/// Returns an error only if memory runs out.
+// Returns the accesses without the instances that made them.
+fn plain_accesses(alloc: Global, accesses: &NodeAccesses) -> Result<Accesses, NoMemory>
+    ensures { IfOk result (λ plain. plain ≡ accesses_of accesses.now) }
+{
+    let mut plain = Accesses::with_capacity(alloc, accesses.len())?;
+    for made in accesses.as_slice() {
+        plain.push(made.access)?;
+    }
+    Ok(plain)
+}
+
+/// Runs `init` or `final` over the cells. Its trap is raised at `place`. Returns an error only if
+/// memory runs out.
 pub fn run_alone(
     alloc: Global,
     machine: &mut Machine,
@@ -44,20 +67,27 @@ pub fn run_alone(
     part: Part,
     place: TrapPlace,
     cells: Cells,
-) -> Result<(Option<TrapAt>, Cells), NoMemory>
+) -> Result<PartRun, NoMemory>
     requires code { IsCodeOf (tree_of prepared.now.checked.now) prepared.now.code.now }
     requires made { IsMadeFor prepared.now.code.now machine.old }
     requires serves { Serves (tree_of prepared.now.checked.now) cells }
     ensures trap { IfOk result (λ r. (before : List Access) → IsStateAfter (store_of (tree_of prepared.now.checked.now)) before cells
-        → r.0 ≡ whole_programs.part_trap place (trace_end
+        → r.trap ≡ whole_programs.part_trap place (trace_end
         (serial_trace (store_of (tree_of prepared.now.checked.now)) (behaviour_in (tree_of prepared.now.checked.now) prepared.now.input.now part 0) before))) }
+    ensures accesses { IfOk result (λ r. (before : List Access) → IsStateAfter (store_of (tree_of prepared.now.checked.now)) before cells
+        → r.accesses ≡ accesses_in
+        (serial_trace (store_of (tree_of prepared.now.checked.now)) (behaviour_in (tree_of prepared.now.checked.now) prepared.now.input.now part 0) before)) }
     ensures state { IfOk result (λ r. (before : List Access) → IsStateAfter (store_of (tree_of prepared.now.checked.now)) before cells
         → IsStateAfter (store_of (tree_of prepared.now.checked.now)) (before ++ accesses_in
-        (serial_trace (store_of (tree_of prepared.now.checked.now)) (behaviour_in (tree_of prepared.now.checked.now) prepared.now.input.now part 0) before)) r.1) }
+        (serial_trace (store_of (tree_of prepared.now.checked.now)) (behaviour_in (tree_of prepared.now.checked.now) prepared.now.input.now part 0) before)) r.cells) }
     ensures made { IfOk result (λ r. IsMadeFor prepared.now.code.now machine.new) }
-    ensures serves { IfOk result (λ r. Serves (tree_of prepared.now.checked.now) r.1) }
+    ensures serves { IfOk result (λ r. Serves (tree_of prepared.now.checked.now) r.cells) }
 {
     let log = Log::new(alloc, cells);
     let (column, log) = run_part(alloc, machine, prepared, part, 0, log)?;
-    Ok((part_trap(place, column.end), log.cells))
+    Ok(PartRun {
+        trap: part_trap(place, column.end),
+        accesses: plain_accesses(alloc, &log.accesses)?,
+        cells: log.cells,
+    })
 }

@@ -35,6 +35,7 @@ use Rattle.run_laws.proofs.RunStates.FrameMoves.{frame_at_moved}
 use Rattle.run_laws.proofs.RunStates.Frames.{frame_at_within, length-update_frame}
 use Rattle.stage_code.specs.FlatCode.{FlatCode}
 use Rattle.stage_interp.specs.Standing.{EndsAs}
+use Rattle.schedule_play.specs.declared.running_instance.NextAction.TheVariants as actions
 use Rattle.schedule_play.specs.HeldInstances.{HeldState}
 use Rattle.schedule_play.specs.PlayStates.{FitsStatus, IsPlay, KeepsRunning, PlayState, pipeline_played, run_state}
 use Rattle.schedule_play.specs.RunningInstances.{IsUnderWay, next_of}
@@ -44,7 +45,7 @@ use Rattle.schedule_play.proofs.Playing.Steps.{fits_still, logged, played_on, sa
 use Rattle.schedule_play.proofs.UnderWay.{after_instances-push, after_trace, instance_ends}
 
 module _ (code : FlatCode) (cells : ℕ) (v : PlayState) (h : IsPlay code cells v) (i : ℕ) (f : Frame) (is : frame_at (run_state v).frames i ≡ Some f)
-    (runs : f.status ≡ Running) (k : HeldState) (kept : item_or None v.running i ≡ Some k) where
+    (runs : f.status ≡ Running) (k : HeldState) (kept : item_or None v.running i ≡ Some k) (ending : StageEnd) (at : k.next ≡ actions.End ending) where
   abbrev p : Pipeline
   p = pipeline_played v
 
@@ -54,22 +55,23 @@ module _ (code : FlatCode) (cells : ℕ) (v : PlayState) (h : IsPlay code cells 
   abbrev d : Behaviour
   d = (pipeline_in v.book).behaviour i
 
-  under_way : IsUnderWay code cells v.book.input (left_of v.book i) k.machine.run k.trace k.next
+  under_way : IsUnderWay code cells v.book.input (left_of v.book i) k.machine.run k.trace (actions.End ending)
   under_way =
-      let at = fits code cells v h i f is runs k kept in
-      subst (λ j. IsUnderWay code cells v.book.input (after_instances ((pipeline_in v.book).behaviour j) (replies_at v.book i)) k.machine.run k.trace k.next)
-      at.iteration at.held.under_way
+      let fit = fits code cells v h i f is runs k kept in
+      subst (λ a. IsUnderWay code cells v.book.input (left_of v.book i) k.machine.run k.trace a) at
+      (subst (λ j. IsUnderWay code cells v.book.input (after_instances ((pipeline_in v.book).behaviour j) (replies_at v.book i)) k.machine.run k.trace k.next)
+      fit.iteration fit.held.under_way)
 
   -- the event of the end is next
-  pub end_is_next : k.next ≢ stage_ends.Stopped → (e : Event) → stage_end_events i k.next ≡ e ∷ [] → next_event p s i ≡ Some e
-  end_is_next apart e one =
-      let ended = instance_ends code cells v.book.input (left_of v.book i) k.machine.run k.trace k.next under_way apart in
+  pub end_is_next : (e : Event) → stage_end_events i ending ≡ e ∷ [] → next_event p s i ≡ Some e
+  end_is_next e one =
+      let ended = instance_ends code cells v.book.input (left_of v.book i) k.machine.run k.trace ending under_way in
       let same = sym one ∙ ended.event p (p.preamble ++ accesses_of s.accesses) i in
       let head : e ≡ next_of p (p.preamble ++ accesses_of s.accesses) i (left_of v.book i) k.trace = cc in
       next_here code cells v h i f is runs k kept ∙ ap Some (sym head)
 
   -- the book after the event of the end
-  module _ (e : Event) (one : stage_end_events i k.next ≡ e ∷ []) (x : Action) (w : Status)
+  module _ (e : Event) (one : stage_end_events i ending ≡ e ∷ []) (x : Action) (w : Status)
       (moves : next_state s e ≡ record s { frames = update_frame s.frames i (with_action x w) }) (quiet : is_access e ≡ false) (apart : e ≢ Stop)
       (others : (j : ℕ) → j ≢ i → EndsNoneOf j e) (next : next_event p s i ≡ Some e) (token : TokenState)
       (here : (traces : List (List (List Entry))) → item_or [] traces i ≡ item_or [] v.book.traces i ++ k.trace ∷ []
@@ -78,7 +80,7 @@ module _ (code : FlatCode) (cells : ℕ) (v : PlayState) (h : IsPlay code cells 
     u = with_action x w
 
     abbrev log : List BookEntry
-    log = with_events v.book.log k.token.now (stage_end_events k.token.iteration k.next)
+    log = with_events v.book.log k.token.now (stage_end_events k.token.iteration ending)
 
     abbrev traces : List (List (List Entry))
     traces = set v.book.traces k.token.iteration (item_or [] v.book.traces k.token.iteration ++ k.trace ∷ [])
@@ -94,7 +96,7 @@ module _ (code : FlatCode) (cells : ℕ) (v : PlayState) (h : IsPlay code cells 
 
     log_is : events_of log ≡ events_of v.book.log ++ e ∷ []
     log_is =
-        ap (λ j. events_of (with_events v.book.log k.token.now (stage_end_events j k.next))) iteration
+        ap (λ j. events_of (with_events v.book.log k.token.now (stage_end_events j ending))) iteration
         ∙ ap (λ es. events_of (with_events v.book.log k.token.now es)) one ∙ events_of_with v.book.log k.token.now e
 
     allowed : Allowed p v.book.limit s e
@@ -164,41 +166,41 @@ module _ (code : FlatCode) (cells : ℕ) (v : PlayState) (h : IsPlay code cells 
       → (traces : List (List (List Entry))) → item_or [] traces i ≡ item_or [] v.book.traces i ++ k.trace ∷ []
       → FitsStatus code cells (record v.book { traces = traces }) i (Pending kind n) (f.trace ++ Staged kind n ∷ []) None
   named_left kind n rest performs leaves traces more =
-      let at = fits code cells v h i f is runs k kept in
+      let fit = fits code cells v h i f is runs k kept in
       let replies = map replies_of (item_or [] v.book.traces i) in
       let longer : map replies_of (item_or [] traces i) ≡ replies ++ replies_of k.trace ∷ [] =
       ap (map replies_of) more ∙ map-append replies_of (item_or [] v.book.traces i) (k.trace ∷ []) in (
         refl,
-        behaviour_after_all-push d f.trace (Staged kind n) ∙ ap (λ b. behaviour_after b (Staged kind n)) (at.left ∙ leaves)
+        behaviour_after_all-push d f.trace (Staged kind n) ∙ ap (λ b. behaviour_after b (Staged kind n)) (fit.left ∙ leaves)
             ∙ after_trace (left_of v.book i) k.trace kind n rest performs leaves
             ∙ sym (ap (after_instances d) longer ∙ after_instances-push d replies (replies_of k.trace)),
       )
 
   abbrev played : Named → Event → ScheduleState → PlayState
   played result e schedule = record v {
-    book = after_name_next v.book k.token k.next k.trace result;
+    book = after_name_next v.book k.token ending k.trace result;
     schedule = schedule;
     running = set v.running i None;
     events = v.events ++ e ∷ [];
   }
 
-  names_on : (kind : Kind) (n : ℤ) (rest : Behaviour) (result : Named) → k.next ≢ stage_ends.Stopped → stage_end_events i k.next ≡ Advance i kind n ∷ []
+  names_on : (kind : Kind) (n : ℤ) (rest : Behaviour) (result : Named) → stage_end_events i ending ≡ Advance i kind n ∷ []
       → result ≡ named.Waits → behaviour_after_all (left_of v.book i) (accessed k.trace) ≡ Staging kind n rest
       → (schedule : ScheduleState) → IsScheduleOf (next_state s (Advance i kind n)) schedule → schedule.limit ≡ v.book.limit
       → IsPlay code cells (played result (Advance i kind n) schedule)
-  names_on kind n rest result apart one waits leaves schedule scheduled limited =
+  names_on kind n rest result one waits leaves schedule scheduled limited =
       let token = Kept (record k.token { now = 1 + max (last_ticket v.book.log) k.token.now }) in
       subst (λ r. IsPlay code cells (played r (Advance i kind n) schedule)) (sym waits)
       (ended_on (Advance i kind n) one (Staged kind n) (Pending kind n) refl refl (λ q. absurd (cc)) (λ j other q. other (sym q))
-      (end_is_next apart (Advance i kind n) one) token (named_left kind n rest under_way.performs leaves) schedule scheduled limited)
+      (end_is_next (Advance i kind n) one) token (named_left kind n rest under_way.performs leaves) schedule scheduled limited)
 
-  ends_on : (x : ColumnEnd) (result : Named) → k.next ≢ stage_ends.Stopped → stage_end_events i k.next ≡ Finish i x ∷ [] → result ≡ named.Ended
+  ends_on : (x : ColumnEnd) (result : Named) → stage_end_events i ending ≡ Finish i x ∷ [] → result ≡ named.Ended
       → (schedule : ScheduleState) → IsScheduleOf (next_state s (Finish i x)) schedule → schedule.limit ≡ v.book.limit
       → IsPlay code cells (played result (Finish i x) schedule)
-  ends_on x result apart one over schedule scheduled limited =
+  ends_on x result one over schedule scheduled limited =
       subst (λ r. IsPlay code cells (played r (Finish i x) schedule)) (sym over)
       (ended_on (Finish i x) one (Ended x) (Completed x) refl refl (λ q. absurd (cc)) (λ j other q. other (sym q))
-      (end_is_next apart (Finish i x) one) Spent (λ traces more. refl) schedule scheduled limited)
+      (end_is_next (Finish i x) one) Spent (λ traces more. refl) schedule scheduled limited)
 
   -- a run that was not stopped goes on
   goes_on : (state_of v.book).stopped ≡ false
@@ -225,62 +227,61 @@ module _ (code : FlatCode) (cells : ℕ) (v : PlayState) (h : IsPlay code cells 
   ends_only stage_ends.Stopped named.Waits over answer = elim over [ ]
 
   -- the play goes on with the event of the end
-  pub end_on : (end : StageEnd) → k.next ≡ end → end ≢ stage_ends.Stopped → (result : Named) → NameReturns (state_of v.book) end result
-      → (e : Event) → stage_end_events i end ≡ e ∷ [] → (schedule : ScheduleState) → IsScheduleOf (next_state s e) schedule → schedule.limit ≡ v.book.limit
+  pub end_on : (result : Named) → NameReturns (state_of v.book) ending result
+      → (e : Event) → stage_end_events i ending ≡ e ∷ [] → (schedule : ScheduleState) → IsScheduleOf (next_state s e) schedule → schedule.limit ≡ v.book.limit
       → IsPlay code cells (played result e schedule)
-  end_on end at apart result answer e one schedule = by end at apart answer one
+  end_on result answer e one schedule = by ending refl answer one
     where
       goal : Type 0
       goal = IsScheduleOf (next_state s e) schedule → schedule.limit ≡ v.book.limit → IsPlay code cells (played result e schedule)
 
-      named_by : (kind : Kind) (n : ℤ) (end : StageEnd) → k.next ≡ end → end ≢ stage_ends.Stopped → NamesNextStage end
+      named_by : (kind : Kind) (n : ℤ) (end : StageEnd) → ending ≡ end → NamesNextStage end
           → NameReturns (state_of v.book) end result → stage_end_events i end ≡ Advance i kind n ∷ [] → stage_end_events i end ≡ e ∷ []
           → ((rest : Behaviour) × (behaviour_after_all (left_of v.book i) (accessed k.trace) ≡ Staging kind n rest)) → goal
-      named_by kind n end at apart names answer mine one leaves =
+      named_by kind n end here names answer mine one leaves =
           let same : Advance i kind n ≡ e = (let q = sym mine ∙ one in cc) in
           subst (λ (y : Event). IsScheduleOf (next_state s y) schedule → schedule.limit ≡ v.book.limit → IsPlay code cells (played result y schedule)) same
-          (names_on kind n leaves.0 result (λ q. apart (sym at ∙ q)) (ap (stage_end_events i) at ∙ mine) (waits_only end result names answer) leaves.1 schedule)
+          (names_on kind n leaves.0 result (ap (stage_end_events i) here ∙ mine) (waits_only end result names answer) leaves.1 schedule)
 
-      ended_by : (x : ColumnEnd) (end : StageEnd) → k.next ≡ end → end ≢ stage_ends.Stopped → EndsIteration end
+      ended_by : (x : ColumnEnd) (end : StageEnd) → ending ≡ end → EndsIteration end
           → NameReturns (state_of v.book) end result → stage_end_events i end ≡ Finish i x ∷ [] → stage_end_events i end ≡ e ∷ [] → goal
-      ended_by x end at apart over answer mine one =
+      ended_by x end here over answer mine one =
           let same : Finish i x ≡ e = (let q = sym mine ∙ one in cc) in
           subst (λ (y : Event). IsScheduleOf (next_state s y) schedule → schedule.limit ≡ v.book.limit → IsPlay code cells (played result y schedule)) same
-          (ends_on x result (λ q. apart (sym at ∙ q)) (ap (stage_end_events i) at ∙ mine) (ends_only end result over answer) schedule)
+          (ends_on x result (ap (stage_end_events i) here ∙ mine) (ends_only end result over answer) schedule)
 
-      ends_as : (end : StageEnd) → k.next ≡ end → EndsAs code cells v.book.input end k.machine.run (behaviour_after_all (left_of v.book i) (accessed k.trace))
-      ends_as end at = subst (λ y. EndsAs code cells v.book.input y k.machine.run (behaviour_after_all (left_of v.book i) (accessed k.trace))) at under_way.ends_as
+      ends_as : (end : StageEnd) → ending ≡ end → EndsAs code cells v.book.input end k.machine.run (behaviour_after_all (left_of v.book i) (accessed k.trace))
+      ends_as end here = subst (λ y. EndsAs code cells v.book.input y k.machine.run (behaviour_after_all (left_of v.book i) (accessed k.trace))) here under_way.is_at.1
 
-      by : (end : StageEnd) → k.next ≡ end → end ≢ stage_ends.Stopped → NameReturns (state_of v.book) end result → stage_end_events i end ≡ e ∷ [] → goal
-      by (stage_ends.Wait n) at apart answer one =
-          let y = ends_as (stage_ends.Wait n) at in named_by kinds.Wait n (stage_ends.Wait n) at apart tt answer refl one (y.0, y.1)
-      by (stage_ends.Continue n) at apart answer one =
-          let y = ends_as (stage_ends.Continue n) at in named_by kinds.Continue n (stage_ends.Continue n) at apart tt answer refl one (y.0, y.1)
-      by stage_ends.End at apart answer one = ended_by ends.End stage_ends.End at apart tt answer refl one
-      by stage_ends.Closed at apart answer one = ended_by ends.Closed stage_ends.Closed at apart tt answer refl one
-      by (stage_ends.Trap t) at apart answer one = ended_by (ends.Trapped t) (stage_ends.Trap t) at apart tt answer refl one
-      by stage_ends.Stopped at apart answer one = absurd (apart refl)
+      by : (end : StageEnd) → ending ≡ end → NameReturns (state_of v.book) end result → stage_end_events i end ≡ e ∷ [] → goal
+      by (stage_ends.Wait n) here answer one =
+          let y = ends_as (stage_ends.Wait n) here in named_by kinds.Wait n (stage_ends.Wait n) here tt answer refl one (y.0, y.1)
+      by (stage_ends.Continue n) here answer one =
+          let y = ends_as (stage_ends.Continue n) here in named_by kinds.Continue n (stage_ends.Continue n) here tt answer refl one (y.0, y.1)
+      by stage_ends.End here answer one = ended_by ends.End stage_ends.End here tt answer refl one
+      by stage_ends.Closed here answer one = ended_by ends.Closed stage_ends.Closed here tt answer refl one
+      by (stage_ends.Trap t) here answer one = ended_by (ends.Trapped t) (stage_ends.Trap t) here tt answer refl one
+      by stage_ends.Stopped here answer one = absurd (under_way.is_at.0 here)
 
 -- the result of a call of the player: the event is the next one, and the play goes on with it
 pub end_made : (code : FlatCode) (cells : ℕ) (v : PlayState) (h : IsPlay code cells v) (i : ℕ) (r : IsRunning (run_state v) i) (k : HeldState)
-    → item_or None v.running i ≡ Some k → (end : StageEnd) → k.next ≡ end → end ≢ stage_ends.Stopped → (result : Named)
-    → NameReturns (state_of v.book) k.next result → (e : Event) → stage_end_events i end ≡ e ∷ [] → (schedule : ScheduleState)
+    → item_or None v.running i ≡ Some k → (end : StageEnd) → k.next ≡ actions.End end → (result : Named)
+    → NameReturns (state_of v.book) end result → (e : Event) → stage_end_events i end ≡ e ∷ [] → (schedule : ScheduleState)
     → ((s : State) → IsScheduleOf s v.schedule → ControlAllows v.schedule.limit s e → IsScheduleOf (next_state s e) schedule)
     → schedule.limit ≡ v.schedule.limit
     → (next_event (pipeline_played v) (run_state v) i ≡ Some e)
     × IsPlay code cells (record v {
-      book = after_name_next v.book k.token k.next k.trace result;
+      book = after_name_next v.book k.token end k.trace result;
       schedule = schedule;
       running = set v.running i None;
       events = v.events ++ e ∷ [];
     })
-end_made code cells v h i r k kept end at apart result answer e one schedule scheduled limited =
-    let next = end_is_next code cells v h i r.frame r.is r.runs k kept (λ q. apart (sym at ∙ q)) e (ap (stage_end_events i) at ∙ one) in
+end_made code cells v h i r k kept end at result answer e one schedule scheduled limited =
+    let next = end_is_next code cells v h i r.frame r.is r.runs k kept end at e one in
     let allowed = allowed_here code cells v h i r.frame r.is r.runs k kept e (no_stop i end e one) next in
     let control = subst (λ l. ControlAllows l (run_state v) e) (sym h.limit) allowed.control in (
       next,
-      end_on code cells v h i r.frame r.is r.runs k kept end at apart result (subst (λ x. NameReturns (state_of v.book) x result) at answer) e one schedule
-          (scheduled (run_state v) h.schedule control) (limited ∙ h.limit),
+      end_on code cells v h i r.frame r.is r.runs k kept end at result answer e one schedule (scheduled (run_state v) h.schedule control) (limited ∙ h.limit),
     )
   where
     no_stop : (i : ℕ) (end : StageEnd) (e : Event) → stage_end_events i end ≡ e ∷ [] → e ≢ Stop

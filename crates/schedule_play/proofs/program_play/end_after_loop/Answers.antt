@@ -59,7 +59,7 @@ returns c =
     c.least_trap-trap.result c.requires.no_trap run.1 c.requires.columns (c.least_trap-trap.ensures ∙ ap (least_trap 0) c.as_slice.ensures) in
     let ran : (reaches_final play.finished play.reports && not (is_some c.least_trap-trap.result)) ≡ true = sym c.runs_final.ensures ∙ c.if-not-runs_final.false in
     let results = after_final w (reaches_final play.finished play.reports) (state_after play.run_log.events) c.into_output-2.result c.least_trap-trap.result
-    c.in_ok-trap.trap ran first (c.in_ok-trap.ensures.trap before c.requires.state)
+    c.in_ok-last.last.trap ran first (c.in_ok-last.ensures.trap before c.requires.state)
     (c.into_output-2.ensures.output w.loop.store (before ++ accesses_in (last_trace w (accesses_of (accesses_after play.run_log.events))))
-    (c.in_ok-trap.ensures.state before c.requires.state) (has_output c.in_ok-trap.cells c.in_ok-trap.ensures.serves.whole)) in
+    (c.in_ok-last.ensures.state before c.requires.state) (has_output c.in_ok-last.last.cells c.in_ok-last.ensures.serves.whole)) in
     record { log = refl; reports = refl; finished = refl; results = record { output = results.output_is; trap = results.trap_is } }

@@ -1,11 +1,12 @@
-use Rattle.std.proofs.Common.{◌≢◌, ◌++◌, ◌∷◌, [], List, subst, sym}
+use Rattle.std.proofs.Common.{◌≡◌, ◌∙◌, ◌++◌, ◌∷◌, [], List, ap, subst, sym}
 use Rattle.pipe_frame.specs.Replies.{IsPerformed, after_instances, replies_of}
 use Rattle.pipe_model.specs.declared.ticket.Entry.{Entry}
 use Rattle.pipe_model.specs.Language.SyntaxTree.{tree_of}
 use Rattle.stage_interp.specs.Standing.{StandsFor}
 use Rattle.frame_book.specs.BookStates.{pipeline_in, replies_at}
-use Rattle.pipe_model.specs.declared.stage.StageEnd.TheVariants as stage_ends
+use Rattle.schedule_play.specs.declared.running_instance.NextAction.TheVariants as actions
 use Rattle.schedule_play.specs.HeldInstances.{HeldState, IsHeld}
+use Rattle.schedule_play.specs.RunningInstances.{IsUnderWay}
 use Rattle.schedule_play.specs.Runners.{IsAtInstance}
 use Rattle.schedule_play.proofs.UnderWay.{after_instances-push, instance_ends}
 use Rattle.schedule_play.proofs.held.Held.end.Goals as goal
@@ -20,11 +21,13 @@ name_next-requires-clause-performs g c =
     let i = inside.token.iteration in
     let replies = replies_at book i in
     let held = subst (λ (h : HeldState). IsHeld g.B.PlayedCode.code g.B.PlayedCode.cells (tree_of book.program) book.input (replies_at book h.token.iteration) h) (sym c.self.view_is) c.requires.held in
-    let apart = subst (λ (h : HeldState). h.next ≢ stage_ends.Stopped) (sym c.self.view_is) c.requires.ends in
-    let next = inside.running.next in
-    let ends = instance_ends g.B.PlayedCode.code g.B.PlayedCode.cells book.input (after_instances ((pipeline_in book).behaviour i) replies)
-    inside.token.payload.machine.run inside.running.trace.items next held.under_way apart in
-    subst (λ (l : List Entry). IsPerformed (pipeline_in book) i replies l next) (sym c.from_vec.ensures) ends.performs
+    let at : inside.running.next ≡ actions.End c.args.end = ap (λ (h : HeldState). h.next) c.self.view_is ∙ c.requires.ends in
+    let t = after_instances ((pipeline_in book).behaviour i) replies in
+    let run = inside.token.payload.machine.run in
+    let trace = inside.running.trace.items in
+    let under_way = subst (IsUnderWay g.B.PlayedCode.code g.B.PlayedCode.cells book.input t run trace) at held.under_way in
+    let ends = instance_ends g.B.PlayedCode.code g.B.PlayedCode.cells book.input t run trace c.args.end under_way in
+    subst (λ (l : List Entry). IsPerformed (pipeline_in book) i replies l c.args.end) (sym c.from_vec.ensures) ends.performs
 
 pub name_next-requires-clause-stands : goal.name_next-requires-clause-stands
 name_next-requires-clause-stands g c = λ names.
@@ -35,11 +38,12 @@ name_next-requires-clause-stands g c = λ names.
     let i = inside.token.iteration in
     let replies = replies_at book i in
     let held = subst (λ (h : HeldState). IsHeld g.B.PlayedCode.code g.B.PlayedCode.cells (tree_of book.program) book.input (replies_at book h.token.iteration) h) (sym c.self.view_is) c.requires.held in
-    let apart = subst (λ (h : HeldState). h.next ≢ stage_ends.Stopped) (sym c.self.view_is) c.requires.ends in
+    let at : inside.running.next ≡ actions.End c.args.end = ap (λ (h : HeldState). h.next) c.self.view_is ∙ c.requires.ends in
     let machine = inside.token.payload.machine in
     let trace = inside.running.trace.items in
     let d = (pipeline_in book).behaviour i in
-    let ends = instance_ends code cells book.input (after_instances d replies) machine.run trace inside.running.next held.under_way apart in
+    let under_way = subst (IsUnderWay code cells book.input (after_instances d replies) machine.run trace) at held.under_way in
+    let ends = instance_ends code cells book.input (after_instances d replies) machine.run trace c.args.end under_way in
     subst (λ (l : List Entry). IsAtInstance code cells (tree_of book.program) book.input machine i (replies ++ replies_of l ∷ [])) (sym c.from_vec.ensures)
     (record {
       whole = held.whole;

@@ -1,7 +1,7 @@
 use Rattle.std.proofs.Common.{◌≡◌, ◌∙◌, ◌<◌, ◌+◌, ◌++◌, ◌∷◌, [], arith, ap, sym, subst, length, List, ℤ, Some, None, IfSome, slice_index_or}
 use Rattle.std.proofs.lemmas.List.{get_or_default, set-set}
 use Rattle.pipe_model.specs.declared.event.Event.TheVariants as events
-use Rattle.pipe_model.specs.declared.stage.StageEnd.TheVariants as stage_ends
+use Rattle.schedule_play.specs.declared.running_instance.NextAction.TheVariants as actions
 use Rattle.pipe_model.specs.Language.SyntaxTree.{tree_of}
 use Rattle.frame_book.specs.BookStates.{replies_at}
 use Rattle.schedule_play.specs.HeldInstances.{HeldState, IsHeld}
@@ -35,8 +35,8 @@ unreachable-requires g c =
     ∙ get_or_default v.running i c.index_mut.result.now None within in
     slot_taken code cells v c.requires.play i c.requires.runs (sym slot ∙ c.in_default.is)
 
-pub access-requires-clause-stopped : goal.access-requires-clause-stopped
-access-requires-clause-stopped g c =
+pub access-requires-clause-pending : goal.access-requires-clause-pending
+access-requires-clause-pending g c =
     let code = g.B.PlayedCode.code in
     let cells = g.B.PlayedCode.cells in
     let v = c.args.self.now in
@@ -45,7 +45,7 @@ access-requires-clause-stopped g c =
     let within = slot_within code cells v c.requires.play i c.requires.runs.frame c.requires.runs.is in
     let slot = c.take.ensures.value ∙ c.index_mut.ensures.value ∙ ap (λ l. slice_index_or l i c.index_mut.result.now) running
     ∙ get_or_default v.running i c.index_mut.result.now None within in
-    subst (λ o. IfSome o (λ (h : HeldState). h.next ≡ stage_ends.Stopped)) (sym slot ∙ c.in-Some.is) c.requires.next
+    subst (λ o. IfSome o (λ (h : HeldState). h.next ≡ actions.Access)) (sym slot ∙ c.in-Some.is) c.requires.next
 
 pub access-requires-clause-held : goal.access-requires-clause-held
 access-requires-clause-held g c =

@@ -3,6 +3,7 @@ use Rattle.std.proofs.lemmas.List.{get_or_default}
 use Rattle.pipe_model.specs.Language.SyntaxTree.{tree_of}
 use Rattle.frame_book.specs.BookStates.{item_or, replies_at}
 use Rattle.frame_book.specs.GivenTokens.{IsOutOf}
+use Rattle.schedule_play.specs.declared.running_instance.NextAction.TheVariants as actions
 use Rattle.schedule_play.specs.HeldInstances.{HeldState, IsHeld}
 use Rattle.pipe_model.specs.Runs.Allowed.{IsRunning}
 use Rattle.pipe_model.specs.Runs.NextEvents.{next_event}
@@ -58,8 +59,7 @@ end-requires-clause-ends g c =
     let within = slot_within code cells v c.requires.play i c.requires.runs.frame c.requires.runs.is in
     let slot = c.take.ensures.value ∙ c.index_mut.ensures.value ∙ ap (λ l. slice_index_or l i c.index_mut.result.now) running
     ∙ get_or_default v.running i c.index_mut.result.now None within in
-    let next = subst (λ o. IfSome o (λ (h : HeldState). h.next ≡ c.args.end)) (sym slot ∙ c.in-Some.is) c.requires.next in
-    λ q. c.requires.ends (sym next ∙ q)
+    subst (λ o. IfSome o (λ (h : HeldState). h.next ≡ actions.End c.args.end)) (sym slot ∙ c.in-Some.is) c.requires.next
 
 pub end-requires-clause-held : goal.end-requires-clause-held
 end-requires-clause-held g c =
@@ -86,10 +86,10 @@ returns-clause-play g c =
     let runs = subst (λ (x : PlayState). IsRunning (run_state x) i) (sym c.self.view_is) c.requires.runs in
     let within = slot_within code cells w h i runs.frame runs.is in
     let kept = sym (get_or_default inside.running.items i c.index_mut.result.now None within) ∙ sym (c.take.ensures.value ∙ c.index_mut.ensures.value) ∙ c.in-Some.is in
-    let at = subst (λ o. IfSome o (λ (x : HeldState). x.next ≡ c.args.end)) kept
-    (subst (λ (x : PlayState). IfSome (item_or None x.running i) (λ (y : HeldState). y.next ≡ c.args.end)) (sym c.self.view_is) c.requires.next) in
+    let at = subst (λ o. IfSome o (λ (x : HeldState). x.next ≡ actions.End c.args.end)) kept
+    (subst (λ (x : PlayState). IfSome (item_or None x.running i) (λ (y : HeldState). y.next ≡ actions.End c.args.end)) (sym c.self.view_is) c.requires.next) in
     let told = c.end_instance-event.ensures in
-    let made = end_made code cells w h i runs c.in-Some.held kept c.args.end at c.requires.ends c.end.result c.end.ensures.answer c.end_instance-event.result told.event
+    let made = end_made code cells w h i runs c.in-Some.held kept c.args.end at c.end.result c.end.ensures.answer c.end_instance-event.result told.event
     c.end_instance-event.new.self told.schedule told.limit in
     rw (c.take.ensures.after, c.end.ensures.book, c.in_ok-push.ensures.ok) made.1
 
@@ -104,10 +104,10 @@ returns-clause-event g c = λ e next.
     let runs = subst (λ (x : PlayState). IsRunning (run_state x) i) (sym c.self.view_is) c.requires.runs in
     let within = slot_within code cells w h i runs.frame runs.is in
     let kept = sym (get_or_default inside.running.items i c.index_mut.result.now None within) ∙ sym (c.take.ensures.value ∙ c.index_mut.ensures.value) ∙ c.in-Some.is in
-    let at = subst (λ o. IfSome o (λ (x : HeldState). x.next ≡ c.args.end)) kept
-    (subst (λ (x : PlayState). IfSome (item_or None x.running i) (λ (y : HeldState). y.next ≡ c.args.end)) (sym c.self.view_is) c.requires.next) in
+    let at = subst (λ o. IfSome o (λ (x : HeldState). x.next ≡ actions.End c.args.end)) kept
+    (subst (λ (x : PlayState). IfSome (item_or None x.running i) (λ (y : HeldState). y.next ≡ actions.End c.args.end)) (sym c.self.view_is) c.requires.next) in
     let told = c.end_instance-event.ensures in
-    let made = end_made code cells w h i runs c.in-Some.held kept c.args.end at c.requires.ends c.end.result c.end.ensures.answer c.end_instance-event.result told.event
+    let made = end_made code cells w h i runs c.in-Some.held kept c.args.end at c.end.result c.end.ensures.answer c.end_instance-event.result told.event
     c.end_instance-event.new.self told.schedule told.limit in
     let there = subst (λ (x : PlayState). next_event (pipeline_played x) (run_state x) i ≡ Some e) (sym c.self.view_is) next in
     let same : c.end_instance-event.result ≡ e = (let q = sym made.0 ∙ there in cc) in
