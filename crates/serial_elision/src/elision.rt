@@ -92,14 +92,7 @@ fn run_whole(
     ensures { IfOk result (λ r. IsElision (whole_of (tree_of prepared.now.checked.now) prepared.now.input.now) r) }
 {
     let cells = first_cells(alloc, prepared.checked)?;
-    let init = run_alone(
-        alloc,
-        machine,
-        prepared,
-        Part::Init,
-        TrapPlace::Init,
-        cells,
-    )?;
+    let init = run_alone(alloc, machine, prepared, Part::Init, TrapPlace::Init, cells)?;
     if init.trap.is_some() {
         return Ok(SerialRun {
             output: init.cells.into_output(),
