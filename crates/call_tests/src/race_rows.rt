@@ -85,6 +85,22 @@ fn other_accesses(alloc: Global) -> Result<(), Fail> {
     Ok(())
 }
 
+// Prefix sums without their wait. Throttling is no dependency: the race is there for one worker and one
+// iteration at a time too.
+fn throttled_races(alloc: Global) -> Result<(), Fail> {
+    let source = source(
+        alloc,
+        [8, 4, 100, 8],
+        "cell n = 0; cell s = 0; pipe_while (n < 3) { n = n + 1; let t = n; pipe_continue(1); s = s + t; emit s; }",
+    )?;
+    let case = Case {
+        words: &["run", "a.pipe", "a.in", "--workers", "1", "--throttle", "1"],
+        ..Case::of(source.as_bytes())
+    };
+    let lines = "race output write 0/1 read 1/1\nrace s write 0/1 read 1/1\n";
+    case.check(alloc, "throttled", 2, lines)
+}
+
 // A thousand items through six stages, and the greatest generated workload.
 fn long_runs(alloc: Global) -> Result<(), Fail> {
     let source = source(alloc, [1000, 6, 100, 1], PIPELINE)?;
@@ -125,5 +141,6 @@ fn long_runs(alloc: Global) -> Result<(), Fail> {
 fn races_by_histories(rt: HostRuntime) -> Result<(), Fail> {
     same_cells(rt.alloc())?;
     other_accesses(rt.alloc())?;
+    throttled_races(rt.alloc())?;
     long_runs(rt.alloc())
 }

@@ -44,3 +44,12 @@ one_agreement {reports = reports} a b = elim (verdict reports a) [
   | Calm free none e ↦ (e ∙ sym (b.untrapped.1 (free, none)), λ not_two. a.otherwise free ∙ sym (b.otherwise free))
   | Trapping free some e ↦ (e ∙ sym (b.trapped.1 (free, some)), λ not_two. a.otherwise free ∙ sym (b.otherwise free))
 ]
+
+-- and the same text if they have the same reports
+pub one_text : {tree : SyntaxTree} {input : List ℤ} {reports : List Report} {status other : ℕ} {text other_text : List ℕ}
+    → AgreesWithElision tree input reports status text → AgreesWithElision tree input reports other other_text → text ≡ other_text
+one_text {reports = reports} a b = elim (verdict reports a) [
+  | Racy some e ↦ a.races e ∙ sym (b.races (b.racy.1 some))
+  | Calm free none e ↦ a.otherwise free ∙ sym (b.otherwise free)
+  | Trapping free some e ↦ a.otherwise free ∙ sym (b.otherwise free)
+]

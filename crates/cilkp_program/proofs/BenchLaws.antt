@@ -14,7 +14,7 @@ use Rattle.workload_laws.proofs.AcceptedSources.{accepted}
 use Rattle.workload_laws.proofs.ReadInputs.{inputs_are_read}
 use Rattle.workload_laws.specs.GeneratedPrograms.{generated_tree}
 use Rattle.cilkp_words.specs.Commands.{Command}
-use Rattle.cilkp_program.proofs.OneCommand.{bench_has_no_source, bench_keeps_no_log}
+use Rattle.cilkp_program.proofs.OneCommand.{bench_has_no_source, bench_asks_no_run}
 use Rattle.cilkp_program.proofs.OneRow.{one_row}
 use Rattle.cilkp_program.specs.BenchCalls.{IsToBench, ReturnsSummary}
 use Rattle.dag_build.specs.NodeColumns.{node_columns}
@@ -103,7 +103,7 @@ summary_outcome : {asked : Option Command} {holds : Option Content} {before now 
     (tree : SyntaxTree) (numbers : List ℤ) → IsToBench asked tree numbers → IsCallResult asked holds before now status text log reports
     → IsSummaryOf tree numbers status text log reports
 summary_outcome tree numbers a (OfRow same row) =
-    let one = one_row (bench_keeps_no_log a.command) row.row (Benches a.seed a.size tree numbers a.command a.generated) in
+    let one = one_row (bench_asks_no_run a.command) row.row (Benches a.seed a.size tree numbers a.command a.generated) in
     record { done = one.0; text_is = one.1; unlogged = one.2; silent = one.3 }
 summary_outcome tree numbers a (SourceFault s grew rose w) = absurd (bench_has_no_source a.command w)
 summary_outcome tree numbers a (InputFault s i file other grew rose w v known of) = absurd (bench_has_no_source a.command w)

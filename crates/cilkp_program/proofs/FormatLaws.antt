@@ -12,7 +12,7 @@ use Rattle.pipe_io.specs.Reads.{Content}
 use Rattle.cilkp_program.specs.ProgramFiles.{FileContents, IsSourceOf}
 use Rattle.cilkp_program.specs.Rows.{Row, Formats}
 use Rattle.cilkp_words.specs.Commands.{Command, Format}
-use Rattle.cilkp_program.proofs.OneCommand.{format_keeps_no_log}
+use Rattle.cilkp_program.proofs.OneCommand.{format_asks_no_run}
 use Rattle.cilkp_program.proofs.OneRow.{one_row}
 
 -- the result is that of the program's text
@@ -27,7 +27,7 @@ text_row : {asked : Option Command} {held : FileContents} {status : ℕ} {text :
     (tree : SyntaxTree) (source : List ℕ)
     → asked ≡ Some (Format source) → IsSourceOf held.source tree → Row asked held status text log reports → IsTextOf tree status text log reports
 text_row tree source w s row =
-    let one = one_row (format_keeps_no_log w) row (Formats source tree w s) in record { done = one.0; text_is = one.1; not_run = one.2; silent = one.3 }
+    let one = one_row (format_asks_no_run w) row (Formats source tree w s) in record { done = one.0; text_is = one.1; not_run = one.2; silent = one.3 }
 
 -- the result of a call that prints an accepted program, if no read failed
 text_outcome : {asked : Option Command} {content : Content} {before now status : ℕ} {text : List ℕ} {log : Option RunLog} {reports : List Report}

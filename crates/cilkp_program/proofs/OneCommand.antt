@@ -1,8 +1,8 @@
 -- The words of a call are at most one command, which names at most one source and one input.
-use Rattle.std.proofs.Common.{◌≡◌, ◌∙◌, refl, ℕ, ℤ, List, Option, Some, None, sym, true, false}
+use Rattle.std.proofs.Common.{◌≡◌, ◌∙◌, refl, ℕ, ℤ, Bool, List, Option, Some, None, sym, true, false}
 use Rattle.pipe_model.specs.declared.event.RunLog.{RunLog}
 use Rattle.pipe_model.specs.Language.SyntaxTree.{SyntaxTree}
-use Rattle.cilkp_program.specs.CommandFiles.{KeepsLog, NamesInput, NamesSource, RunsUnder, throttle_in}
+use Rattle.cilkp_program.specs.CommandFiles.{AsksRun, KeepsLog, NamesInput, NamesSource, RunsUnder, throttle_in}
 use Rattle.cilkp_program.specs.Rows.{IsLogOf, OfPlay, OfRun}
 use Rattle.cilkp_words.specs.Commands.{Command, Run, Play, Serial, Format, Bench}
 
@@ -40,6 +40,25 @@ pub run_keeps_log : {asked : Option Command} {tree : SyntaxTree} {numbers : List
 run_keeps_log (OfRun source input workers recording w) = rw w refl
 run_keeps_log (OfPlay source input workers seed recording w is) = rw w refl
 
+-- a `run` command is not a `play` command
+pub run_is_not_play : {asked : Option Command} {source input other other_input : List ℕ} {workers throttle others limit seed : ℕ} {recording records : Bool}
+    → asked ≡ Some (Run source input workers throttle recording) → asked ≡ Some (Play other other_input others limit seed records) → ⊥
+run_is_not_play {source = source} {input = input} {other = other} {other_input = other_input} {workers = workers} {throttle = throttle} {others = others} {limit = limit} {seed = seed} {recording = recording} {records = records} w v =
+    let e : Run source input workers throttle recording ≡ Play other other_input others limit seed records = one_command w v in cc (e)
+
+-- a `play` command has one number of workers, one throttling limit and one seed
+pub record IsOnePlay (workers others throttle limit seed number : ℕ) : Type 0 where
+  pub workers_are : workers ≡ others
+  pub throttle_is : throttle ≡ limit
+  pub seed_is : seed ≡ number
+
+pub one_play : {asked : Option Command} {source input other other_input : List ℕ} {workers throttle seed others limit number : ℕ} {recording records : Bool}
+    → asked ≡ Some (Play source input workers throttle seed recording) → asked ≡ Some (Play other other_input others limit number records)
+    → IsOnePlay workers others throttle limit seed number
+one_play {source = source} {input = input} {other = other} {other_input = other_input} {workers = workers} {throttle = throttle} {seed = seed} {others = others} {limit = limit} {number = number} {recording = recording} {records = records} w v =
+    let e : Play source input workers throttle seed recording ≡ Play other other_input others limit number records = one_command w v in
+    record { workers_are = cc (e); throttle_is = cc (e); seed_is = cc (e) }
+
 -- it has one throttling limit
 pub one_limit : {asked : Option Command} {tree : SyntaxTree} {numbers : List ℤ} {throttle other : ℕ} {log : RunLog} → IsLogOf asked tree numbers throttle log
     → RunsUnder asked other → throttle ≡ other
@@ -75,6 +94,10 @@ format_has_no_input {asked} {source} {input} v w = let e : None ≡ Some input =
 pub format_keeps_no_log : {asked : Option Command} {source : List ℕ} → asked ≡ Some (Format source) → KeepsLog asked → ⊥
 format_keeps_no_log w keeps = let d : false ≡ true = rw w at keeps in cc (d)
 
+-- it is no `run` command
+pub format_asks_no_run : {asked : Option Command} {source : List ℕ} → asked ≡ Some (Format source) → AsksRun asked → ⊥
+format_asks_no_run w asks = let d : false ≡ true = rw w at asks in cc (d)
+
 -- words that are no command make no run
 pub no_run : {asked : Option Command} {tree : SyntaxTree} {numbers : List ℤ} {throttle : ℕ} {log : RunLog} → asked ≡ None
     → IsLogOf asked tree numbers throttle log → ⊥
@@ -104,6 +127,10 @@ bench_has_no_input {asked} {input} v w = let e : None ≡ Some input = rw v at w
 -- it keeps no log
 pub bench_keeps_no_log : {asked : Option Command} {seed size : ℕ} → asked ≡ Some (Bench seed size) → KeepsLog asked → ⊥
 bench_keeps_no_log w keeps = let d : false ≡ true = rw w at keeps in cc (d)
+
+-- it is no `run` command
+pub bench_asks_no_run : {asked : Option Command} {seed size : ℕ} → asked ≡ Some (Bench seed size) → AsksRun asked → ⊥
+bench_asks_no_run w asks = let d : false ≡ true = rw w at asks in cc (d)
 
 -- it has one seed and one size
 pub one_bench : {asked : Option Command} {seed size other others : ℕ} → asked ≡ Some (Bench seed size) → asked ≡ Some (Bench other others)

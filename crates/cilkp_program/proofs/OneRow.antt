@@ -1,25 +1,29 @@
--- A call has at most one row of the table, but for the runs of `run` and `play`, which have one status, and one text if the status is not 2 and no log is printed.
-use Rattle.std.proofs.Common.{◌≡◌, ◌≢◌, ◌∙◌, Bool, true, false, ℕ, ℤ, List, ◌++◌, Option, Some, None, refl, ap, ap₂, sym}
+-- A call has at most one row of the table, but for the runs of `run`, which have one status, and one text if the status is not 2 and no log is printed.
+use Rattle.std.proofs.Common.{◌≡◌, ◌≢◌, ◌∙◌, Bool, true, false, ℕ, ℤ, List, ◌++◌, Option, Some, None, refl, ap, ap₂, subst, sym}
+use Rattle.pipe_model.specs.declared.column.Column.{Column}
+use Rattle.pipe_model.specs.declared.event.Event.{Event}
 use Rattle.pipe_model.specs.declared.event.RunLog.{RunLog}
 use Rattle.pipe_model.specs.declared.report.Report.{Report}
 use Rattle.pipe_model.specs.Language.SyntaxTree.{SyntaxTree}
 use Rattle.pipe_model.specs.Language.CanonicalText.{program_text}
+use Rattle.pipe_model.specs.Runs.RunLogs.{ended_columns_after}
 use Rattle.pipe_model.specs.Texts.{trap_line}
 use Rattle.pipe_gen.specs.Workload.{input_text, source_text}
 use Rattle.pipe_io.proofs.OneReading.{one_reading}
 use Rattle.grammar_laws.proofs.SourceRefusals.{one_accepted}
 use Rattle.cilkp_words.specs.Commands.{Command}
-use Rattle.cilkp_program.proofs.Agreements.{one_agreement}
-use Rattle.cilkp_program.proofs.OneCommand.{bench_has_no_input, bench_has_no_source, format_has_no_input, format_is_not_bench, no_command, no_input, no_run, no_source, one_bench, run_is_not_bench, run_is_not_format, run_is_not_serial, run_keeps_log, serial_is_not_bench, serial_is_not_format}
+use Rattle.cilkp_program.proofs.Agreements.{one_agreement, one_text}
+use Rattle.cilkp_program.proofs.OneCommand.{IsOnePlay, bench_has_no_input, bench_has_no_source, format_has_no_input, format_is_not_bench, no_command, no_input, no_run, no_source, one_bench, one_play, run_is_not_bench, run_is_not_format, run_is_not_play, run_is_not_serial, serial_is_not_bench, serial_is_not_format}
 use Rattle.cilkp_program.proofs.OneContent.{one_held, one_input, one_input_refusal, one_source, one_source_refusal, refused_no_input, refused_not_accepted_file}
 use Rattle.cilkp_program.proofs.OneReports.{one_first_races}
 use Rattle.cilkp_program.specs.Benchmarks.{IsGenerated, elision_summary}
 use Rattle.race_report.specs.CellNames.{race_lines}
-use Rattle.cilkp_program.specs.CommandFiles.{KeepsLog, asks_record}
-use Rattle.cilkp_program.specs.Headline.{MeetsHeadline}
+use Rattle.cilkp_program.specs.CommandFiles.{AsksRun, asks_record}
+use Rattle.cilkp_program.specs.Headline.{AgreesWithElision, MeetsHeadline}
 use Rattle.cilkp_program.specs.ProgramFiles.{AreAccepted, FileContents}
-use Rattle.cilkp_program.specs.RecordedRuns.{recorded}
-use Rattle.cilkp_program.specs.Rows.{Row, NoCommand, SourceRefused, Formats, Benches, InputRefused, Runs, RunsSerially}
+use Rattle.cilkp_program.specs.RecordedRuns.{IsRecordedRun, recorded, seeded_events}
+use Rattle.cilkp_program.specs.RunReports.{run_reports}
+use Rattle.cilkp_program.specs.Rows.{IsLogOf, OfPlay, OfRun, Row, NoCommand, SourceRefused, Formats, Benches, InputRefused, Runs, RunsSerially}
 use Rattle.cilkp_program.specs.SerialResults.{ElisionResult, Races, Finishes, Traps, elision_columns, elision_accesses, elision_output_text}
 
 -- two results have the same status, text and reports
@@ -79,15 +83,78 @@ unrecorded : (recording : Bool) (tree : SyntaxTree) (log : RunLog) (outcome : Li
 unrecorded true tree log outcome silent is = absurd (let d : true ≡ false = silent in cc (d))
 unrecorded false tree log outcome silent is = is
 
+-- the log, the reports, the status and the text of a run, by the events of the log
+record IsOneRun (log other_log : RunLog) (reports other_reports : List Report) (status other : ℕ) (text other_text : List ℕ) : Type 0 where
+  logs : log ≡ other_log
+  found : reports ≡ other_reports
+  statuses : status ≡ other
+  texts : text ≡ other_text
+
+abbrev log_with : List Column → List Event → RunLog
+log_with columns events = record { columns = columns; events = events }
+
+one_by_events : {recording : Bool} (tree : SyntaxTree) (numbers : List ℤ) {limit other_limit : ℕ} (log other_log : RunLog) {status other : ℕ}
+    {text other_text : List ℕ} {reports other_reports : List Report} → log.events ≡ other_log.events
+    → IsRecordedRun recording tree numbers limit log reports status text → reports ≡ run_reports log
+    → IsRecordedRun recording tree numbers other_limit other_log other_reports other other_text → other_reports ≡ run_reports other_log
+    → IsOneRun log other_log reports other_reports status other text other_text
+one_by_events {recording} tree numbers log other_log {other = other} {reports = reports} {other_reports = other_reports} e m f m' f' =
+    let columns = m.meets.run.columns ∙ ap ended_columns_after e ∙ sym m'.meets.run.columns in
+    let logs : log ≡ other_log = ap₂ log_with columns e in
+    let found : reports ≡ other_reports = f ∙ ap run_reports logs ∙ sym f' in
+    let agrees : AgreesWithElision tree numbers reports other m'.outcome = subst (λ r. AgreesWithElision tree numbers r other m'.outcome) (sym found) m'.meets.agrees in
+    let outcomes = one_text {reports = reports} m.meets.agrees agrees in
+    record {
+      logs = logs;
+      found = found;
+      statuses = (one_agreement {reports = reports} {other_reports = reports} m.meets.agrees agrees).0;
+      texts = m.text_is ∙ ap₂ (recorded recording tree.cells) logs outcomes ∙ sym m'.text_is;
+    }
+
 -- ---- the rows
 
--- two rows of a command: they are the same, or both are runs
+-- two rows of a command: they are the same, or both are runs of `run`
 data AreAlike (asked : Option Command) (status other : ℕ) (text other_text : List ℕ) (log other_log : Option RunLog) (reports other_reports : List Report)
     : Type 0 where
   Same : status ≡ other → text ≡ other_text → log ≡ other_log → reports ≡ other_reports
       → AreAlike asked status other text other_text log other_log reports other_reports
-  BothRun : KeepsLog asked → status ≡ other → (asks_record asked ≡ false → status ≢ 2 → text ≡ other_text)
+  BothRun : AsksRun asked → status ≡ other → (asks_record asked ≡ false → status ≢ 2 → text ≡ other_text)
       → AreAlike asked status other text other_text log other_log reports other_reports
+
+-- what a function says of equal programs, inputs and options is equal
+same_schedule : (f : SyntaxTree → List ℤ → (workers throttle seed : ℕ) → List Event) {tree other_tree : SyntaxTree} {numbers others : List ℤ}
+    {workers other_workers throttle limit seed number : ℕ} → tree ≡ other_tree → numbers ≡ others
+    → IsOnePlay workers other_workers throttle limit seed number
+    → f tree numbers workers throttle seed ≡ f other_tree others other_workers limit number
+same_schedule f {tree} {other_tree} {numbers} {others} {workers} {other_workers} {throttle} {limit} {seed} {number} same also play =
+    ap (λ t. f t numbers workers throttle seed) same ∙ ap (λ n. f other_tree n workers throttle seed) also
+    ∙ ap (λ w. f other_tree others w throttle seed) play.workers_are ∙ ap (λ k. f other_tree others other_workers k seed) play.throttle_is
+    ∙ ap (f other_tree others other_workers limit) play.seed_is
+
+-- two rows of a command that makes a run
+both_run : {asked : Option Command} {held : FileContents} (tree other_tree : SyntaxTree) (numbers others : List ℤ) {limit other_limit : ℕ}
+    (log other_log : RunLog) {status other : ℕ} {text other_text : List ℕ} {reports other_reports : List Report}
+    → IsLogOf asked tree numbers limit log → AreAccepted held tree numbers
+    → IsRecordedRun (asks_record asked) tree numbers limit log reports status text → reports ≡ run_reports log
+    → IsLogOf asked other_tree others other_limit other_log → AreAccepted held other_tree others
+    → IsRecordedRun (asks_record asked) other_tree others other_limit other_log other_reports other other_text → other_reports ≡ run_reports other_log
+    → AreAlike asked status other text other_text (Some log) (Some other_log) reports other_reports
+both_run {asked} tree other_tree numbers others log other_log (OfRun source input workers recording w) a m f l' a' m' f' =
+    let one = one_run tree other_tree numbers others a a' m.meets m'.meets in
+    BothRun (rw w refl) one.0 (λ silent apart. unrecorded _ tree log _ silent m.text_is ∙ one.1 apart ∙ sym (unrecorded _ other_tree other_log _ silent m'.text_is))
+both_run tree other_tree numbers others log other_log (OfPlay source input workers seed recording w is) a m f (OfRun source' input' workers' recording' w') a' m' f' =
+    absurd (run_is_not_play w' w)
+both_run {asked} tree other_tree numbers others {other_limit = other_limit} log other_log {other = other} {other_text = other_text} {other_reports = other_reports}
+    (OfPlay source input workers seed recording w is) a m f (OfPlay source' input' workers' seed' recording' w' is') a' m' f' =
+    let same : tree ≡ other_tree = one_source tree other_tree a.program a'.program in
+    let also : numbers ≡ others = one_input numbers others a.read a'.read in
+    let play = one_play w w' in
+    let e : log.events ≡ other_log.events = is ∙ same_schedule seeded_events same also play ∙ sym is' in
+    let made : IsRecordedRun (asks_record asked) tree numbers other_limit other_log other_reports other other_text =
+    subst (λ t. IsRecordedRun (asks_record asked) t numbers other_limit other_log other_reports other other_text) (sym same)
+    (subst (λ n. IsRecordedRun (asks_record asked) other_tree n other_limit other_log other_reports other other_text) (sym also) m') in
+    let one = one_by_events tree numbers log other_log e m f made f' in
+    Same one.statuses one.texts (ap Some one.logs) one.found
 
 alike : {asked : Option Command} {held : FileContents} {status other : ℕ} {text other_text : List ℕ} {log other_log : Option RunLog}
     {reports other_reports : List Report}
@@ -133,7 +200,7 @@ alike (Runs k l tree xs w a m f) (SourceRefused s' w' r') = absurd (refused_not_
 alike (Runs k l tree xs w a m f) (Formats s' tree' w' o') = absurd (run_is_not_format w w')
 alike (Runs k l tree xs w a m f) (Benches n' m' tree' xs' w' g') = absurd (run_is_not_bench w w')
 alike (Runs k l tree xs w a m f) (InputRefused i' tree' w' o' r') = absurd (refused_no_input xs r' a.read)
-alike (Runs k l tree xs w a m f) (Runs k' l' tree' xs' w' a' m' f') = let one = one_run tree tree' xs xs' a a' m.meets m'.meets in BothRun (run_keeps_log w) one.0 (λ silent apart. unrecorded _ tree l _ silent m.text_is ∙ one.1 apart ∙ sym (unrecorded _ tree' l' _ silent m'.text_is))
+alike (Runs k l tree xs w a m f) (Runs k' l' tree' xs' w' a' m' f') = both_run tree tree' xs xs' l l' w a m f w' a' m' f'
 alike (Runs k l tree xs w a m f) (RunsSerially s' i' tree' xs' w' a' r') = absurd (run_is_not_serial w w')
 alike (RunsSerially s i tree xs w a r) (NoCommand n') = absurd (no_command n' w)
 alike (RunsSerially s i tree xs w a r) (SourceRefused s' w' r') = absurd (refused_not_accepted_file tree r' a.program)
@@ -143,14 +210,14 @@ alike (RunsSerially s i tree xs w a r) (InputRefused i' tree' w' o' r') = absurd
 alike (RunsSerially s i tree xs w a r) (Runs k' l' tree' xs' w' a' m' f') = absurd (run_is_not_serial w' w)
 alike (RunsSerially s i tree xs w a r) (RunsSerially s' i' tree' xs' w' a' r') = let one = one_elision tree tree' xs xs' a a' r r' in Same one.0 one.1 refl one.2
 
--- two rows of a command that keeps no log are equal
+-- two rows of a command other than `run` are equal
 pub one_row : {asked : Option Command} {held : FileContents} {status other : ℕ} {text other_text : List ℕ} {log other_log : Option RunLog}
-    {reports other_reports : List Report} → (KeepsLog asked → ⊥)
+    {reports other_reports : List Report} → (AsksRun asked → ⊥)
     → Row asked held status text log reports → Row asked held other other_text other_log other_reports
     → (status ≡ other) × (text ≡ other_text) × (log ≡ other_log) × (reports ≡ other_reports)
-one_row silent r r' = elim (alike r r') [
+one_row other_command r r' = elim (alike r r') [
   | Same s t l p ↦ (s, t, l, p)
-  | BothRun keeps s t ↦ absurd (silent keeps)
+  | BothRun asks s t ↦ absurd (other_command asks)
 ]
 
 -- two rows of a command have the same status, and the same text unless the status is 2 or the log is printed
@@ -160,5 +227,5 @@ pub one_status : {asked : Option Command} {held : FileContents} {status other : 
     → (status ≡ other) × (asks_record asked ≡ false → status ≢ 2 → text ≡ other_text)
 one_status r r' = elim (alike r r') [
   | Same s t l p ↦ (s, λ silent other. t)
-  | BothRun keeps s t ↦ (s, t)
+  | BothRun asks s t ↦ (s, t)
 ]

@@ -26,6 +26,14 @@ keeps_log (Serial source input) = false
 keeps_log (Format source) = false
 keeps_log (Bench seed size) = false
 
+-- whether the command is `run`, of whose runs no clause picks one
+abbrev pub is_run : Command → Bool
+is_run (Run source input workers throttle recording) = true
+is_run (Play source input workers throttle seed recording) = false
+is_run (Serial source input) = false
+is_run (Format source) = false
+is_run (Bench seed size) = false
+
 -- the words are a command with this source
 abbrev pub NamesSource : Option Command → List ℕ → Type 0
 NamesSource asked name = option_and_then source_in asked ≡ Some name
@@ -38,6 +46,11 @@ NamesInput asked name = option_and_then input_in asked ≡ Some name
 abbrev pub KeepsLog : Option Command → Type 0
 KeepsLog None = ⊥
 KeepsLog (Some command) = keeps_log command ≡ true
+
+-- the words are a `run` command
+abbrev pub AsksRun : Option Command → Type 0
+AsksRun None = ⊥
+AsksRun (Some command) = is_run command ≡ true
 
 -- the throttling limit of a command that returns the log of a run
 abbrev pub throttle_in : Command → Option ℕ

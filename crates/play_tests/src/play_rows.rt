@@ -63,17 +63,17 @@ const WAITING_LINES: [&str; 17] = [
 
 // The most instances that run at a time, the most iterations that are alive, and the most events.
 #[derive(Clone, Copy)]
-struct Limits {
+struct Bounds {
     workers: u32,
     throttle: u32,
     turns: u64,
 }
 
-fn limits(workers: u32, throttle: u32, turns: u64) -> Limits
+fn limits(workers: u32, throttle: u32, turns: u64) -> Bounds
     ensures workers { result.workers ≡ workers }
     ensures throttle { result.throttle ≡ throttle }
 {
-    Limits {
+    Bounds {
         workers,
         throttle,
         turns,
@@ -88,14 +88,14 @@ struct Seen {
 }
 
 // Plays a source without an input.
-fn played(alloc: Global, source: &str, limits: Limits, choices: &[u32]) -> Result<Seen, Fail>
+fn played(alloc: Global, source: &str, limits: Bounds, choices: &[u32]) -> Result<Seen, Fail>
     requires workers { 0 < limits.workers }
     requires throttle { 0 < limits.throttle }
 {
     let checked = accepted(alloc, source.as_bytes())?;
     let code = lower(alloc, &checked)?;
     let input = Numbers::new(alloc);
-    let Limits {
+    let Bounds {
         workers,
         throttle,
         turns,
