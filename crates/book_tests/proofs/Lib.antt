@@ -1,5 +1,5 @@
-mod ScriptBehaviours
+pub mod ScriptBehaviours
 mod StayingTokens
 mod HeldLists
 mod CallChanges
-mod PlanSteps
+pub mod PlanSteps

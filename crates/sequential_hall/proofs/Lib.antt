@@ -1,0 +1,4 @@
+mod HallCalls
+mod HallRows
+mod ReplyLists
+mod Sessions
