@@ -9,7 +9,7 @@ ghost use Rattle.pipe_frame.specs.HallViews.{Sees};
 ghost use Rattle.pipe_frame.specs.Replies.{IsPerformed, replies_of};
 ghost use Rattle.pipe_frame.specs.ResultTokens.{IfGo};
 ghost use Rattle.pipe_frame.specs.RunningTokens.{IsTokenOf};
-ghost use Rattle.pipe_frame.specs.SeatedTokens.{IsGivenToken, IsSeated, seated_entries, seated_replies};
+ghost use Rattle.pipe_frame.specs.SeatedTokens.{IsSeated, seated_entries, seated_replies};
 ghost use Rattle.pipe_frame.specs.StageEndCases.{NamesNextStage};
 ghost use Rattle.pipe_frame.specs.TokenFields.{fields_of};
 ghost use Rattle.pipe_model.specs.Language.Programs.{pipeline_of};
@@ -17,6 +17,7 @@ ghost use Rattle.pipe_model.specs.Pipelines.Behaviour.{read_access, write_access
 ghost use Rattle.pipe_model.specs.Runs.ControlRun.{ControlRun};
 ghost use Rattle.pipe_model.specs.Runs.RunLogs.{state_after};
 ghost use Rattle.sequential_hall.specs.Halls.{name_of};
+ghost use Rattle.sequential_hall.specs.GivenTokens.{IsGivenIn};
 ghost use Rattle.sequential_hall.specs.Seats.{HasReplies, IsSeatAfter, plain_lists, reply_to, seat_tie, token_fields};
 
 use crate::fields::Fields;
@@ -107,7 +108,7 @@ impl<J: NamedHall> SequentialHall<J> {
         requires free { self.old.out ≡ None }
         requires given { IsGivenBy (λ tree input x i replies. IsPlanAt tree input x.plan i replies × HasReplies x.replies.items x.start replies) (λ x. seat_tie J.named x.replies.items x.seat) self.old.book token }
         ensures book { self.new.book ≡ self.old.book }
-        ensures given { IsGivenToken (λ tree input x i replies. IsPlanAt tree input x.plan i replies × HasReplies x.replies.items x.start replies) (λ x. seat_tie J.named x.replies.items x.seat) J.named result }
+        ensures given { IsGivenIn J.named result }
         ensures fields { fields_of result ≡ fields_of token }
     {
         must(rt, !self.book.is_stopped());
@@ -197,7 +198,7 @@ impl<J: NamedHall> Hall<Seated<J>> for SequentialHall<J> {
         ensures named { J.named ≡ J.named }
         ensures sees { Sees (events_of self.old.book.log) (events_of self.new.book.log) (advance_events token.iteration end result) (λ s. AdvanceReturns s token.iteration token.index end result) }
         ensures seen_runs { ControlRun J.named.limit (events_of self.new.book.log) (state_after (events_of self.new.book.log)) }
-        ensures token { IfGo result (IsGivenToken (λ tree input x i replies. IsPlanAt tree input x.plan i replies × HasReplies x.replies.items x.start replies) (λ x. seat_tie J.named x.replies.items x.seat) J.named) }
+        ensures token { IfGo result (IsGivenIn J.named) }
         ensures runs { IfGo result (λ t. IsTokenOf (events_of self.new.book.log) (fields_of t)) }
     {
         self.take_back(rt, &token);

@@ -3,10 +3,11 @@
 ghost use Rattle.std.specs.Prelude.{◌≡◌, ◌++◌, ◌∷◌, [], None, IfSome, IsTrue};
 ghost use Rattle.book_tests.specs.PlanStates.{IsPlanAt, IsPlanOf};
 ghost use Rattle.pipe_frame.specs.Replies.{IsPerformed};
-ghost use Rattle.pipe_frame.specs.SeatedTokens.{IsGivenToken, IsSeated, seated_entries, seated_replies};
+ghost use Rattle.pipe_frame.specs.SeatedTokens.{IsSeated, seated_entries, seated_replies};
 ghost use Rattle.pipe_frame.specs.StageEndCases.{NamesNextStage};
 ghost use Rattle.pipe_frame.specs.TokenFields.{fields_of};
 ghost use Rattle.pipe_model.specs.Language.Programs.{pipeline_of};
+ghost use Rattle.sequential_hall.specs.GivenTokens.{IsGivenIn};
 ghost use Rattle.sequential_hall.specs.Seats.{HasReplies, seat_tie};
 
 use crate::hall::SequentialHall;
@@ -45,7 +46,7 @@ fn end_instance<J: NamedHall>(
     token: &mut FrameToken<Seated<J>>,
     end: StageEnd,
 ) -> bool
-    requires { IsGivenToken (λ tree input x i replies. IsPlanAt tree input x.plan i replies × HasReplies x.replies.items x.start replies) (λ x. seat_tie J.named x.replies.items x.seat) J.named token.old }
+    requires { IsGivenIn J.named token.old }
     ensures out { IsTrue result → IsSeated J.named (fields_of token.new) (seat_tie J.named token.new.payload.replies.items token.new.payload.seat) }
     ensures fresh { IsTrue result → seated_entries (seat_tie J.named token.new.payload.replies.items token.new.payload.seat) ≡ [] }
     ensures whole { IsTrue result → IsPlanOf J.named.tree token.new.payload.plan }
@@ -63,7 +64,7 @@ fn end_instance<J: NamedHall>(
 impl<J: NamedHall> Session<J> {
     /// Returns a session with a hall that has no token out.
     pub fn new(alloc: Global, hall: SequentialHall<J>) -> Self
-        ensures { IfSome result.token (IsGivenToken (λ tree input x i replies. IsPlanAt tree input x.plan i replies × HasReplies x.replies.items x.start replies) (λ x. seat_tie J.named x.replies.items x.seat) J.named) }
+        ensures { IfSome result.token (IsGivenIn J.named) }
     {
         Session {
             alloc,
@@ -74,8 +75,8 @@ impl<J: NamedHall> Session<J> {
 
     // Keeps a token that the hall has given.
     fn hold(&mut self, token: FrameToken<Seated<J>>) -> Seen
-        requires { IsGivenToken (λ tree input x i replies. IsPlanAt tree input x.plan i replies × HasReplies x.replies.items x.start replies) (λ x. seat_tie J.named x.replies.items x.seat) J.named token }
-        ensures { IfSome self.new.token (IsGivenToken (λ tree input x i replies. IsPlanAt tree input x.plan i replies × HasReplies x.replies.items x.start replies) (λ x. seat_tie J.named x.replies.items x.seat) J.named) }
+        requires { IsGivenIn J.named token }
+        ensures { IfSome self.new.token (IsGivenIn J.named) }
     {
         let seen = Seen::Token(token.iteration, token.index);
         self.token = Some(token);
@@ -84,8 +85,8 @@ impl<J: NamedHall> Session<J> {
 
     /// Makes a call, and returns its result.
     pub fn make<R: Wait>(&mut self, rt: &R, call: Call) -> Seen
-        requires { IfSome self.old.token (IsGivenToken (λ tree input x i replies. IsPlanAt tree input x.plan i replies × HasReplies x.replies.items x.start replies) (λ x. seat_tie J.named x.replies.items x.seat) J.named) }
-        ensures { IfSome self.new.token (IsGivenToken (λ tree input x i replies. IsPlanAt tree input x.plan i replies × HasReplies x.replies.items x.start replies) (λ x. seat_tie J.named x.replies.items x.seat) J.named) }
+        requires { IfSome self.old.token (IsGivenIn J.named) }
+        ensures { IfSome self.new.token (IsGivenIn J.named) }
     {
         match call {
             Call::Begin => self.begin(rt),
@@ -97,8 +98,8 @@ impl<J: NamedHall> Session<J> {
     }
 
     fn begin<R: Wait>(&mut self, rt: &R) -> Seen
-        requires { IfSome self.old.token (IsGivenToken (λ tree input x i replies. IsPlanAt tree input x.plan i replies × HasReplies x.replies.items x.start replies) (λ x. seat_tie J.named x.replies.items x.seat) J.named) }
-        ensures { IfSome self.new.token (IsGivenToken (λ tree input x i replies. IsPlanAt tree input x.plan i replies × HasReplies x.replies.items x.start replies) (λ x. seat_tie J.named x.replies.items x.seat) J.named) }
+        requires { IfSome self.old.token (IsGivenIn J.named) }
+        ensures { IfSome self.new.token (IsGivenIn J.named) }
     {
         match self.hall.begin(rt) {
             Begun::Started(token) => self.hold(token),
@@ -110,8 +111,8 @@ impl<J: NamedHall> Session<J> {
     }
 
     fn advance<R: Wait>(&mut self, rt: &R, end: StageEnd) -> Seen
-        requires { IfSome self.old.token (IsGivenToken (λ tree input x i replies. IsPlanAt tree input x.plan i replies × HasReplies x.replies.items x.start replies) (λ x. seat_tie J.named x.replies.items x.seat) J.named) }
-        ensures { IfSome self.new.token (IsGivenToken (λ tree input x i replies. IsPlanAt tree input x.plan i replies × HasReplies x.replies.items x.start replies) (λ x. seat_tie J.named x.replies.items x.seat) J.named) }
+        requires { IfSome self.old.token (IsGivenIn J.named) }
+        ensures { IfSome self.new.token (IsGivenIn J.named) }
     {
         let Some(mut token) = self.token.take() else {
             return Seen::Refused;
@@ -128,8 +129,8 @@ impl<J: NamedHall> Session<J> {
     }
 
     fn check_right<R: Wait>(&mut self, rt: &R, iteration: u32) -> Seen
-        requires { IfSome self.old.token (IsGivenToken (λ tree input x i replies. IsPlanAt tree input x.plan i replies × HasReplies x.replies.items x.start replies) (λ x. seat_tie J.named x.replies.items x.seat) J.named) }
-        ensures { IfSome self.new.token (IsGivenToken (λ tree input x i replies. IsPlanAt tree input x.plan i replies × HasReplies x.replies.items x.start replies) (λ x. seat_tie J.named x.replies.items x.seat) J.named) }
+        requires { IfSome self.old.token (IsGivenIn J.named) }
+        ensures { IfSome self.new.token (IsGivenIn J.named) }
     {
         match self.hall.check_right(rt, iteration) {
             Some(token) => self.hold(token),
@@ -138,8 +139,8 @@ impl<J: NamedHall> Session<J> {
     }
 
     fn leave_ready<R: Wait>(&mut self, rt: &R) -> Seen
-        requires { IfSome self.old.token (IsGivenToken (λ tree input x i replies. IsPlanAt tree input x.plan i replies × HasReplies x.replies.items x.start replies) (λ x. seat_tie J.named x.replies.items x.seat) J.named) }
-        ensures { IfSome self.new.token (IsGivenToken (λ tree input x i replies. IsPlanAt tree input x.plan i replies × HasReplies x.replies.items x.start replies) (λ x. seat_tie J.named x.replies.items x.seat) J.named) }
+        requires { IfSome self.old.token (IsGivenIn J.named) }
+        ensures { IfSome self.new.token (IsGivenIn J.named) }
     {
         match self.token.take() {
             Some(token) => {
@@ -151,8 +152,8 @@ impl<J: NamedHall> Session<J> {
     }
 
     fn rescue<R: Wait>(&mut self, rt: &R) -> Seen
-        requires { IfSome self.old.token (IsGivenToken (λ tree input x i replies. IsPlanAt tree input x.plan i replies × HasReplies x.replies.items x.start replies) (λ x. seat_tie J.named x.replies.items x.seat) J.named) }
-        ensures { IfSome self.new.token (IsGivenToken (λ tree input x i replies. IsPlanAt tree input x.plan i replies × HasReplies x.replies.items x.start replies) (λ x. seat_tie J.named x.replies.items x.seat) J.named) }
+        requires { IfSome self.old.token (IsGivenIn J.named) }
+        ensures { IfSome self.new.token (IsGivenIn J.named) }
     {
         match self.hall.rescue(rt) {
             Rescue::Token(token) => self.hold(token),
