@@ -4,7 +4,7 @@ use Rattle.std.proofs.lemmas.Bool.{cases_lt}
 use Rattle.pipe_model.specs.declared.symbol.Symbol.{Symbol}
 use Rattle.pipe_model.specs.Language.SyntaxTree.{SyntaxTree}
 use Rattle.pipe_model.specs.Language.Grammar.{Piece, FullExpression, flat, DerivesProgram}
-use Rattle.pipe_model.specs.Language.Spelling.{Spells, IsProgramPrefix, EndsTooLong, IsShallow, BreaksNoRule, FirstFault, UnexpectedSymbol, UnexpectedEnd, FirstTooDeep, FirstTooLong, open_brackets, GrammarRule}
+use Rattle.pipe_model.specs.Language.Spelling.{Spells, IsProgramPrefix, EndsTooLong, IsShallow, BreaksNoGrammarRule, FirstFault, UnexpectedSymbol, UnexpectedEnd, FirstTooDeep, FirstTooLong, open_brackets, GrammarRule}
 use Rattle.pipe_model.specs.Language.Spelling as spelling
 use Rattle.grammar_laws.specs.ProgramMachine.{Outside, Verdict, Accepted, Unexpected, TooLong, judge, program}
 use Rattle.grammar_laws.proofs.FirstFaults.{IsUnexpected, is_unexpected, is_too_long, NoneTooLong, none_too_long, too_long_found}
@@ -223,7 +223,7 @@ record Broken (ts : List Symbol) (rule : GrammarRule) (k : ℕ) : Type 0 where
   rest : List Symbol
   split : before ++ rest ≡ ts
   many : length before ≡ k
-  obeys : BreaksNoRule before
+  obeys : BreaksNoGrammarRule before
   breaks : Breaks rule before rest
 
 broken : {ts : List Symbol} {rule : GrammarRule} {k : ℕ} → FirstFault ts rule k → Broken ts rule k
@@ -233,7 +233,7 @@ broken (FirstTooDeep before t after b front l) = record { before = before; rest 
 broken (FirstTooLong before t after b l ends) = record { before = before; rest = t ∷ after; split = refl; many = refl; obeys = b; breaks = (l, ends) }
 
 -- a symbol breaks no rule if longer symbols break none
-not_before : (rule : GrammarRule) (before : List Symbol) (x : Symbol) (more after : List Symbol) → BreaksNoRule (before ++ x ∷ more)
+not_before : (rule : GrammarRule) (before : List Symbol) (x : Symbol) (more after : List Symbol) → BreaksNoGrammarRule (before ++ x ∷ more)
     → Breaks rule before (x ∷ after) → ⊥
 not_before spelling.Unexpected before x more after o b =
     b (shorter_front (before ++ x ∷ []) more (subst IsProgramPrefix (sym (append_assoc before (x ∷ []) more)) o.front))
@@ -262,7 +262,7 @@ one_rule spelling.TooLong spelling.TooLong before rest b c = refl
 not_earlier : {ts : List Symbol} {r r' : GrammarRule} {k k' : ℕ} → Broken ts r k → Broken ts r' k' → k < k' → ⊥
 not_earlier {r = r} a b l =
     let m = longer a.before a.rest b.before b.rest (a.split ∙ sym b.split) (omega (arith, l, a.many, b.many)) in
-    not_before r a.before m.x m.more (m.more ++ b.rest) (subst BreaksNoRule m.front b.obeys) (subst (λ x. Breaks r a.before x) m.rest a.breaks)
+    not_before r a.before m.x m.more (m.more ++ b.rest) (subst BreaksNoGrammarRule m.front b.obeys) (subst (λ x. Breaks r a.before x) m.rest a.breaks)
 
 one_broken : {ts : List Symbol} {r r' : GrammarRule} {k k' : ℕ} → Broken ts r k → Broken ts r' k' → k ≡ k' → r ≡ r'
 one_broken {r = r} {r' = r'} a b e =

@@ -1,4 +1,4 @@
--- Seats that are split off, and seats that are told what others have seen.
+-- Seats that are split off, and seats that learn what others have seen.
 use Rattle.std.proofs.Common.{◌≡◌, ◌≢◌, ℕ, List, [], set, refl, sym, ◌∙◌, subst, arith, ⊎_elim, append-nil}
 use mathlib.Core.Option.{none, some}
 use lib.ListN.{get_elem?}
@@ -54,7 +54,7 @@ module _ (capacity : ℕ) where
       record { told = (r.now.log, refl); role = tt }
       (λ j d _. one_view (Knows r.now) s.views id both left (λ i y _. r.each i y) j d))
 
-  -- a seat is told what another had seen
+  -- a seat learns what another had seen
   pub tells : (id : ℕ) (v : View) (other : ℕ) (w : View) → w.role ≢ Spent
       → Joins (IsOrdered capacity) id v other w (view v.log w.log v.role) spent_view
   tells id v other w live = joins id v other w (view v.log w.log v.role)
