@@ -1,0 +1,252 @@
+-- Accesses in the cells of a shard.
+use Rattle.std.proofs.Common.{◌≡◌, ◌≢◌, ℕ, ℤ, zero, suc, get_or, ◌+◌, ◌<◌, ◌≤◌, ◌%◌, ◌/◌, ◌⊎◌, inl, inr, drop, IfSome, IfNone, List, [], ◌∷◌, ◌++◌, length, max, refl, sym, ap, ap₂, ◌∙◌, ◌↔◌, subst, arith, Option, Some, None, true, false, Result, Ok, Err, OnOk}
+use Rattle.std.specs.Result.{is_err}
+use Rattle.std.proofs.lemmas.List.{length-append}
+use Rattle.pipe_model.specs.declared.access.Access.{Access}
+use Rattle.pipe_model.specs.declared.access.AccessKind.{AccessKind}
+use Rattle.pipe_model.specs.declared.access.AccessKind.TheVariants.{Read, Write}
+use Rattle.pipe_model.specs.declared.marks.Marks.{Marks}
+use Rattle.pipe_model.specs.Orders.GrowingLists.{AreIn, KeepsOrder}
+use Rattle.pipe_model.specs.Orders.OrderList.{IsLog, StandsBefore, list_of_log}
+use Rattle.pipe_model.specs.Pipelines.Behaviour.{write_access}
+use Rattle.pipe_model.specs.Pipelines.Store.{InitialStore}
+use Rattle.pipe_frame.specs.HallViews.{BeginsWith}
+use Rattle.pipe_model.specs.declared.ticket.Entry.{Entry}
+use Rattle.pipe_model.specs.declared.ticket.ShardEntry.{ShardEntry}
+use Rattle.pipe_model.specs.Language.Programs.{store_of}
+use Rattle.pipe_model.specs.Language.SyntaxTree.{tree_of}
+use Rattle.pipe_model.specs.Races.Columns.{at}
+use Rattle.pipe_frame.specs.TokenFields.{TokenFields}
+use Rattle.pipe_frame.specs.Ties.{AreElementsOf, AreSeenLists, BelongsTo, HallName, InstanceSeat, KnowsMarks, SeenLists, Tie}
+use Rattle.run_laws.proofs.ListOrders.InsertionLists.{list_has_below}
+use Rattle.run_laws.proofs.ListOrders.LongerLogs.{longer_logs_keep_the_order}
+use Rattle.access_history.specs.declared.history.History.{History}
+use Rattle.access_history.specs.declared.history.Who.{Who}
+use Rattle.access_history.specs.KeptInstances.{KeptAreIn}
+use Rattle.cell_store.specs.ShardState.{IsStateAfter, IsOfShard, ShardState}
+use Rattle.pipe_hall.specs.SeatViews.{HallConstants, InstanceData, SeatView, ShardValue, constants_of}
+use Rattle.pipe_hall.specs.Logs.{entry_of}
+use Rattle.pipe_hall.specs.Steps.{ShardSnapshot, after_entries, after_log}
+use Rattle.atomic_table.specs.Seated.{TableId}
+use Rattle.pipe_hall.specs.HallRule.{view_of}
+use Rattle.pipe_frame.specs.SeatedTokens.{IsSeated, entries_of_seat, replies_of_seat}
+use Rattle.pipe_hall.specs.InstanceSeats.{badge_view, is_instance_badge, seat_of}
+use Rattle.pipe_hall.specs.Lending.{seat_in}
+use Rattle.pipe_hall.specs.declared.run_seat.RunSeat.{RunSeat}
+use Rattle.pipe_frame.specs.HallViews.{IsSameInstance, SameSeat, identities_of}
+use Rattle.pipe_hall.specs.SeatAccesses.{TraceAfter, now_after, ran, run_more, seat_done, seat_more, tie_after}
+use Rattle.pipe_hall.specs.declared.view.View.{View}
+use Rattle.pipe_hall.proofs.Seating.{is_badge, instance_badge}
+use Rattle.pipe_hall.proofs.Sharding.{run_accessed}
+use Rattle.pipe_hall.specs.Accesses.{CanBegin, GrowLists, IsMade, IsMadeNow, MadeBy, next_ticket}
+use Rattle.pipe_hall.specs.ShardParts.{down_list, right_list}
+use Rattle.pipe_hall.proofs.CallEffects.{all_kept}
+use Rattle.order_2d.specs.SeenOrders.{AreOfLists}
+
+-- a write
+pub as_write : (a : Access) → a.kind ≡ Write → a ≡ write_access a.cell.0 a.value
+as_write a e = ap (λ (k : AccessKind). let b : Access = record { cell = a.cell; kind = k; value = a.value } in b) e
+
+pub is_read : (k : AccessKind) → (k ≡ Write → ⊥) → k ≡ Read
+is_read Read h = refl
+is_read Write h = absurd (h refl)
+
+-- a part of a log
+log_part : (e : ℕ) (log more : List ℕ) → IsLog e (log ++ more) → IsLog e log
+log_part e [] more h = tt
+log_part e (x ∷ log) more h = (h.0, log_part (e + 1) log more h.1)
+
+-- a longer log keeps the order
+pub log_keeps : (old new : List ℕ) → BeginsWith new old → IsLog 1 new → KeepsOrder (list_of_log old) (list_of_log new)
+log_keeps old new b valid = record {
+  elements = λ x h. (let q = (list_has_below old (log_part 1 old b.0 (subst (IsLog 1) b.1 valid))).only x h in let n = length-append old b.0 in let e = ap length b.1 in (list_has_below new valid).each x (omega (arith, q, n, e)));
+  order = λ x y hx hy. subst (λ l. StandsBefore (list_of_log l) x y ↔ StandsBefore (list_of_log old) x y) (sym b.1) (longer_logs_keep_the_order old b.0 x y (subst (IsLog 1) b.1 valid) hx hy);
+}
+
+-- marks that were seen are in the lists
+pub marks_in_lists : (down right : List ℕ) (lists : SeenLists) (m : Marks) → BeginsWith lists.down_log down → BeginsWith lists.right_log right → IsLog 1 lists.down_log → IsLog 1 lists.right_log
+    → AreElementsOf down right m → AreIn (down_list lists) (right_list lists) m
+marks_in_lists down right lists m bd br ld lr h = record {
+  down = (list_has_below lists.down_log ld).each m.down_first (let l = h.down_first in let n = length-append down bd.0 in let e = ap length bd.1 in omega (arith, l, n, e));
+  right = (list_has_below lists.right_log lr).each m.right_first (let l = h.right_first in let n = length-append right br.0 in let e = ap length br.1 in omega (arith, l, n, e));
+}
+
+-- the lists of a pass that has met another
+pub lists_grow : (old new : SeenLists) → (new.down ≡ old.down) × (new.right ≡ old.right) → BeginsWith new.down_log old.down_log → BeginsWith new.right_log old.right_log → IsLog 1 new.down_log → IsLog 1 new.right_log → GrowLists old new
+lists_grow old new same bd br ld lr = record { identities = same; down = log_keeps old.down_log new.down_log bd ld; right = log_keeps old.right_log new.right_log br lr }
+
+-- what is kept is in longer lists
+pub kept_grow : (old new : SeenLists) (h : History) → GrowLists old new → KeptAreIn (down_list old) (right_list old) h → KeptAreIn (down_list new) (right_list new) h
+kept_grow old new h g k = all_kept (λ w. AreIn (down_list old) (right_list old) w.marks) (λ w. AreIn (down_list new) (right_list new) w.marks) h
+    (λ w a. record { down = g.down.elements w.marks.down_first a.down; right = g.right.elements w.marks.right_first a.right }) k
+
+-- the default is of no account within a list
+pub get_any : {A : Type 0} (xs : List A) (i : ℕ) (d e : A) → i < length xs → get_or xs i d ≡ get_or xs i e
+get_any [] i d e l = absurd (omega (arith, l))
+get_any (x ∷ xs) zero d e l = refl
+get_any (x ∷ xs) (suc i) d e l = get_any xs i d e (omega (arith, l))
+
+-- a push that is no error is done
+pub not_err : {A E : Type 0} (P : Type 0) (r : Result A E) → OnOk r P → is_err r ≡ false → P
+not_err P (Ok x) p e = p
+not_err P (Err x) p e = absurd (let z : true ≡ false = e in cc)
+
+-- a shard that was taken can make an access to each of its cells
+pub can_begin : (v : SeatView) (i : ℕ) (x : ShardValue) (c : ℕ) (a : HallConstants) → ShardSnapshot v i x → v.constants ≡ Some a → c < length (store_of (tree_of a.program)).values → i ≡ 1 + c % 16 → CanBegin x c
+can_begin v i x c a t knows l slot =
+    let h = t.has_shard.shard in
+    let same : a ≡ constants_of t.book = t.constants a knows in
+    let suc_number = t.slot in
+    let number : t.number ≡ c % 16 = omega (arith, slot, suc_number) in
+    let there : c < x.cells.shard.cells = subst (λ n. c < n) (sym h.cells.cells) (subst (λ (b : HallConstants). c < length (store_of (tree_of b.program)).values) same l) in
+    let room = h.room in
+    record {
+      there = there;
+      own = ap (λ n. c % n) h.part.1 ∙ (sym number ∙ sym h.part.0);
+      slot = omega (arith, there, room, number);
+      kept = all_kept _ _ _ (λ w o. subst (λ (u : Who). AreIn (down_list x.lists) (right_list x.lists) u.marks) (sym o.2) (h.seen o.0 o.1)) (h.histories (c / 16)).kept;
+    }
+
+-- the token's passes see the lists of the shard's
+pub same_lists : (v : SeatView) (i : ℕ) (x : ShardValue) (a : HallConstants) (l : SeenLists) → ShardSnapshot v i x → v.constants ≡ Some a → AreSeenLists (Some l) a.lists.down a.lists.right
+    → (x.lists.down ≡ l.down) × (x.lists.right ≡ l.right)
+same_lists v i x a l t knows seen =
+    let same : a ≡ constants_of t.book = t.constants a knows in
+    let h = t.has_shard in
+    let d : a.lists.down ≡ h.named.0.0 ∷ h.named.0.1 = ap (λ (b : HallConstants). b.lists.down) same ∙ (sym h.identities.0 ∙ h.named.0.2) in
+    let r : a.lists.right ≡ h.named.1.0 ∷ h.named.1.1 = ap (λ (b : HallConstants). b.lists.right) same ∙ (sym h.identities.1 ∙ h.named.1.2) in
+    let q : AreSeenLists (Some l) (h.named.0.0 ∷ h.named.0.1) (h.named.1.0 ∷ h.named.1.1) = subst (λ z. AreSeenLists (Some l) z (h.named.1.0 ∷ h.named.1.1)) d (subst (λ z. AreSeenLists (Some l) a.lists.down z) r seen) in
+    (h.named.0.2 ∙ sym q.0, h.named.1.2 ∙ sym q.1)
+
+-- passes with these identities are of these lists
+pub are_of : (p : SeenLists) (d r : List ℕ) → p.down ≡ d → p.right ≡ r → AreOfLists p d r
+are_of p [] r a b = tt
+are_of p (d ∷ ds) [] a b = tt
+are_of p (d ∷ ds) (r ∷ rs) a b = (a, b)
+
+drop_more : {A : Type 0} (xs : List A) (e : A) → drop (length xs) (xs ++ e ∷ []) ≡ e ∷ []
+drop_more [] e = refl
+drop_more (x ∷ xs) e = drop_more xs e
+
+drop_all : {A : Type 0} (xs : List A) → drop (length xs) xs ≡ []
+drop_all [] = refl
+drop_all (x ∷ xs) = drop_all xs
+
+run_same : (o : Option InstanceData) (l : List ShardEntry) → after_log o l l ≡ o
+run_same None l = refl
+run_same (Some d) l = ap (λ es. Some (after_entries d es)) (drop_all l)
+
+run_one : (o : Option InstanceData) (l : List ShardEntry) (e : ShardEntry) → after_log o l (l ++ e ∷ []) ≡ run_more o (entry_of e)
+run_one None l e = refl
+run_one (Some d) l e = ap (λ es. Some (after_entries d es)) (drop_more l e)
+
+module _ (who : Who) (f : TokenFields) (is : who ≡ record { node = at f.iteration f.index; marks = f.marks }) (now c : ℕ) (same_now : now ≡ f.now) (write : Option ℤ) (x y : ShardValue) (old new : List Entry) where
+  -- the shard is as before, or the access was made
+  pub either_made : (o : Option Entry) (d : InstanceData) → d.fields ≡ f → IfNone o ((y ≡ x) × (new ≡ old)) → IfSome o (IsMadeNow who now c write x y old new) → (y ≡ x) ⊎ MadeBy d (c % 16) x y
+  either_made None d e h k = inl h.0
+  either_made (Some a) d e h k =
+      let w : who ≡ record { node = at d.fields.iteration d.fields.index; marks = d.fields.marks } = is ∙ ap (λ (g : TokenFields). let u : Who = record { node = at g.iteration g.index; marks = g.marks } in u) (sym e) in
+      inr (record {
+        ticket = a.ticket;
+        access = a.access;
+        made = subst (λ (u : Who). IsMade u a.ticket a.access x y) w k.made;
+        own = ap (λ n. n % 16) k.cell;
+        there = subst (λ n. n < x.cells.shard.cells) (sym k.cell) k.there;
+        next = k.next ∙ ap (next_ticket x.last) (same_now ∙ ap (λ (g : TokenFields). g.now) (sym e));
+        bound = k.bound;
+      })
+
+  -- the seat has one access more, if it was made
+  pub run_done : (o : Option Entry) (v w : SeatView) → w.held ≡ [] → w.constants ≡ v.constants → w.seen ≡ v.seen → w.met ≡ v.met → v.held ≡ [] → w.run ≡ after_log v.run x.log y.log
+      → IfNone o ((y ≡ x) × (new ≡ old)) → IfSome o (IsMadeNow who now c write x y old new) → w ≡ ran v o
+  run_done None v w held constants seen met none_held run h k =
+      let r : w.run ≡ v.run = run ∙ (ap (λ (z : ShardValue). after_log v.run x.log z.log) h.0 ∙ run_same v.run x.log) in
+      let t : w.held ≡ v.held = held ∙ sym none_held in
+      λ j. record { constants = constants j; seen = seen j; met = met j; run = r j; held = t j }
+  run_done (Some e) v w held constants seen met none_held run h k =
+      let r : w.run ≡ run_more v.run e = run ∙ (ap (after_log v.run x.log) k.made.accessed.log ∙ run_one v.run x.log (record { ticket = e.ticket; node = who.node; access = e.access })) in
+      let t : w.held ≡ v.held = held ∙ sym none_held in
+      λ j. record { constants = constants j; seen = seen j; met = met j; run = r j; held = t j }
+
+  -- what was done to the trace
+  pub trace_done : (o : Option Entry) → IfNone o ((y ≡ x) × (new ≡ old)) → IfSome o (IsMadeNow who now c write x y old new) → TraceAfter c write old new o
+  trace_done None h k = h.1
+  trace_done (Some e) h k = (k.asked, k.trace)
+
+-- ---- a token after an access
+
+-- the badge of a seat that has made an access, or has not
+pub ran_badge : (v : View) (o : Option Entry) → is_instance_badge (v ∷ []) ≡ true → is_instance_badge (view_of (ran v.it o) ∷ []) ≡ true
+ran_badge v None e = e
+ran_badge v (Some x) e =
+    let b = instance_badge (v ∷ []) e in
+    let same : v ≡ b.view = (let w = b.is in cc) in
+    let knows : v.it.constants ≡ Some b.constants = ap (λ (u : View). u.it.constants) same ∙ b.knows in
+    let stands : v.it.run ≡ Some b.run = ap (λ (u : View). u.it.run) same ∙ b.stands in
+    let held : v.it.held ≡ [] = ap (λ (u : View). u.it.held) same ∙ b.held in
+    is_badge (view_of (ran v.it (Some x))) b.constants (run_accessed b.run x.ticket x.access) knows (ap (λ r. run_more r x) stands) held
+
+-- the seat as its tie names it
+pub ran_seat : (z : TableId) (id : ℕ) (v : View) (o : Option Entry) → seat_of z id (ran v.it o).constants (ran v.it o).run ≡ seat_done (seat_of z id v.it.constants v.it.run) o
+ran_seat z id v None = refl
+ran_seat z id v (Some x) = by v.it.run
+  where
+    by : (r : Option InstanceData) → seat_of z id v.it.constants (run_more r x) ≡ seat_more (seat_of z id v.it.constants r) x
+    by None = refl
+    by (Some d) = refl
+
+-- a token that is out is still out
+pub seated_after : (h : HallName) (f g : TokenFields) (t u : Tie) (o : Option Entry) → g ≡ record f { now = now_after f.now o } → u ≡ tie_after t o → IsSeated h f t → IsSeated h g u
+seated_after h f g t u None fields tie out = subst (λ x. IsSeated h x u) (sym fields) (subst (λ x. IsSeated h f x) (sym tie) out)
+seated_after h f g t u (Some e) fields tie out = record {
+  seat = record out.seat { fields = record (out.seat.fields) { now = e.ticket }; entries = out.seat.entries ++ e ∷ [] };
+  is = ap (λ (x : Tie). x.seat) tie ∙ ap (λ x. seat_more x e) out.is;
+  hall = out.hall;
+  fields = ap (λ (x : TokenFields). let y : TokenFields = record x { now = e.ticket } in y) out.fields ∙ sym fields;
+  parts = out.parts ∙ sym (ap (λ (x : TokenFields). x.index) fields);
+  knows = subst (λ (x : Tie). KnowsMarks x g.marks) (sym tie) (subst (λ (x : TokenFields). KnowsMarks t x.marks) (sym fields) out.knows);
+  belongs = subst (λ (x : Tie). BelongsTo x h.lists) (sym tie) out.belongs;
+}
+
+same_seat : (s : InstanceSeat) (o : Option Entry) → SameSeat (Some s) (seat_done (Some s) o)
+same_seat s None = (refl, refl, refl, refl)
+same_seat s (Some e) = (refl, refl, refl, refl)
+
+-- it is of the same instance
+pub same_instance : (h : HallName) (f g : TokenFields) (t u : Tie) (o : Option Entry) → g ≡ record f { now = now_after f.now o } → u ≡ tie_after t o → IsSeated h f t → IsSameInstance f g t u
+same_instance h f g t u o fields tie out = record {
+  fields = fields ∙ sym (ap (λ n. let y : TokenFields = record f { now = n } in y) (ap (λ (x : TokenFields). x.now) fields));
+  lists = ap (λ (x : Tie). identities_of x.lists) tie;
+  seat = subst (λ (x : Tie). SameSeat t.seat x.seat) (sym tie) (subst (λ x. SameSeat x (seat_done x o)) (sym out.is) (same_seat out.seat o));
+}
+
+replies_done : (s : Option InstanceSeat) (o : Option Entry) → replies_of_seat (seat_done s o) ≡ replies_of_seat s
+replies_done s None = refl
+replies_done None (Some e) = refl
+replies_done (Some s) (Some e) = refl
+
+pub replies_after : (t u : Tie) (o : Option Entry) → u ≡ tie_after t o → replies_of_seat u.seat ≡ replies_of_seat t.seat
+replies_after t u o tie = ap (λ (x : Tie). replies_of_seat x.seat) tie ∙ replies_done t.seat o
+
+pub trace_after : (h : HallName) (f : TokenFields) (t u : Tie) (c : ℕ) (write : Option ℤ) (old new : List Entry) (o : Option Entry) → TraceAfter c write old new o → old ≡ entries_of_seat t.seat → u ≡ tie_after t o
+    → IsSeated h f t → new ≡ entries_of_seat u.seat
+trace_after h f t u c write old new None q is tie out = q ∙ (is ∙ sym (ap (λ (x : Tie). entries_of_seat x.seat) tie))
+trace_after h f t u c write old new (Some e) q is tie out =
+    q.1 ∙ (ap (λ l. l ++ e ∷ []) (is ∙ ap entries_of_seat out.is) ∙ sym (ap (λ (x : Tie). entries_of_seat x.seat) tie ∙ ap (λ x. entries_of_seat (seat_more x e)) out.is))
+
+-- the seat of a payload after an access
+pub seat_again : (a r : RunSeat) (z : TableId) (id : ℕ) (v : View) (o : Option Entry) → z ≡ a.badge.table_id → id ≡ a.badge.id → a.badge.views ≡ v ∷ [] → r.badge.table_id ≡ z → r.badge.id ≡ id
+    → r.badge.views ≡ view_of (ran v.it o) ∷ [] → seat_in (Some r) ≡ seat_done (seat_in (Some a)) o
+seat_again a r z id v o az ai av rz ri rv =
+    let new : seat_in (Some r) ≡ seat_of z id (ran v.it o).constants (ran v.it o).run =
+    ap₂ (λ y i. seat_of y i (badge_view r.badge.views).constants (badge_view r.badge.views).run) rz ri ∙ ap (λ vs. seat_of z id (badge_view vs).constants (badge_view vs).run) rv in
+    let old : seat_of z id v.it.constants v.it.run ≡ seat_in (Some a) =
+    ap₂ (λ y i. seat_of y i v.it.constants v.it.run) az ai ∙ ap (λ vs. seat_of a.badge.table_id a.badge.id (badge_view vs).constants (badge_view vs).run) (sym av) in
+    new ∙ (ran_seat z id v o ∙ ap (λ s. seat_done s o) old)
+
+-- two lists of identities, beside a third
+pub same_identities : (a b c d e f : List ℕ) → ◌≡◌ {A = List (List ℕ)} (a ∷ (b ∷ (c ∷ []))) (d ∷ (e ∷ (f ∷ []))) → (b ≡ e) × (c ≡ f)
+same_identities a b c d e f h = (cc, cc)
+
+pub same_name : (a d : ℕ) (b c e f : List ℕ) → ◌≡◌ {A = List (List ℕ)} ((a ∷ []) ∷ (b ∷ (c ∷ []))) ((d ∷ []) ∷ (e ∷ (f ∷ []))) → a ≡ d
+same_name a d b c e f h = cc

@@ -1,0 +1,10 @@
+pub mod Boards
+pub mod ControlPrefixes
+pub mod CallEffects
+pub mod Sharding
+pub mod Steps
+pub mod BookCalls
+pub mod Seating
+pub mod Answering
+pub mod Rescuing
+pub mod Accessing

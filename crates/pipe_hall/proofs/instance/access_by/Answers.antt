@@ -1,0 +1,68 @@
+use Rattle.std.proofs.Common.{◌≡◌, ◌<◌, ◌+◌, ◌%◌, ◌∙◌, arith, subst, sym, ap, [], ◌∷◌, List, ℕ, refl, Some, None, length, ◌⊎◌, inl, inr, ⊎_elim}
+use Rattle.pipe_model.specs.Language.Programs.{store_of}
+use Rattle.pipe_frame.specs.Ties.{AreSeenLists, HallName}
+use Rattle.pipe_hall.specs.SeatViews.{HallConstants, SeatView, InstanceData, TheShard}
+use Rattle.pipe_hall.specs.Accesses.{MadeBy}
+use Rattle.pipe_hall.specs.HallRule.{view_of}
+use Rattle.pipe_hall.specs.WorkerSeats.{name_of}
+use Rattle.pipe_hall.specs.Steps.{ViewAndSlots, after_shard, holding, after_log}
+use Rattle.pipe_hall.specs.SeatAccesses.{ran}
+use Rattle.pipe_hall.specs.declared.slot.Slot.TheVariants as slots
+use Rattle.pipe_hall.proofs.Accessing.{can_begin, same_lists, either_made, run_done, trace_done}
+use Rattle.pipe_hall.proofs.instance.access_by.Goals as goal
+
+pub access-done-requires-clause-ready : goal.access-done-requires-clause-ready
+access-done-requires-clause-ready g c =
+    let r = c.requires.runs.1 in
+    let z = c.args.run.now.table_id in
+    let o = c.args.run.now.me.0.it.constants in
+    can_begin c.args.run.now.me.0.it (1 + c.args.cell.0 % 16) c.take_shard-shard.result c.args.cell.0 r.constants c.take_shard-shard.ensures.snapshot r.knows
+    (subst (λ (x : HallName). c.args.cell.0 < length (store_of x.tree).values) (ap (name_of z) r.knows) c.requires.cell) refl
+
+pub access-done-requires-clause-lists : goal.access-done-requires-clause-lists
+access-done-requires-clause-lists g c =
+    let r = c.requires.runs.1 in
+    let z = c.args.run.now.table_id in
+    same_lists c.args.run.now.me.0.it (1 + c.args.cell.0 % 16) c.take_shard-shard.result r.constants c.args.passes.now c.take_shard-shard.ensures.snapshot r.knows
+    (subst (λ (x : HallName). AreSeenLists (Some c.args.passes.now) x.lists.down x.lists.right) (ap (name_of z) r.knows) c.requires.lists)
+
+pub return_shard-requires-clause-made : goal.return_shard-requires-clause-made
+return_shard-requires-clause-made g c =
+    let q = c.requires.runs in
+    let r = q.1 in
+    let x = c.take_shard-shard.result in
+    let t = c.take_shard-shard.ensures.taken in
+    let i = 1 + c.args.cell.0 % 16 in
+    let e = c.access-done.ensures in
+    let m1 = c.take_shard-shard.new.seat.me in
+    let run_is : m1.0.it.run ≡ Some r.run_data = ap (λ (k : ViewAndSlots g.row.M.Denot). k.0.it.run) t ∙ r.stands in (
+      x,
+      ap (λ (k : ViewAndSlots g.row.M.Denot). k.1) t ∙ ap (λ cs. (i, slots.Out) ∷ cs) r.slots,
+      ap (λ (k : ViewAndSlots g.row.M.Denot). k.0.it.held) t ∙ ap (λ hs. (i, TheShard x) ∷ hs) r.held,
+      ⊎_elim (λ (s : c.access-done.new.self ≡ x). inl s)
+          (λ (s : MadeBy r.run_data (c.args.cell.0 % 16) x c.access-done.new.self). inr (r.run_data, run_is, s))
+          (either_made c.args.who q.0 q.2 c.args.now c.args.cell.0 q.3 c.args.write x c.access-done.new.self c.args.trace.now c.access-done.new.trace c.access-done.result r.run_data r.fields e.none e.made),
+    )
+
+pub returns-clause-ran : goal.returns-clause-ran
+returns-clause-ran g c =
+    let q = c.requires.runs in
+    let r = q.1 in
+    let x = c.take_shard-shard.result in
+    let y = c.access-done.new.self in
+    let t = c.take_shard-shard.ensures.taken in
+    let i = 1 + c.args.cell.0 % 16 in
+    let e = c.access-done.ensures in
+    let v = c.args.run.now.me.0.it in
+    let held = ap (λ (k : ViewAndSlots g.row.M.Denot). k.0.it.held) t ∙ ap (λ hs. (i, TheShard x) ∷ hs) r.held in
+    let given = c.return_shard.ensures.given x held in
+    let w : SeatView = after_shard c.take_shard-shard.new.seat.me.0.it x y in
+    given ∙ ap (λ (u : SeatView). (view_of u, [])) (run_done c.args.who q.0 q.2 c.args.now c.args.cell.0 q.3 c.args.write x y c.args.trace.now c.access-done.new.trace c.access-done.result v w refl
+    (ap (λ (k : ViewAndSlots g.row.M.Denot). k.0.it.constants) t) (ap (λ (k : ViewAndSlots g.row.M.Denot). k.0.it.seen) t) (ap (λ (k : ViewAndSlots g.row.M.Denot). k.0.it.met) t) r.held
+    (ap (λ (k : ViewAndSlots g.row.M.Denot). after_log k.0.it.run x.log y.log) t) e.none e.made)
+
+pub returns-clause-trace : goal.returns-clause-trace
+returns-clause-trace g c =
+    let q = c.requires.runs in
+    let e = c.access-done.ensures in
+    trace_done c.args.who q.0 q.2 c.args.now c.args.cell.0 q.3 c.args.write c.take_shard-shard.result c.access-done.new.self c.args.trace.now c.access-done.new.trace c.access-done.result e.none e.made

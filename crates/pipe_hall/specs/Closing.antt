@@ -1,0 +1,63 @@
+-- The end of a run.
+use Rattle.std.specs.Prelude.{◌≡◌, ℕ, List, [], ◌∷◌, ◌+◌, ◌*◌, ◌<◌, ◌≤◌, Option, slice_index_or}
+use Rattle.pipe_model.specs.declared.event.Event.TheVariants.{Stop}
+use Rattle.pipe_model.specs.declared.ticket.BookEntry.{BookEntry}
+use Rattle.pipe_model.specs.Orders.Starts.{starts_of}
+use Rattle.pipe_model.specs.Orders.TwoOrders.{down_first_log, down_place, right_first_log, right_place}
+use Rattle.pipe_model.specs.Runs.RunLogs.{columns_after}
+use Rattle.pipe_frame.specs.Ties.{SeenLists}
+use Rattle.access_history.specs.KeptInstances.{IsHistoryAfter}
+use Rattle.frame_book.specs.BookStates.{BookState, events_of, with_last_raised}
+use Rattle.pipe_hall.specs.Logs.{noted_to}
+use Rattle.pipe_hall.specs.SeatViews.{HallStart, ShardValue}
+use Rattle.pipe_model.specs.declared.event.Event.{Event}
+use Rattle.pipe_hall.specs.Accesses.{GrowLists}
+use Rattle.pipe_hall.specs.Steps.{ClosedHall}
+use Rattle.pipe_hall.specs.ShardParts.{history_at}
+
+-- a shard of nothing
+abbrev pub no_shard : ShardValue
+no_shard = record {
+  number = 0;
+  cells = record { shard = record { number = 0; shards = 1; cells = 0; output_limit = 0 }; values = []; output = [] };
+  histories = [];
+  log = [];
+  last = 0;
+  lists = record { down = []; right = []; down_log = []; right_log = [] };
+}
+
+-- shard k of a list of all shards
+abbrev pub shard_in : List ShardValue → ℕ → ShardValue
+shard_in xs k = slice_index_or xs k no_shard
+
+-- the last event is a stop
+abbrev pub LastStops : List BookEntry → Type 0
+LastStops [] = ⊥
+LastStops (b ∷ []) = b.event ≡ Stop
+LastStops (b ∷ (c ∷ bs)) = LastStops (c ∷ bs)
+
+-- the book with a higher ticket of its last event
+abbrev pub raised : BookState → ℕ → BookState
+raised b least = record b { log = with_last_raised b.log least }
+
+-- the shard's passes have seen the book's lists to their ends
+abbrev pub HasSeenAll : BookState → SeenLists → Type 0
+HasSeenAll b l = (l.down_log ≡ down_first_log (starts_of (events_of b.log))) × (l.right_log ≡ right_first_log (columns_after (events_of b.log)) (starts_of (events_of b.log)))
+
+-- each history is that of the accesses to its cell, by the orders of the two lists
+abbrev pub HasHistories : BookState → ℕ → ShardValue → Type 0
+HasHistories b k x = (slot : ℕ) → IsHistoryAfter (down_place (starts_of (events_of b.log))) (right_place (columns_after (events_of b.log)) (starts_of (events_of b.log)))
+    (noted_to (k + 16 * slot) x.log) (history_at x.histories slot)
+
+-- the shard's passes have seen the book's lists to their ends, and nothing else has changed
+pub record HasLearned (b : BookState) (x y : ShardValue) : Type 0 where
+  pub lists : SeenLists
+  pub is : y ≡ record x { lists = lists }
+  pub grown : GrowLists x.lists lists
+  pub all : HasSeenAll b lists
+
+-- what is known of a hall after its end
+pub record EndedHall (start : HallStart) (seen : List Event) (b : BookState) (shard : ℕ → ShardValue) : Type 0 where
+  pub closed : ClosedHall start seen b shard
+  pub all : (k : ℕ) → k < 16 → HasSeenAll b (shard k).lists
+  pub histories : (k : ℕ) → k < 16 → HasHistories b k (shard k)

@@ -1,0 +1,183 @@
+//! Accesses of running instances, by their seats.
+
+ghost use Rattle.std.specs.Prelude.{◌≡◌, ◌<◌, [], length, Option, Some, None, true, IfSome};
+ghost use Rattle.pipe_model.specs.Language.Programs.{store_of};
+ghost use Rattle.pipe_frame.specs.Ties.{AreElementsOf, AreSeenLists};
+ghost use Rattle.pipe_frame.specs.TokenFields.{TokenFields, fields_of};
+ghost use Rattle.pipe_model.specs.Races.Columns.{at};
+ghost use Rattle.std.specs.Prelude.{List, ℕ, ℤ};
+ghost use Rattle.pipe_model.specs.Language.SyntaxTree.{SyntaxTree};
+ghost use Rattle.pipe_model.specs.declared.ticket.Entry.{Entry};
+ghost use Rattle.pipe_hall.specs.HallRule.{view_of};
+ghost use Rattle.pipe_frame.specs.SeatedTokens.{IsSeated, seated_entries, seated_replies};
+ghost use Rattle.pipe_hall.specs.WorkerSeats.{IsIdle, StaysIdle, hall_of, name_of};
+ghost use Rattle.pipe_hall.specs.Accesses.{IsAsked};
+ghost use Rattle.pipe_hall.specs.SeatAccesses.{RunsAs, TraceAfter, now_after, ran, tie_after};
+ghost use Rattle.pipe_hall.specs.SeatViews.{HallConstants};
+ghost use Rattle.pipe_frame.specs.HallViews.{AccessReturns, BeginsWith, IsSameInstance, OneMoreEntry};
+ghost use Rattle.pipe_model.specs.Runs.RunLogs.{state_after};
+
+use crate::carrier::Carrier;
+use crate::locks::Locks;
+use crate::run_seat::RunSeat;
+use crate::shard::SHARDS;
+use crate::slot::Slot;
+use crate::view::View;
+use crate::worker::{seat_in, stop_at};
+use access_history::history::Who;
+use atomic_table::Seat;
+use order_2d::two_passes::TwoPasses;
+use pipe_frame::results::Reply;
+use pipe_frame::token::FrameToken;
+use pipe_model::access::{Access, AccessKind, CellId};
+use pipe_model::node::NodeId;
+use pipe_model::ticket::{Entry, Trace};
+use std::sync::Wait;
+
+// Makes an access in the shard of its cell, for the instance of a seat, unless memory runs out.
+fn access_by<R: Wait, M: Carrier>(
+    rt: &R,
+    hall: &Locks<M>,
+    run: &mut Seat<Slot<M>, View>,
+    who: Who,
+    now: u64,
+    passes: &mut TwoPasses,
+    trace: &mut Trace,
+    cell: CellId,
+    write: Option<i64>,
+) -> Option<Entry>
+    requires own { run.old.table_id ≡ hall.now.table.shared.table_id }
+    requires runs { (f : TokenFields) × RunsAs run.old.me f × (who ≡ record { node = at f.iteration f.index; marks = f.marks }) × (now ≡ f.now) }
+    requires cell { cell.0 < length (store_of (hall_of run.old.table_id run.old.me).tree).values }
+    requires lists { AreSeenLists (Some passes.old) (hall_of run.old.table_id run.old.me).lists.down (hall_of run.old.table_id run.old.me).lists.right }
+    requires known { AreElementsOf passes.old.down_log passes.old.right_log who.marks }
+    ensures own { (run.new.table_id ≡ run.old.table_id) × (run.new.id ≡ run.old.id) }
+    ensures ran { run.new.me ≡ (view_of (ran run.old.me.0.it result), []) }
+    ensures trace { TraceAfter cell.0 write trace.old trace.new result }
+    ensures passes { passes.new ≡ passes.old }
+{
+    let number = cell.0 % SHARDS;
+    let mut shard = hall.take_shard(rt, run, number);
+    let done = shard.access(rt, who, now, cell, write, passes, trace);
+    hall.return_shard(run, number, shard);
+    done
+}
+
+// Makes an access for the instance of a token, whose seat is out of its payload.
+fn access_for<R: Wait, M: Carrier>(
+    rt: &R,
+    hall: &Locks<M>,
+    run: &mut Seat<Slot<M>, View>,
+    token: &mut FrameToken<M>,
+    trace: &mut Trace,
+    cell: CellId,
+    write: Option<i64>,
+) -> Option<Entry>
+    requires own { run.old.table_id ≡ hall.now.table.shared.table_id }
+    requires runs { RunsAs run.old.me (fields_of token.old) }
+    requires cell { cell.0 < length (store_of (hall_of run.old.table_id run.old.me).tree).values }
+    requires lists { AreSeenLists (Some (M.lists token.old.payload)) (hall_of run.old.table_id run.old.me).lists.down (hall_of run.old.table_id run.old.me).lists.right }
+    requires known { AreElementsOf (M.lists token.old.payload).down_log (M.lists token.old.payload).right_log token.old.marks }
+    ensures own { (run.new.table_id ≡ run.old.table_id) × (run.new.id ≡ run.old.id) }
+    ensures ran { run.new.me ≡ (view_of (ran run.old.me.0.it result), []) }
+    ensures trace { TraceAfter cell.0 write trace.old trace.new result }
+    ensures token { token.new ≡ record token.old { now = now_after token.old.now result } }
+{
+    let who = Who {
+        node: NodeId {
+            iteration: token.iteration,
+            index: token.index,
+        },
+        marks: token.marks,
+    };
+    let now = token.now;
+    let done = access_by(
+        rt,
+        hall,
+        run,
+        who,
+        now,
+        token.payload.passes(),
+        trace,
+        cell,
+        write,
+    );
+    if let Some(entry) = done {
+        token.now = entry.ticket;
+    }
+    done
+}
+
+// Makes an access for the instance of a token.
+fn access_of<R: Wait, M: Carrier>(
+    rt: &R,
+    hall: &Locks<M>,
+    token: &mut FrameToken<M>,
+    trace: &mut Trace,
+    cell: CellId,
+    write: Option<i64>,
+) -> Option<Entry>
+    requires out { (a : HallConstants) × IsSeated (name_of hall.now.table.shared.table_id (Some a)) (fields_of token.old) (M.tie token.old.payload) × (cell.0 < length (store_of (name_of hall.now.table.shared.table_id (Some a)).tree).values) }
+    ensures trace { TraceAfter cell.0 write trace.old trace.new result }
+    ensures fields { fields_of token.new ≡ record (fields_of token.old) { now = now_after token.old.now result } }
+    ensures whole { (tree : SyntaxTree) → M.whole tree token.old.payload → M.whole tree token.new.payload }
+    ensures stands { (tree : SyntaxTree) (input : List ℤ) (i : ℕ) (before : List (List ℤ)) → M.stands tree input token.old.payload i before → M.stands tree input token.new.payload i before }
+    ensures tie { M.tie token.new.payload ≡ tie_after (M.tie token.old.payload) result }
+{
+    let RunSeat { badge } = seat_in(&mut token.payload);
+    let mut run = badge.into_seat::<Slot<M>>();
+    let done = access_for(rt, hall, &mut run, token, trace, cell, write);
+    token.payload.put_seat(RunSeat {
+        badge: run.into_badge(),
+    });
+    done
+}
+
+// What an access returns.
+fn reply_of(access: Access, write: Option<i64>, cell: CellId) -> Reply
+    requires asked { IsAsked cell.0 write access }
+    ensures returns { (old new : List Entry) → OneMoreEntry old new access → AccessReturns cell.0 write old new result }
+    ensures goes_on { result ≡ Reply.Stopped → ⊥ }
+{
+    match write {
+        Some(_) => Reply::Done,
+        None => Reply::Value(access.value),
+    }
+}
+
+// Reads a cell, or writes a value to it, for the instance of a token.
+pub(crate) fn access_at<R: Wait, M: Carrier>(
+    rt: &R,
+    hall: &Locks<M>,
+    seat: &mut Seat<Slot<M>, View>,
+    token: &mut FrameToken<M>,
+    trace: &mut Trace,
+    cell: CellId,
+    write: Option<i64>,
+) -> Reply
+    requires own { seat.old.table_id ≡ hall.now.table.shared.table_id }
+    requires idle { IsIdle seat.old.me }
+    requires out { IsSeated (hall_of seat.old.table_id seat.old.me) (fields_of token.old) (M.tie token.old.payload) }
+    requires trace { trace.old ≡ seated_entries (M.tie token.old.payload) }
+    requires cell { cell.0 < length (store_of (hall_of seat.old.table_id seat.old.me).tree).values }
+    ensures own { seat.new.table_id ≡ seat.old.table_id }
+    ensures idle { StaysIdle seat.old.me seat.new.me }
+    ensures out { IsSeated (hall_of seat.old.table_id seat.old.me) (fields_of token.new) (M.tie token.new.payload) }
+    ensures instance { IsSameInstance (fields_of token.old) (fields_of token.new) (M.tie token.old.payload) (M.tie token.new.payload) }
+    ensures whole { (tree : SyntaxTree) → M.whole tree token.old.payload → M.whole tree token.new.payload }
+    ensures stands { (tree : SyntaxTree) (input : List ℤ) (i : ℕ) (before : List (List ℤ)) → M.stands tree input token.old.payload i before → M.stands tree input token.new.payload i before }
+    ensures replies { seated_replies (M.tie token.new.payload) ≡ seated_replies (M.tie token.old.payload) }
+    ensures access { AccessReturns cell.0 write trace.old trace.new result }
+    ensures trace { trace.new ≡ seated_entries (M.tie token.new.payload) }
+    ensures stopped { result ≡ Reply.Stopped → (state_after seat.new.me.0.it.seen).stopped ≡ true }
+    ensures seen { BeginsWith seat.new.me.0.it.seen seat.old.me.0.it.seen }
+    ensures unseen { (result ≡ Reply.Stopped → ⊥) → seat.new.me.0.it.seen ≡ seat.old.me.0.it.seen }
+{
+    match access_of(rt, hall, token, trace, cell, write) {
+        Some(entry) => reply_of(entry.access, write, cell),
+        None => {
+            stop_at(rt, hall, seat);
+            Reply::Stopped
+        }
+    }
+}

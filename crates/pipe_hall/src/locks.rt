@@ -1,0 +1,198 @@
+//! The locks of a hall, and what they protect.
+
+ghost use Rattle.std.specs.Prelude.{◌≡◌, ◌<◌, ◌+◌, ◌⊎◌, ◌∷◌, [], ℕ, Some, None, IfSome, IfNone, Option};
+ghost use Rattle.atomic_table.specs.Table.{rest};
+ghost use Rattle.pipe_frame.specs.TokenFields.{fields_of};
+ghost use Rattle.frame_book.specs.BookStates.{BookState};
+ghost use Rattle.pipe_hall.specs.SeatViews.{HallConstants, InstanceData, ShardValue, SlotValue, TheBook, TheShard};
+ghost use Rattle.pipe_hall.specs.HallRule.{slot_of, view_of};
+ghost use Rattle.pipe_hall.specs.WorkerSeats.{HoldsBook};
+ghost use Rattle.pipe_hall.specs.InstanceSeats.{badge_view};
+ghost use Rattle.pipe_hall.specs.Steps.{BookSnapshot, ShardSnapshot, IsSnapshot, after_book, after_shard, holding, new_instance, run_seat, with_run};
+ghost use Rattle.pipe_hall.specs.BookCalls.{IsBookCall};
+ghost use Rattle.pipe_hall.specs.Accesses.{MadeBy};
+ghost use Rattle.pipe_hall.specs.declared.view.View.{View};
+ghost use Rattle.pipe_frame.specs.declared.token.FrameToken.{FrameToken};
+
+use crate::carrier::Carrier;
+use crate::rule::{
+    HallTable, JoinsInstance, ReturnsBook, ReturnsBookAndToken, ReturnsShard, SplitsInstance,
+    TakesSlot,
+};
+use crate::run_seat::RunSeat;
+use crate::shard::Shard;
+use crate::slot::Slot;
+use crate::view::View;
+use atomic_table::Seat;
+use frame_book::book::Book;
+use om_shared::writer::OmWriter;
+use pipe_frame::token::FrameToken;
+use std::sync::Wait;
+
+/// The book and the shards of a run, each behind a lock.
+#[derive(Drop)]
+pub struct Locks<M: Carrier> {
+    pub table: HallTable<M>,
+    pub ghost sized: { (table.shared.table_id.words ≡ 17) × (table.shared.table_id.slots ≡ 17) },
+}
+
+impl<M: Carrier> Locks<M> {
+    // Takes a slot's value, if nobody has taken it.
+    fn try_take(&self, seat: &mut Seat<Slot<M>, View>, slot: usize) -> Option<Slot<M>>
+        requires own { seat.old.table_id ≡ self.now.table.shared.table_id }
+        requires slot { slot < 17 }
+        ensures own { (seat.new.table_id ≡ seat.old.table_id) × (seat.new.id ≡ seat.old.id) }
+        ensures some { IfSome result (λ y. (x : SlotValue) × (y ≡ slot_of x) × (seat.new.me ≡ (view_of (holding seat.old.me.0.it slot x), (slot, Slot.Out) ∷ seat.old.me.1)) × IsSnapshot seat.old.me.0.it slot x) }
+        ensures none { IfNone result (seat.new.me ≡ seat.old.me) }
+    {
+        let shared = &self.table.shared;
+        if shared.swap::<TakesSlot>(seat, slot, 1) != 0 {
+            return None;
+        }
+        Some(shared.exchange(seat, slot, Slot::Out))
+    }
+
+    // Takes a slot's value, as soon as nobody has taken it.
+    fn take<R: Wait>(&self, rt: &R, seat: &mut Seat<Slot<M>, View>, slot: usize) -> Slot<M>
+        requires own { seat.old.table_id ≡ self.now.table.shared.table_id }
+        requires slot { slot < 17 }
+        ensures own { (seat.new.table_id ≡ seat.old.table_id) × (seat.new.id ≡ seat.old.id) }
+        ensures taken { (x : SlotValue) × (result ≡ slot_of x) × (seat.new.me ≡ (view_of (holding seat.old.me.0.it slot x), (slot, Slot.Out) ∷ seat.old.me.1)) × IsSnapshot seat.old.me.0.it slot x }
+    {
+        for _ in rt.forever() {
+            if let Some(value) = self.try_take(seat, slot) {
+                return value;
+            }
+        }
+        unreachable!()
+    }
+
+    // Takes the book.
+    pub(crate) fn take_book<R: Wait>(
+        &self,
+        rt: &R,
+        seat: &mut Seat<Slot<M>, View>,
+    ) -> Book<M, OmWriter>
+        requires own { seat.old.table_id ≡ self.now.table.shared.table_id }
+        ensures own { (seat.new.table_id ≡ seat.old.table_id) × (seat.new.id ≡ seat.old.id) }
+        ensures taken { seat.new.me ≡ (view_of (holding seat.old.me.0.it 0 (TheBook result)), (0, Slot.Out) ∷ seat.old.me.1) }
+        ensures snapshot { BookSnapshot seat.old.me.0.it 0 result }
+    {
+        match self.take(rt, seat, 0) {
+            Slot::Book(book) => book,
+            Slot::Shard(_) => unreachable!(),
+            Slot::Token(_) => unreachable!(),
+            Slot::Out => unreachable!(),
+        }
+    }
+
+    // Takes a shard.
+    pub(crate) fn take_shard<R: Wait>(
+        &self,
+        rt: &R,
+        seat: &mut Seat<Slot<M>, View>,
+        number: u32,
+    ) -> Shard
+        requires own { seat.old.table_id ≡ self.now.table.shared.table_id }
+        requires there { number < 16 }
+        ensures own { (seat.new.table_id ≡ seat.old.table_id) × (seat.new.id ≡ seat.old.id) }
+        ensures taken { seat.new.me ≡ (view_of (holding seat.old.me.0.it (1 + number) (TheShard result)), (1 + number, Slot.Out) ∷ seat.old.me.1) }
+        ensures snapshot { ShardSnapshot seat.old.me.0.it (1 + number) result }
+    {
+        match self.take(rt, seat, 1 + number as usize) {
+            Slot::Book(_) => unreachable!(),
+            Slot::Shard(shard) => shard,
+            Slot::Token(_) => unreachable!(),
+            Slot::Out => unreachable!(),
+        }
+    }
+
+    // Gives the book back.
+    pub(crate) fn return_book(&self, seat: &mut Seat<Slot<M>, View>, book: Book<M, OmWriter>)
+        requires own { seat.old.table_id ≡ self.now.table.shared.table_id }
+        requires call { (b : BookState) × (back : Option InstanceData) × HoldsBook seat.old.me b back × IsBookCall b back book None }
+        ensures own { (seat.new.table_id ≡ seat.old.table_id) × (seat.new.id ≡ seat.old.id) }
+        ensures given { seat.new.me ≡ (view_of (after_book seat.old.me.0.it book None), []) }
+    {
+        let shared = &self.table.shared;
+        drop(shared.exchange(seat, 0, Slot::Book(book)));
+        shared.store::<ReturnsBook>(seat, 0, 0);
+    }
+
+    // Gives the book back beside a token that it has given out, whose payload gets a seat.
+    pub(crate) fn return_book_and_token(
+        &self,
+        seat: &mut Seat<Slot<M>, View>,
+        book: Book<M, OmWriter>,
+        token: FrameToken<M>,
+    ) -> FrameToken<M>
+        requires own { seat.old.table_id ≡ self.now.table.shared.table_id }
+        requires call { (b : BookState) × (back : Option InstanceData) × HoldsBook seat.old.me b back × IsBookCall b back book (Some (new_instance book (fields_of token))) }
+        requires constants { (a : HallConstants) × (seat.old.me.0.it.constants ≡ Some a) }
+        ensures own { (seat.new.table_id ≡ seat.old.table_id) × (seat.new.id ≡ seat.old.id) }
+        ensures given { seat.new.me ≡ (view_of (after_book seat.old.me.0.it book None), []) }
+        ensures token { (r : RunSeat) × (result ≡ record token { payload = M.with_seat token.payload (Some r) }) × (r.badge.table_id ≡ seat.old.table_id) × (r.badge.views ≡ view_of (run_seat (after_book seat.old.me.0.it book (Some (new_instance book (fields_of token))))) ∷ []) }
+    {
+        let shared = &self.table.shared;
+        drop(shared.exchange(seat, 0, Slot::Book(book)));
+        let said = Slot::Token(token);
+        self.return_beside(seat, &said);
+        let run = shared.split_seat::<SplitsInstance>(seat);
+        let mut token = token_in(said);
+        token.payload.put_seat(RunSeat {
+            badge: run.into_badge(),
+        });
+        token
+    }
+
+    // The step in which the book is given back beside the token of `said`.
+    fn return_beside(&self, seat: &mut Seat<Slot<M>, View>, said: &Slot<M>)
+        requires own { seat.old.table_id ≡ self.now.table.shared.table_id }
+        requires call { (t : FrameToken M) × (c : BookState) × (v : View) × (b : BookState) × (back : Option InstanceData) × (said.now ≡ Slot.Token t) × (seat.old.me ≡ (v, (0, Slot.Book c) ∷ [])) × (v.it.held ≡ (0, TheBook b) ∷ []) × (v.it.run ≡ back) × IsBookCall b back c (Some (new_instance c (fields_of t))) }
+        ensures own { (seat.new.table_id ≡ seat.old.table_id) × (seat.new.id ≡ seat.old.id) }
+        ensures given { (t : FrameToken M) (c : BookState) → said.now ≡ Slot.Token t → seat.old.me.1 ≡ (0, Slot.Book c) ∷ [] → seat.new.me ≡ (view_of (after_book seat.old.me.0.it c (Some (new_instance c (fields_of t)))), []) }
+    {
+        self.table
+            .shared
+            .compare_exchange_with::<ReturnsBookAndToken>(seat, 0, 1, 0, said);
+    }
+
+    // Takes in the seat of an instance.
+    pub(crate) fn join_instance(&self, seat: &mut Seat<Slot<M>, View>, run: RunSeat)
+        requires own { (seat.old.table_id ≡ self.now.table.shared.table_id) × (run.badge.table_id ≡ self.now.table.shared.table_id) }
+        requires free { seat.old.me.0.it.run ≡ None }
+        ensures own { (seat.new.table_id ≡ seat.old.table_id) × (seat.new.id ≡ seat.old.id) }
+        ensures joined { seat.new.me ≡ (view_of (with_run seat.old.me.0.it (badge_view run.badge.views)), seat.old.me.1) }
+    {
+        let RunSeat { badge } = run;
+        let other = badge.into_seat::<Slot<M>>();
+        self.table.shared.join_seat::<JoinsInstance>(seat, other);
+    }
+
+    // Gives a shard back.
+    pub(crate) fn return_shard(&self, seat: &mut Seat<Slot<M>, View>, number: u32, shard: Shard)
+        requires own { seat.old.table_id ≡ self.now.table.shared.table_id }
+        requires there { number < 16 }
+        requires made { (x : ShardValue) × (seat.old.me.1 ≡ (1 + number, Slot.Out) ∷ []) × (seat.old.me.0.it.held ≡ (1 + number, TheShard x) ∷ []) × ((shard ≡ x) ⊎ ((d : InstanceData) × (seat.old.me.0.it.run ≡ Some d) × MadeBy d number x shard)) }
+        ensures own { (seat.new.table_id ≡ seat.old.table_id) × (seat.new.id ≡ seat.old.id) }
+        ensures given { (x : ShardValue) → seat.old.me.0.it.held ≡ (1 + number, TheShard x) ∷ [] → seat.new.me ≡ (view_of (after_shard seat.old.me.0.it x shard), []) }
+    {
+        let shared = &self.table.shared;
+        let slot = 1 + number as usize;
+        drop(shared.exchange(seat, slot, Slot::Shard(shard)));
+        shared.store::<ReturnsShard>(seat, slot, 0);
+    }
+}
+
+// The token that a slot's value is.
+fn token_in<M: Carrier>(slot: Slot<M>) -> FrameToken<M>
+    requires { (t : FrameToken M) × (slot ≡ Slot.Token t) }
+    ensures { slot ≡ Slot.Token result }
+{
+    match slot {
+        Slot::Token(token) => token,
+        Slot::Book(_) => unreachable!(),
+        Slot::Shard(_) => unreachable!(),
+        Slot::Out => unreachable!(),
+    }
+}

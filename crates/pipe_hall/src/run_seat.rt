@@ -1,0 +1,14 @@
+//! The seat of a running instance, which is in its token's payload.
+
+ghost use Rattle.std.specs.Prelude.{◌≡◌, true};
+ghost use Rattle.pipe_hall.specs.InstanceSeats.{is_instance_badge};
+
+use crate::view::View;
+use atomic_table::Badge;
+
+/// The seat of a running instance. It has no bytes.
+#[derive(Drop)]
+pub struct RunSeat {
+    pub(crate) badge: Badge<View>,
+    pub ghost stands: { is_instance_badge badge.views ≡ true },
+}

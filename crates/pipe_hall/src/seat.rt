@@ -1,0 +1,173 @@
+//! The hall as a worker sees it.
+
+ghost use Rattle.std.specs.Prelude.{◌≡◌};
+ghost use Rattle.pipe_frame.specs.HallViews.{BeginsWith};
+ghost use Rattle.pipe_hall.specs.WorkerSeats.{IsSameHall};
+
+use crate::carrier::Carrier;
+use crate::hall::{HallKey, HallOf};
+use crate::instance::access_at;
+use crate::rule::{JoinsWorker, Meets, SplitsWorker};
+use crate::slot::Slot;
+use crate::view::View;
+use crate::worker::{advance_at, begin_at, check_right_at, leave_ready_at, rescue_at};
+use atomic_table::Seat;
+use pipe_frame::hall::Hall;
+use pipe_frame::results::{Begun, Next, Reply, Rescue};
+use pipe_frame::token::FrameToken;
+use pipe_model::access::CellId;
+use pipe_model::stage::StageEnd;
+use pipe_model::ticket::Trace;
+use std::marker::Model;
+use std::sync::Wait;
+
+/// A worker's seat beside its hall. Contracts see which hall it is, and the events of the book that
+/// it has seen.
+#[derive(Drop)]
+pub struct HallSeat<'a, M: Carrier> {
+    hall: &'a HallOf<M>,
+    seat: Seat<Slot<M>, View>,
+}
+
+impl<'a, M: Carrier> Model for HallSeat<'a, M> {
+    ghost use Rattle.pipe_model.specs.contracts.tree.Expr as expr;
+    ghost use Rattle.pipe_model.specs.contracts.tree.Stmt as stmt;
+    ghost use Rattle.std.specs.Coded.{codes};
+    ghost use Rattle.std.specs.Prelude.{◌≡◌};
+    ghost use Rattle.pipe_hall.specs.WorkerSeats.{IsIdle, WorkerSeat};
+
+    ghost Value = { WorkerSeat };
+
+    ghost coded = { Prim.hlevel (codes, expr.the_row.coded, stmt.the_row.coded) };
+
+    ghost view = { λ s. record { hall = record { table = s.seat.table_id; constants = s.seat.me.0.it.constants }; seen = s.seat.me.0.it.seen } };
+
+    ghost invariant = { λ s. IsIdle s.seat.me × (s.seat.table_id ≡ s.hall.now.hall.table) };
+}
+
+impl<'a, M: Carrier> Hall<M> for HallSeat<'a, M> {
+    ghost use Rattle.std.specs.Prelude.{◌≡◌, ◌++◌, ◌∷◌, [], true};
+    ghost use Rattle.pipe_model.specs.Language.Programs.{pipeline_of};
+    ghost use Rattle.pipe_model.specs.Runs.ControlRun.{ControlRun};
+    ghost use Rattle.pipe_model.specs.Runs.RunLogs.{state_after};
+    ghost use Rattle.pipe_frame.specs.CallResults.{AdvanceReturns, advance_events};
+    ghost use Rattle.pipe_frame.specs.HallViews.{Sees};
+    ghost use Rattle.pipe_frame.specs.Replies.{IsPerformed, replies_of};
+    ghost use Rattle.pipe_frame.specs.ResultTokens.{IfGo};
+    ghost use Rattle.pipe_frame.specs.RunningTokens.{IsTokenOf};
+    ghost use Rattle.pipe_frame.specs.SeatedTokens.{IsGivenToken, IsSeated, seated_entries, seated_replies};
+    ghost use Rattle.pipe_frame.specs.StageEndCases.{NamesNextStage};
+    ghost use Rattle.pipe_frame.specs.TokenFields.{fields_of};
+    ghost use Rattle.pipe_hall.specs.WorkerSeats.{hall_name};
+
+    ghost named = { λ s. hall_name s.hall };
+
+    ghost seen = { λ s. s.seen };
+
+    fn begin<R: Wait>(&mut self, rt: &R) -> Begun<M> {
+        let hall = self.hall;
+        begin_at(rt, &hall.locks, &mut self.seat)
+    }
+
+    fn advance<R: Wait>(
+        &mut self,
+        rt: &R,
+        token: FrameToken<M>,
+        end: StageEnd,
+        trace: Trace,
+    ) -> Next<M>
+        requires out { IsSeated (hall_name self.old.hall) (fields_of token) (M.tie token.payload) }
+        requires trace { trace ≡ seated_entries (M.tie token.payload) }
+        requires whole { M.whole (hall_name self.old.hall).tree token.payload }
+        requires performs { IsPerformed (pipeline_of (hall_name self.old.hall).tree (hall_name self.old.hall).input) token.iteration (seated_replies (M.tie token.payload)) trace end }
+        requires stands { NamesNextStage end → M.stands (hall_name self.old.hall).tree (hall_name self.old.hall).input token.payload token.iteration (seated_replies (M.tie token.payload) ++ replies_of trace ∷ []) }
+        requires stopped { end ≡ StageEnd.Stopped → (state_after self.old.seen).stopped ≡ true }
+        ensures named { hall_name self.new.hall ≡ hall_name self.old.hall }
+        ensures sees { Sees self.old.seen self.new.seen (advance_events token.iteration end result) (λ s. AdvanceReturns s token.iteration token.index end result) }
+        ensures seen_runs { ControlRun (hall_name self.new.hall).limit self.new.seen (state_after self.new.seen) }
+        ensures token { IfGo result (IsGivenToken M.stands M.tie (hall_name self.old.hall)) }
+        ensures runs { IfGo result (λ t. IsTokenOf self.new.seen (fields_of t)) }
+    {
+        let hall = self.hall;
+        advance_at(rt, &hall.locks, &mut self.seat, token, end, trace)
+    }
+
+    fn check_right<R: Wait>(&mut self, rt: &R, iteration: u32) -> Option<FrameToken<M>> {
+        let hall = self.hall;
+        check_right_at(rt, &hall.locks, &mut self.seat, iteration)
+    }
+
+    fn rescue<R: Wait>(&mut self, rt: &R) -> Rescue<M> {
+        let hall = self.hall;
+        rescue_at(rt, &hall.locks, &mut self.seat)
+    }
+
+    fn leave_ready<R: Wait>(&mut self, rt: &R, token: FrameToken<M>)
+        requires out { IsSeated (hall_name self.old.hall) (fields_of token) (M.tie token.payload) }
+        requires fresh { seated_entries (M.tie token.payload) ≡ [] }
+        requires stands { M.stands (hall_name self.old.hall).tree (hall_name self.old.hall).input token.payload token.iteration (seated_replies (M.tie token.payload)) }
+        ensures named { hall_name self.new.hall ≡ hall_name self.old.hall }
+        ensures sees { Sees self.old.seen self.new.seen [] (λ s. Unit {0}) }
+        ensures seen_runs { ControlRun (hall_name self.new.hall).limit self.new.seen (state_after self.new.seen) }
+    {
+        let hall = self.hall;
+        leave_ready_at(rt, &hall.locks, &mut self.seat, token);
+    }
+
+    fn access<R: Wait>(
+        &mut self,
+        rt: &R,
+        token: &mut FrameToken<M>,
+        trace: &mut Trace,
+        cell: CellId,
+        write: Option<i64>,
+    ) -> Reply {
+        let hall = self.hall;
+        access_at(rt, &hall.locks, &mut self.seat, token, trace, cell, write)
+    }
+}
+
+impl<'a, M: Carrier> HallSeat<'a, M> {
+    /// Returns the seat beside its hall, of which the key must be.
+    pub fn new(hall: &'a HallOf<M>, key: HallKey<M>) -> HallSeat<'a, M>
+        requires same { IsSameHall key.hall hall.now.hall }
+        ensures { result ≡ key }
+    {
+        let HallKey { seat } = key;
+        HallSeat { hall, seat }
+    }
+
+    /// Returns the seat without its hall.
+    pub fn into_key(self) -> HallKey<M>
+        ensures { result ≡ self.entry }
+    {
+        let HallSeat { hall: _, seat } = self;
+        HallKey { seat }
+    }
+
+    /// Returns a seat for a further worker, which has seen the same.
+    pub fn split(&mut self) -> HallSeat<'a, M>
+        ensures same { self.new ≡ self.old }
+        ensures new { result ≡ self.old }
+    {
+        let hall = self.hall;
+        let shared = &hall.locks.table.shared;
+        let seat = shared.split_seat::<SplitsWorker>(&mut self.seat);
+        HallSeat { hall, seat }
+    }
+
+    /// Takes in the seat of a worker of the same hall that has nothing to do any more. It has then
+    /// seen what either had seen.
+    pub fn join(&mut self, other: HallKey<M>)
+        requires same { IsSameHall other.hall self.old.hall }
+        ensures hall { self.new.hall ≡ self.old.hall }
+        ensures own { BeginsWith self.new.seen self.old.seen }
+        ensures theirs { BeginsWith self.new.seen other.seen }
+    {
+        let HallKey { seat } = other;
+        let hall = self.hall;
+        let shared = &hall.locks.table.shared;
+        shared.join_seat::<JoinsWorker>(&mut self.seat, seat);
+        shared.load::<Meets>(&mut self.seat, 0);
+    }
+}

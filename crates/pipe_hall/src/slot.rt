@@ -1,0 +1,20 @@
+//! What a slot of a hall holds.
+
+use crate::carrier::Carrier;
+use crate::shard::Shard;
+use frame_book::book::Book;
+use om_shared::writer::OmWriter;
+use pipe_frame::token::FrameToken;
+
+/// The value of a slot.
+#[derive(Drop)]
+pub enum Slot<M: Carrier> {
+    /// The book.
+    Book(Book<M, OmWriter>),
+    /// A shard.
+    Shard(Shard),
+    /// No slot holds this: with it a step tells which token was given out.
+    Token(FrameToken<M>),
+    /// The value is out.
+    Out,
+}

@@ -1,0 +1,232 @@
+//! The seats of workers, and the calls of the book.
+
+ghost use Rattle.std.specs.Prelude.{◌≡◌, ◌∷◌, ◌++◌, ◌+◌, [], ℕ, None, Some, IfSome, true};
+ghost use Rattle.atomic_table.specs.Table.{Me};
+ghost use Rattle.pipe_model.specs.Runs.RunLogs.{state_after};
+ghost use Rattle.pipe_model.specs.Language.Programs.{pipeline_of};
+ghost use Rattle.pipe_frame.specs.CallResults.{AdvanceReturns, BeginReturns, EnterReturns, advance_events, begin_events, enter_events};
+ghost use Rattle.pipe_frame.specs.HallViews.{BeginsWith, RescueSees, Sees};
+ghost use Rattle.pipe_frame.specs.Replies.{IsPerformed, replies_of};
+ghost use Rattle.pipe_frame.specs.StageEndCases.{NamesNextStage};
+ghost use Rattle.pipe_frame.specs.RunningTokens.{IsTokenOf};
+ghost use Rattle.pipe_frame.specs.TokenFields.{fields_of};
+ghost use Rattle.pipe_frame.specs.ResultTokens.{IfGo, IfStarted, IfToken};
+ghost use Rattle.pipe_hall.specs.declared.run_seat.RunSeat.{RunSeat};
+ghost use Rattle.pipe_frame.specs.SeatedTokens.{IsGivenToken, IsSeated, seated_entries, seated_replies};
+ghost use Rattle.pipe_hall.specs.WorkerSeats.{IsIdle, StaysIdle, hall_of, name_of};
+
+use crate::carrier::Carrier;
+use crate::locks::Locks;
+use crate::run_seat::RunSeat;
+use crate::slot::Slot;
+use crate::view::View;
+use atomic_table::Seat;
+use pipe_frame::results::{Begun, Next, Rescue};
+use pipe_frame::token::FrameToken;
+use pipe_model::stage::StageEnd;
+use pipe_model::ticket::Trace;
+use std::sync::Wait;
+
+// Begins the next iteration, for a worker with this seat.
+pub(crate) fn begin_at<R: Wait, M: Carrier>(
+    rt: &R,
+    hall: &Locks<M>,
+    seat: &mut Seat<Slot<M>, View>,
+) -> Begun<M>
+    requires own { seat.old.table_id ≡ hall.now.table.shared.table_id }
+    requires idle { IsIdle seat.old.me }
+    ensures own { seat.new.table_id ≡ seat.old.table_id }
+    ensures idle { StaysIdle seat.old.me seat.new.me }
+    ensures sees { Sees seat.old.me.0.it.seen seat.new.me.0.it.seen (begin_events result) (λ s. BeginReturns (hall_of seat.old.table_id seat.old.me).limit s result) }
+    ensures runs { IfStarted result (λ t. IsTokenOf seat.new.me.0.it.seen (fields_of t)) }
+    ensures token { IfStarted result (IsGivenToken M.stands M.tie (hall_of seat.old.table_id seat.old.me)) }
+{
+    let mut book = hall.take_book(rt, seat);
+    match book.begin() {
+        Begun::Started(token) => {
+            let _ = book.entries();
+            Begun::Started(hall.return_book_and_token(seat, book, token))
+        }
+        Begun::Throttled => {
+            hall.return_book(seat, book);
+            Begun::Throttled
+        }
+        Begun::Closed => {
+            hall.return_book(seat, book);
+            Begun::Closed
+        }
+        Begun::NotYet => {
+            hall.return_book(seat, book);
+            Begun::NotYet
+        }
+        Begun::Stopped => {
+            hall.return_book(seat, book);
+            Begun::Stopped
+        }
+    }
+}
+
+// Starts the instance for which the right neighbour of an iteration waits, if it may start.
+pub(crate) fn check_right_at<R: Wait, M: Carrier>(
+    rt: &R,
+    hall: &Locks<M>,
+    seat: &mut Seat<Slot<M>, View>,
+    iteration: u32,
+) -> Option<FrameToken<M>>
+    requires own { seat.old.table_id ≡ hall.now.table.shared.table_id }
+    requires idle { IsIdle seat.old.me }
+    ensures own { seat.new.table_id ≡ seat.old.table_id }
+    ensures idle { StaysIdle seat.old.me seat.new.me }
+    ensures sees { Sees seat.old.me.0.it.seen seat.new.me.0.it.seen (enter_events result) (λ s. EnterReturns s (iteration + 1) result) }
+    ensures runs { IfSome result (λ t. IsTokenOf seat.new.me.0.it.seen (fields_of t)) }
+    ensures token { IfSome result (IsGivenToken M.stands M.tie (hall_of seat.old.table_id seat.old.me)) }
+{
+    let mut book = hall.take_book(rt, seat);
+    match book.check_right(iteration) {
+        Some(token) => {
+            let _ = book.entries();
+            Some(hall.return_book_and_token(seat, book, token))
+        }
+        None => {
+            hall.return_book(seat, book);
+            None
+        }
+    }
+}
+
+// Returns something to do for a worker that has nothing.
+pub(crate) fn rescue_at<R: Wait, M: Carrier>(
+    rt: &R,
+    hall: &Locks<M>,
+    seat: &mut Seat<Slot<M>, View>,
+) -> Rescue<M>
+    requires own { seat.old.table_id ≡ hall.now.table.shared.table_id }
+    requires idle { IsIdle seat.old.me }
+    ensures own { seat.new.table_id ≡ seat.old.table_id }
+    ensures idle { StaysIdle seat.old.me seat.new.me }
+    ensures sees { RescueSees (hall_of seat.old.table_id seat.old.me).limit seat.old.me.0.it.seen seat.new.me.0.it.seen result }
+    ensures runs { IfToken result (λ t. IsTokenOf seat.new.me.0.it.seen (fields_of t)) }
+    ensures token { IfToken result (IsGivenToken M.stands M.tie (hall_of seat.old.table_id seat.old.me)) }
+{
+    let mut book = hall.take_book(rt, seat);
+    match book.rescue() {
+        Rescue::Token(token) => {
+            let _ = book.entries();
+            Rescue::Token(hall.return_book_and_token(seat, book, token))
+        }
+        Rescue::MayBegin => {
+            hall.return_book(seat, book);
+            Rescue::MayBegin
+        }
+        Rescue::Nothing => {
+            hall.return_book(seat, book);
+            Rescue::Nothing
+        }
+        Rescue::Finished => {
+            hall.return_book(seat, book);
+            Rescue::Finished
+        }
+        Rescue::Stopped => {
+            hall.return_book(seat, book);
+            Rescue::Stopped
+        }
+    }
+}
+
+// Takes the seat out of a payload that has one.
+pub(crate) fn seat_in<M: Carrier>(payload: &mut M) -> RunSeat
+    requires there { (r : RunSeat) × (M.seat payload.old ≡ Some r) }
+    ensures seat { M.seat payload.old ≡ Some result }
+    ensures payload { payload.new ≡ M.with_seat payload.old None }
+{
+    match payload.take_seat() {
+        Some(run) => run,
+        None => unreachable!(),
+    }
+}
+
+// Leaves an instance that has made no access to others.
+pub(crate) fn leave_ready_at<R: Wait, M: Carrier>(
+    rt: &R,
+    hall: &Locks<M>,
+    seat: &mut Seat<Slot<M>, View>,
+    mut token: FrameToken<M>,
+)
+    requires own { seat.old.table_id ≡ hall.now.table.shared.table_id }
+    requires idle { IsIdle seat.old.me }
+    requires out { IsSeated (hall_of seat.old.table_id seat.old.me) (fields_of token) (M.tie token.payload) }
+    requires fresh { seated_entries (M.tie token.payload) ≡ [] }
+    requires stands { M.stands (hall_of seat.old.table_id seat.old.me).tree (hall_of seat.old.table_id seat.old.me).input token.payload token.iteration (seated_replies (M.tie token.payload)) }
+    ensures own { seat.new.table_id ≡ seat.old.table_id }
+    ensures idle { StaysIdle seat.old.me seat.new.me }
+    ensures sees { Sees seat.old.me.0.it.seen seat.new.me.0.it.seen [] (λ s. Unit {0}) }
+{
+    let run = seat_in(&mut token.payload);
+    hall.join_instance(seat, run);
+    let mut book = hall.take_book(rt, seat);
+    book.leave_ready(token);
+    hall.return_book(seat, book);
+}
+
+// Ends the instance of the token.
+pub(crate) fn advance_at<R: Wait, M: Carrier>(
+    rt: &R,
+    hall: &Locks<M>,
+    seat: &mut Seat<Slot<M>, View>,
+    mut token: FrameToken<M>,
+    end: StageEnd,
+    trace: Trace,
+) -> Next<M>
+    requires own { seat.old.table_id ≡ hall.now.table.shared.table_id }
+    requires idle { IsIdle seat.old.me }
+    requires out { IsSeated (hall_of seat.old.table_id seat.old.me) (fields_of token) (M.tie token.payload) }
+    requires trace { trace ≡ seated_entries (M.tie token.payload) }
+    requires whole { M.whole (hall_of seat.old.table_id seat.old.me).tree token.payload }
+    requires performs { IsPerformed (pipeline_of (hall_of seat.old.table_id seat.old.me).tree (hall_of seat.old.table_id seat.old.me).input) token.iteration (seated_replies (M.tie token.payload)) trace end }
+    requires stands { NamesNextStage end → M.stands (hall_of seat.old.table_id seat.old.me).tree (hall_of seat.old.table_id seat.old.me).input token.payload token.iteration (seated_replies (M.tie token.payload) ++ replies_of trace ∷ []) }
+    requires stopped { end ≡ StageEnd.Stopped → (state_after seat.old.me.0.it.seen).stopped ≡ true }
+    ensures own { seat.new.table_id ≡ seat.old.table_id }
+    ensures idle { StaysIdle seat.old.me seat.new.me }
+    ensures sees { Sees seat.old.me.0.it.seen seat.new.me.0.it.seen (advance_events token.iteration end result) (λ s. AdvanceReturns s token.iteration token.index end result) }
+    ensures runs { IfGo result (λ t. IsTokenOf seat.new.me.0.it.seen (fields_of t)) }
+    ensures token { IfGo result (IsGivenToken M.stands M.tie (hall_of seat.old.table_id seat.old.me)) }
+{
+    let run = seat_in(&mut token.payload);
+    hall.join_instance(seat, run);
+    let mut book = hall.take_book(rt, seat);
+    match book.advance(token, end, trace) {
+        Next::Go(token) => {
+            let _ = book.entries();
+            Next::Go(hall.return_book_and_token(seat, book, token))
+        }
+        Next::Suspended => {
+            let _ = book.entries();
+            hall.return_book(seat, book);
+            Next::Suspended
+        }
+        Next::Ended => {
+            let _ = book.entries();
+            hall.return_book(seat, book);
+            Next::Ended
+        }
+        Next::Stopped => {
+            hall.return_book(seat, book);
+            Next::Stopped
+        }
+    }
+}
+
+// Stops the run.
+pub(crate) fn stop_at<R: Wait, M: Carrier>(rt: &R, hall: &Locks<M>, seat: &mut Seat<Slot<M>, View>)
+    requires own { seat.old.table_id ≡ hall.now.table.shared.table_id }
+    requires idle { IsIdle seat.old.me }
+    ensures own { seat.new.table_id ≡ seat.old.table_id }
+    ensures idle { StaysIdle seat.old.me seat.new.me }
+    ensures later { BeginsWith seat.new.me.0.it.seen seat.old.me.0.it.seen }
+    ensures stopped { (state_after seat.new.me.0.it.seen).stopped ≡ true }
+{
+    let mut book = hall.take_book(rt, seat);
+    book.stop();
+    let _ = book.entries();
+    hall.return_book(seat, book);
+}
