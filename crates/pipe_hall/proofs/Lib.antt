@@ -8,3 +8,5 @@ pub mod Seating
 pub mod Answering
 pub mod Rescuing
 pub mod Accessing
+pub mod Closing
+pub mod Raising

@@ -1,13 +1,15 @@
 -- The end of a run.
-use Rattle.std.specs.Prelude.{◌≡◌, ℕ, List, [], ◌∷◌, ◌+◌, ◌*◌, ◌<◌, ◌≤◌, Option, slice_index_or}
+use Rattle.std.specs.Prelude.{◌≡◌, ℕ, List, [], ◌∷◌, ◌+◌, ◌*◌, ◌<◌, true, slice_index_or}
 use Rattle.pipe_model.specs.declared.event.Event.TheVariants.{Stop}
 use Rattle.pipe_model.specs.declared.ticket.BookEntry.{BookEntry}
+use Rattle.pipe_model.specs.declared.ticket.ShardEntry.{ShardEntry}
+use Rattle.pipe_model.specs.Races.DeterminacyRaces.{Among}
 use Rattle.pipe_model.specs.Orders.Starts.{starts_of}
 use Rattle.pipe_model.specs.Orders.TwoOrders.{down_first_log, down_place, right_first_log, right_place}
 use Rattle.pipe_model.specs.Runs.RunLogs.{columns_after}
 use Rattle.pipe_frame.specs.Ties.{SeenLists}
 use Rattle.access_history.specs.KeptInstances.{IsHistoryAfter}
-use Rattle.frame_book.specs.BookStates.{BookState, events_of, with_last_raised}
+use Rattle.frame_book.specs.BookStates.{BookState, events_of, last_ticket, state_of, with_last_raised}
 use Rattle.pipe_hall.specs.Logs.{noted_to}
 use Rattle.pipe_hall.specs.SeatViews.{HallStart, ShardValue}
 use Rattle.pipe_model.specs.declared.event.Event.{Event}
@@ -56,7 +58,11 @@ pub record HasLearned (b : BookState) (x y : ShardValue) : Type 0 where
   pub grown : GrowLists x.lists lists
   pub all : HasSeenAll b lists
 
--- what is known of a hall after its end
+-- the ticket of a stop is greater than those of all accesses
+abbrev pub StopIsLast : BookState → (ℕ → ShardValue) → Type 0
+StopIsLast b shard = (state_of b).stopped ≡ true → (k : ℕ) → k < 16 → (e : ShardEntry) → Among e (shard k).log → e.ticket < last_ticket b.log
+
+-- what is known of a hall after its end: the facts of its rule, and each history is that of the accesses to its cell
 pub record EndedHall (start : HallStart) (seen : List Event) (b : BookState) (shard : ℕ → ShardValue) : Type 0 where
   pub closed : ClosedHall start seen b shard
   pub all : (k : ℕ) → k < 16 → HasSeenAll b (shard k).lists

@@ -3,6 +3,7 @@
 #![tactic(auto)]
 
 pub mod carrier;
+pub mod close;
 pub mod hall;
 mod instance;
 mod locks;

@@ -185,6 +185,13 @@ impl Shard {
         book.confirm(&mut self.passes);
     }
 
+    // Returns the ticket of its last access, or 0.
+    pub(crate) fn last(&self) -> u64
+        ensures { result ≡ self.now.last }
+    {
+        self.last
+    }
+
     /// Returns the values of the cells.
     pub fn cells(&self) -> &Cells
         ensures { result.now ≡ self.now.cells }
