@@ -1,0 +1,17 @@
+pub mod TraceEntries
+pub mod HallLogs
+pub mod OwnAccesses
+pub mod HallRuns
+pub mod EqualTickets
+pub mod RaisedStops
+pub mod ShardStates
+pub mod JoinedLists
+pub mod ShardRaces
+pub mod SlotRaces
+pub mod RisingReports
+pub mod FoundRaces
+pub mod HallOrders
+pub mod HallPrograms
+mod TicketLists
+mod FinishedExample
+mod StoppedExample
