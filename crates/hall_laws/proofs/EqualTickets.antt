@@ -84,6 +84,7 @@ equal_tickets_are_apart v before shards merged h none merge earlier between rest
       | inl less ↦ absurd (omega (arith, less, same))
       | inr tie ↦ (let ranks = tie.1 in record {
         logs = λ e. omega (arith, ranks, e);
-        instances = λ n p q. instances_apart v before shards closed x y n ranks same (entry x there) (entry y also) p q;
+        instances = λ n m p q e. instances_apart v before shards closed x y m ranks same (entry x there) (entry y also)
+            (subst (λ i. IsOfInstance v.log i x) e p) q;
       })
     ]

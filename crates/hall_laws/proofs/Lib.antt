@@ -2,6 +2,7 @@ pub mod TraceEntries
 pub mod HallLogs
 pub mod OwnAccesses
 pub mod HallRuns
+pub mod EntryInstances
 pub mod EqualTickets
 pub mod RaisedStops
 pub mod ShardStates

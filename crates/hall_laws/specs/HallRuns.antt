@@ -10,11 +10,12 @@ use Rattle.pipe_model.specs.declared.ticket.ShardEntry.{ShardEntry}
 use Rattle.pipe_model.specs.Pipelines.Pipeline.{Pipeline}
 use Rattle.pipe_model.specs.Pipelines.Store.{written}
 use Rattle.pipe_model.specs.Races.CellRaces.{NotedAccess, accesses_to}
+use Rattle.pipe_model.specs.Races.DeterminacyRaces.{Among}
 use Rattle.pipe_model.specs.Runs.ControlParts.{HaveSameControl, without_accesses}
 use Rattle.pipe_model.specs.Runs.Run.{IsFinished, Run}
 use Rattle.pipe_model.specs.Runs.RunLogs.{accesses_after, state_after}
 use Rattle.pipe_model.specs.Runs.State.{accesses_of}
-use Rattle.pipe_model.specs.Runs.TicketLogs.{IsMerge, LogEntry, OfBook, OfShard, rank_of, ticket_of}
+use Rattle.pipe_model.specs.Runs.TicketLogs.{IsMerge, LogEntry, OfBook, OfShard, event_of, rank_of, ticket_of}
 use Rattle.pipe_model.specs.Runs.TicketOrder.{end_ticket_of, start_ticket_of}
 use Rattle.frame_book.specs.BookStates.{BookState, events_of, pipeline_in, state_of, with_last_raised}
 use Rattle.run_record.specs.MergedLogs.{AreMerged, BookRises, ShardRises, shard_at}
@@ -78,10 +79,16 @@ pub data IsOfInstance (log : List BookEntry) (x : NodeId) : LogEntry → Type 0 
   EndsIt : (b : BookEntry) → end_ticket_of log x.iteration x.index ≡ Some b.ticket → IsOfInstance log x (OfBook b)
   AccessesIt : (k : ℕ) (e : ShardEntry) → e.node ≡ x → IsOfInstance log x (OfShard k e)
 
--- the entries are of different logs, and no instance has both
+-- each entry of the merge is of an instance, but for `Stop`
+abbrev pub EntriesAreOfInstances : Type 0
+EntriesAreOfInstances =
+    (v : BookState) (shards : List (List ShardEntry)) (merged : List LogEntry) → IsSoundBook v → IsMerge v.log (shard_at shards) merged
+    → (x : LogEntry) → Among x merged → event_of x ≢ Stop → (n : NodeId) × IsOfInstance v.log n x
+
+-- the entries are of different logs and of different instances
 pub record AreApart (log : List BookEntry) (x y : LogEntry) : Type 0 where
   pub logs : rank_of x ≢ rank_of y
-  pub instances : (n : NodeId) → IsOfInstance log n x → IsOfInstance log n y → ⊥
+  pub instances : (n m : NodeId) → IsOfInstance log n x → IsOfInstance log m y → n ≢ m
 
 -- two entries of a closed hall with one ticket are of different logs and of different instances
 abbrev pub EqualTicketsAreApart : Type 0

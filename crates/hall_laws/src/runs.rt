@@ -1,6 +1,6 @@
 //! The merge of the logs of a closed hall is a run.
 
-ghost use Rattle.hall_laws.specs.HallRuns.{ClosedHallsAreRuns, EqualTicketsAreApart, LogsCanBeMerged, FinishedBooksHaveNoTokenOut, RaisedStopsClose};
+ghost use Rattle.hall_laws.specs.HallRuns.{ClosedHallsAreRuns, EntriesAreOfInstances, EqualTicketsAreApart, LogsCanBeMerged, FinishedBooksHaveNoTokenOut, RaisedStopsClose};
 
 /// If no token is out, the merge of the logs of a closed hall is a run of the book's program. Its
 /// events other than accesses are those of the book, and its accesses to a cell are those in the log
@@ -9,9 +9,11 @@ pub fn closed_halls_are_runs()
     ensures { ClosedHallsAreRuns }
 {}
 
-/// Two entries of a closed hall with one ticket are of different logs and of different instances.
+/// Each entry of the merge but `Stop` is of an instance (`instances`). Two entries of a closed hall
+/// with one ticket are of different logs and of different instances (`apart`).
 pub fn equal_tickets_are_apart()
-    ensures { EqualTicketsAreApart }
+    ensures instances { EntriesAreOfInstances }
+    ensures apart { EqualTicketsAreApart }
 {}
 
 /// A stopped hall is closed once the ticket of `Stop` is raised above all tickets of the shards.
