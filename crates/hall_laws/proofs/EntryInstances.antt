@@ -1,5 +1,5 @@
 -- Each entry of a merge but `Stop` is of an instance.
-use Rattle.std.proofs.Common.{◌≡◌, ◌≢◌, refl, sym, ap, subst, ℕ, suc, false, List, [], ◌∷◌, ◌++◌, ◌==◌, Option, Some}
+use Rattle.std.proofs.Common.{◌≡◌, ◌≢◌, refl, sym, subst, ℕ, suc, false, List, [], ◌∷◌, ◌==◌, Some}
 use Rattle.std.proofs.lemmas.Bool.{eq-eqb, false≢true}
 use Rattle.pipe_model.specs.declared.event.Event.{Event}
 use Rattle.pipe_model.specs.declared.event.Event.TheVariants.{Begin, Access, Advance, Enter, Finish, Stop}
@@ -8,9 +8,8 @@ use Rattle.pipe_model.specs.declared.ticket.BookEntry.{BookEntry}
 use Rattle.pipe_model.specs.Races.Columns.{at}
 use Rattle.pipe_model.specs.Races.DeterminacyRaces.{Among, Here, Later}
 use Rattle.pipe_model.specs.Runs.ControlRun.{is_access}
-use Rattle.pipe_model.specs.Runs.TicketLogs.{LogEntry, OfBook, OfShard, end_ticket, end_tickets, event_of, if_ticket, start_ticket, start_tickets, ticket_at}
+use Rattle.pipe_model.specs.Runs.TicketLogs.{OfBook, OfShard, end_ticket, end_tickets, if_ticket, start_ticket, start_tickets, ticket_at}
 use Rattle.pipe_model.proofs.Members.{among_left, among_right, none_among}
-use Rattle.frame_book.specs.BookStates.{events_of}
 use Rattle.run_laws.proofs.LogMerge.MergeSplits.{among_events, control_has_no_access, in_book}
 use Rattle.hall_laws.specs.HallRuns.{AccessesIt, EndsIt, EntriesAreOfInstances, IsOfInstance, StartsIt}
 

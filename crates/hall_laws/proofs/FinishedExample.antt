@@ -33,6 +33,7 @@ use Rattle.run_record.specs.MergedLogs.{AreMerged, shard_at}
 use Rattle.hall_laws.specs.ClosedHalls.{ClosedHall, NoTokenIsOut, ReadsAreRight, entries_of_instance, entries_of_shard, trace_of}
 use Rattle.hall_laws.specs.HallRuns.{AccessesIt, EndsIt, StartsIt}
 use Rattle.hall_laws.specs.HallExamples.{ExampleHallIsMerged, entry_by, event_at, example_book, example_events, example_log, example_shards, example_traces}
+use Rattle.hall_laws.proofs.ExampleHistories.{example_finds_none, example_history, example_notes}
 use Rattle.hall_laws.proofs.TicketLists.{Follow, Rises, in_order, rises_in_trace, rises_pairs, rises_within, time}
 
 -- ---- the control part
@@ -296,6 +297,7 @@ example_hall_is_merged p lists tree = record {
     columns = refl;
   };
   finished = finished;
+  histories = (example_history p lists, example_notes p lists, example_finds_none p lists);
   starts = StartsIt _ refl;
   reads = AccessesIt 2 _ refl;
   ends = EndsIt _ refl;

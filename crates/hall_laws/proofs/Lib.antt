@@ -14,5 +14,6 @@ pub mod FoundRaces
 pub mod HallOrders
 pub mod HallPrograms
 mod TicketLists
+mod ExampleHistories
 mod FinishedExample
 mod StoppedExample

@@ -1,6 +1,7 @@
 -- Worked examples, which show that the premises of the laws can be met: a finished hall of two iterations that overlap, with three shards, and
 -- a hall that was stopped.
 use Rattle.std.specs.Prelude.{◌≡◌, ℕ, pos, true, List, [], ◌∷◌}
+use Rattle.access_history.specs.declared.history.History.{History}
 use Rattle.pipe_model.specs.declared.access.Access.{Access}
 use Rattle.pipe_model.specs.declared.column.ColumnEnd.TheVariants.{Closed, End}
 use Rattle.pipe_model.specs.declared.event.Event.{Event}
@@ -24,6 +25,7 @@ use Rattle.pipe_frame.specs.TokenFields.{TokenFields}
 use Rattle.program_laws.specs.ScheduleExamples.{emitting_once}
 use Rattle.run_record.specs.OwnColumns.{made_columns}
 use Rattle.hall_laws.specs.HallPrograms.{IsMergedHall}
+use Rattle.hall_laws.specs.HallReports.{AreFound, HaveNotedEntries}
 use Rattle.hall_laws.specs.HallRuns.{IsOfInstance}
 
 abbrev pub event_at : ℕ → Event → BookEntry
@@ -99,12 +101,13 @@ example_events =
 abbrev pub example_run_log : List Event → RunLog
 example_run_log es = record { columns = made_columns es; events = es }
 
--- the program breaks no rule, the hall is finished, and its logs merge into these events. At ticket 6 an instance starts and one of another
--- iteration reads; at ticket 8 the one ends and the other writes.
+-- the program breaks no rule, the hall is finished, its logs merge into these events, and histories that have noted its entries report no
+-- race. At ticket 6 an instance starts and one of another iteration reads; at ticket 8 the one ends and the other writes.
 pub record IsExampleHall (v : BookState) : Type 0 where
   pub rules : BreaksNoRule (tree_of v.program)
   pub merged : IsMergedHall v example_shards (example_run_log example_events)
   pub finished : IsFinished (state_of v)
+  pub histories : (history : ℕ → History) × HaveNotedEntries v example_shards history × AreFound history []
   pub starts : IsOfInstance v.log (at 1 0) (OfBook (event_at 6 (events.Begin 1)))
   pub reads : IsOfInstance v.log (at 0 1) (OfShard 2 (entry_by 6 (at 0 1) (read_access 2 (pos 1))))
   pub ends : IsOfInstance v.log (at 1 0) (OfBook (event_at 8 (events.Finish 1 Closed)))
@@ -116,7 +119,7 @@ ExampleHallIsMerged = (p : Program) (lists : ListIdentities) → tree_of p ≡ e
 
 -- ---- a hall that was stopped
 
--- an access that was made after `Stop`, whose ticket was 2 at first
+-- the second access was made after `Stop`, whose ticket was then raised to 4
 abbrev pub stopped_log : List BookEntry
 stopped_log = event_at 1 (events.Begin 0) ∷ event_at 4 events.Stop ∷ []
 

@@ -8,7 +8,7 @@ pub fn example_hall_is_merged()
     ensures { ExampleHallIsMerged }
 {}
 
-/// A hall that was stopped, with an access after `Stop`, whose ticket was raised.
+/// A hall that was stopped. Its second access was made after `Stop`, whose ticket was then raised.
 pub fn stopped_hall_is_merged()
     ensures { StoppedHallIsMerged }
 {}
