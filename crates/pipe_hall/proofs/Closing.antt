@@ -53,10 +53,10 @@ first_more start v w b xs k x e h = subst (HoldsFirst start b (xs ++ x ∷ []) (
   book = Later _ h.book;
   each = λ j l. dite (ℕ_discrete j k)
       (λ s. (let q : shard_in (xs ++ x ∷ []) j ≡ x = ap (shard_in (xs ++ x ∷ [])) (s ∙ sym h.len) ∙ at_end_is xs x in
-        let n : suc j ≡ 1 + k = (omega (arith, s)) in
-        subst (λ (y : ShardValue). Among (suc j, TheShard y) ((1 + k, TheShard x) ∷ v.held)) (sym q) (subst (λ m. Among (m, TheShard x) ((1 + k, TheShard x) ∷ v.held)) (sym n) Here)))
+      let n : suc j ≡ 1 + k = (omega (arith, s)) in
+      subst (λ (y : ShardValue). Among (suc j, TheShard y) ((1 + k, TheShard x) ∷ v.held)) (sym q) (subst (λ m. Among (m, TheShard x) ((1 + k, TheShard x) ∷ v.held)) (sym n) Here)))
       (λ ne. (let n = h.len in let below : j < length xs = omega (arith, l, ne, n) in let small : j < k = omega (arith, l, ne) in
-        subst (λ (y : ShardValue). Among (suc j, TheShard y) ((1 + k, TheShard x) ∷ v.held)) (sym (at_more xs x j below)) (Later _ (h.each j small))));
+      subst (λ (y : ShardValue). Among (suc j, TheShard y) ((1 + k, TheShard x) ∷ v.held)) (sym (at_more xs x j below)) (Later _ (h.each j small))));
 })
 
 pub holds_all : (start v : SeatView) (b : BookState) (xs : List ShardValue) → HoldsFirst start b xs 16 v → HoldsAll v.held b (shard_in xs)
@@ -101,7 +101,7 @@ learned_more b xs ys k y small l h =
       len = length-set ys k y ∙ h.len;
       learned = λ j s. dite (ℕ_discrete j k)
           (λ e. subst (λ n. HasLearned b (shard_in xs n) (shard_in (set ys k y) n)) (sym e) (subst (HasLearned b (shard_in xs k)) (sym here)
-            (subst (λ (z : ShardValue). HasLearned b z y) (h.rest k (omega arith)) l)))
+          (subst (λ (z : ShardValue). HasLearned b z y) (h.rest k (omega arith)) l)))
           (λ ne. subst (HasLearned b (shard_in xs j)) (sym (set_other ys k j y no_shard ne)) (h.learned j (omega (arith, s, ne))));
       rest = λ j s. set_other ys k j y no_shard (λ e. (omega (arith, s, e))) ∙ h.rest j (omega (arith, s));
     }

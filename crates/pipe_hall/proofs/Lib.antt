@@ -10,3 +10,4 @@ pub mod Rescuing
 pub mod Accessing
 pub mod Closing
 pub mod Raising
+pub mod Freeing

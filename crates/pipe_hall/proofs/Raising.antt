@@ -1,9 +1,9 @@
 -- A stop whose ticket was raised keeps the facts of a hall.
-use Rattle.std.proofs.Common.{◌≡◌, ℕ, List, [], ◌∷◌, ◌++◌, ◌+◌, ◌^◌, ◌≤◌, ◌<◌, ◌*◌, length, max, refl, sym, ap, ◌∙◌, subst, arith, Option, Some, None, true, false}
+use Rattle.std.proofs.Common.{◌≡◌, ℕ, List, [], ◌∷◌, ◌++◌, ◌+◌, ◌^◌, ◌≤◌, ◌<◌, ◌*◌, length, max, refl, sym, ap, ◌∙◌, subst, arith, Option, Some, None, Bool, true, false}
 use Rattle.std.proofs.Math.Nat.{le-max_right}
 use Rattle.pipe_model.specs.declared.access.Access.{Access}
 use Rattle.pipe_model.specs.declared.event.Event.{Event}
-use Rattle.pipe_model.specs.declared.event.Event.TheVariants.{Begin, Advance, Enter, Finish, Stop, Access}
+use Rattle.pipe_model.specs.declared.event.Event.TheVariants.{Begin, Advance, Enter, Finish, Stop, Access as AccessEvent}
 use Rattle.pipe_model.specs.declared.node.NodeId.{NodeId}
 use Rattle.pipe_model.specs.declared.ticket.BookEntry.{BookEntry}
 use Rattle.pipe_model.specs.Language.Programs.{store_of}
@@ -24,9 +24,11 @@ use Rattle.pipe_model.specs.Runs.TicketOrder.{start_ticket_of, end_ticket_of}
 use Rattle.pipe_frame.specs.RunningTokens.{IsTokenOf}
 use Rattle.frame_book.specs.BookStates.{BookState, events_of, last_ticket, state_of, with_last_raised}
 use Rattle.frame_book.proofs.Keeping.RaiseStop.{events_raised, length_raised, rise_raised}
-use Rattle.pipe_hall.specs.SeatViews.{HallStart, InstanceData, ShardValue}
+use Rattle.pipe_hall.specs.SeatViews.{HallConstants, HallStart, InstanceData, ShardValue, constants_of, start_of}
 use Rattle.pipe_hall.specs.BookParts.{HasSeats, KnowsInstance, StartedBy}
-use Rattle.pipe_hall.specs.Closing.{EndedHall, HasSeenAll, LastStops, StopIsLast, raised}
+use Rattle.pipe_hall.specs.Closing.{EndedHall, HasLearned, HasSeenAll, LastStops, StopIsLast, raised, shard_in}
+use Rattle.pipe_hall.specs.Steps.{ClosedHall}
+use Rattle.pipe_hall.proofs.Closing.{learned_hall}
 use Rattle.pipe_hall.specs.Logs.{noted_to, of_shard, trace_by}
 use Rattle.pipe_hall.specs.ShardParts.{HasShard, IsShardOf, history_at}
 
@@ -109,7 +111,7 @@ stops s (Begin i) going stopped quiet = absurd (let z : false ≡ true = sym goi
 stops s (Advance i k n) going stopped quiet = absurd (let z : false ≡ true = sym going ∙ stopped in cc)
 stops s (Enter i) going stopped quiet = absurd (let z : false ≡ true = sym going ∙ stopped in cc)
 stops s (Finish i e) going stopped quiet = absurd (let z : false ≡ true = sym going ∙ stopped in cc)
-stops s (Access i a) going stopped quiet = absurd (let z : true ≡ false = quiet in cc)
+stops s (AccessEvent i a) going stopped quiet = absurd (let z : true ≡ false = quiet in cc)
 stops s Stop going stopped quiet = refl
 
 last_is_stop : (log : List BookEntry) (es : List Event) (e : Event) → events_of log ≡ es ++ e ∷ [] → e ≡ Stop → LastStops log
@@ -167,3 +169,39 @@ module _ (start : HallStart) (seen : List Event) (b : BookState) (shard : ℕ �
 -- a hall that was not stopped has no stop
 pub no_stop : (b : BookState) (shard : ℕ → ShardValue) → (state_of b).stopped ≡ false → StopIsLast b shard
 no_stop b shard going stopped = absurd (let z : false ≡ true = sym going ∙ stopped in cc)
+
+-- what `close` ensures, of a hall whose shards have learned, and whose stop may have been raised
+pub record IsClosed (start : HallStart) (seen : List Event) (b : BookState) (shard : ℕ → ShardValue) : Type 0 where
+  pub ended : EndedHall (start_of b start.before) seen b shard
+  pub constants : start.constants ≡ constants_of b
+  pub stop : StopIsLast b shard
+
+by_book : (start : HallStart) (seen : List Event) (b : BookState) (shard : ℕ → ShardValue) → EndedHall start seen b shard → EndedHall (start_of b start.before) seen b shard
+by_book start seen b shard h =
+    subst (λ s. EndedHall s seen b shard) (ap (λ (k : HallConstants). let s : HallStart = record { constants = k; before = start.before } in s) (sym h.closed.constants)) h
+
+pub closed_by : (start : HallStart) (seen : List Event) (b c : BookState) (shard : ℕ → ShardValue) → EndedHall start seen b shard → ((state_of b).stopped ≡ false → c ≡ b)
+    → ((state_of b).stopped ≡ true → (least : ℕ) × (c ≡ raised b least) × ((k : ℕ) → k < 16 → (shard k).last < least)) → IsClosed start seen c shard
+closed_by start seen b c shard h going stopped = by (state_of b).stopped refl
+  where
+    by : (t : Bool) → (state_of b).stopped ≡ t → IsClosed start seen c shard
+    by false e = subst (λ x. IsClosed start seen x shard) (sym (going e))
+        (record { ended = by_book start seen b shard h; constants = sym h.closed.constants; stop = no_stop b shard e })
+    by true e =
+        let q = stopped e in
+        let r = raised_hall start seen b shard h q.0 e q.2 in
+        subst (λ x. IsClosed start seen x shard) (sym q.1)
+        (record { ended = by_book start seen (raised b q.0) shard r; constants = sym h.closed.constants; stop = raised_stop start seen b shard h q.0 e q.2 })
+
+pub close_is : (start : HallStart) (seen : List Event) (b d c : BookState) (xs ys zs : List ShardValue) → ClosedHall start seen b (shard_in xs)
+    → ((k : ℕ) → k < 16 → HasLearned b (shard_in xs k) (shard_in ys k)) → length ys ≡ 16 → zs ≡ ys → d ≡ b → ((state_of d).stopped ≡ false → c ≡ d)
+    → ((state_of d).stopped ≡ true → (least : ℕ) × (c ≡ raised d least) × ((k : ℕ) → k < length zs → (shard_in zs k).last < least)) → IsClosed start seen c (shard_in ys)
+close_is start seen b d c xs ys zs h learned len is same going stopped =
+    let before = ap (λ (x : BookState). (state_of x).stopped) same in
+    closed_by start seen b c (shard_in ys) (learned_hall start seen b (shard_in xs) (shard_in ys) h learned)
+    (λ e. going (before ∙ e) ∙ same)
+    (λ e. (let q = stopped (before ∙ e) in (
+      q.0,
+      q.1 ∙ ap (λ x. raised x q.0) same,
+      (λ k l. subst (λ ws. (shard_in ws k).last < q.0) is (q.2 k (let n = ap length is in omega (arith, n, len, l)))),
+    )))

@@ -19,9 +19,10 @@ pub learn_at-requires-clause-lists : goal.learn_at-requires-clause-lists
 learn_at-requires-clause-lists g c =
     let same = c.loop-k.invariant.learned.rest c.loop-k.k (omega arith) in
     let l = c.requires.lists c.loop-k.k c.loop-k-test.true in
-    let b = sym c.loop-k.invariant.book in
-    (ap (λ (x : ShardValue). x.lists.down) same ∙ (l.0 ∙ ap (λ (x : BookState). x.lists.down) b),
-      ap (λ (x : ShardValue). x.lists.right) same ∙ (l.1 ∙ ap (λ (x : BookState). x.lists.right) b))
+    let b = sym c.loop-k.invariant.book in (
+      ap (λ (x : ShardValue). x.lists.down) same ∙ (l.0 ∙ ap (λ (x : BookState). x.lists.down) b),
+      ap (λ (x : ShardValue). x.lists.right) same ∙ (l.1 ∙ ap (λ (x : BookState). x.lists.right) b),
+    )
 
 pub loop-k-preserved : goal.loop-k-preserved
 loop-k-preserved g c =
@@ -32,7 +33,7 @@ loop-k-preserved g c =
       book = c.learn_at.ensures.book ∙ i.book;
       learned = subst (λ ys. LearnedFirst c.args.book.now xs ys (c.loop-k.k + 1)) (sym q.1)
           (learned_more c.args.book.now xs c.loop-k.shards.items c.loop-k.k q.0 c.loop-k-test.true
-            (subst (λ (z : BookState). HasLearned z (shard_in c.loop-k.shards.items c.loop-k.k) q.0) i.book q.2) i.learned);
+          (subst (λ (z : BookState). HasLearned z (shard_in c.loop-k.shards.items c.loop-k.k) q.0) i.book q.2) i.learned);
     }
 
 pub returns-clause-len : goal.returns-clause-len
