@@ -8,3 +8,4 @@ pub mod Seating
 pub mod Answering
 pub mod Rescuing
 pub mod Accessing
+pub mod ReplayedAccesses
