@@ -29,12 +29,12 @@ pub record HoldsFirst (start : SeatView) (b : BookState) (xs : List ShardValue) 
   pub book : Among (0, TheBook b) v.held
   pub each : (j : ℕ) → j < k → Among (suc j, TheShard (shard_in xs j)) v.held
 
-at_more : (xs : List ShardValue) (x : ShardValue) (j : ℕ) → j < length xs → shard_in (xs ++ x ∷ []) j ≡ shard_in xs j
+pub at_more : (xs : List ShardValue) (x : ShardValue) (j : ℕ) → j < length xs → shard_in (xs ++ x ∷ []) j ≡ shard_in xs j
 at_more [] x j l = absurd (omega (arith, l))
 at_more (y ∷ ys) x zero l = refl
 at_more (y ∷ ys) x (suc j) l = at_more ys x j (omega (arith, l))
 
-at_end_is : (xs : List ShardValue) (x : ShardValue) → shard_in (xs ++ x ∷ []) (length xs) ≡ x
+pub at_end_is : (xs : List ShardValue) (x : ShardValue) → shard_in (xs ++ x ∷ []) (length xs) ≡ x
 at_end_is [] x = refl
 at_end_is (y ∷ ys) x = at_end_is ys x
 

@@ -11,3 +11,6 @@ pub mod Accessing
 pub mod Closing
 pub mod Raising
 pub mod Freeing
+pub mod ReplayedAccesses
+pub mod FirstTables
+pub mod Crossing

@@ -13,3 +13,4 @@ pub mod SeatAccesses
 pub mod Openings
 pub mod HallNames
 pub mod Closing
+pub mod NewShards

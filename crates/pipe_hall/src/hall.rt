@@ -1,11 +1,29 @@
 //! The hall, and the bare seats of its workers.
 
+ghost use Rattle.std.specs.Prelude.{◌≡◌, ◌<◌, ◌≤◌, ◌+◌, ◌++◌, [], ℕ, List, Some, IfOk, length, vec_capacity};
+ghost use Rattle.frame_book.specs.NewBooks.{new_book};
+ghost use Rattle.pipe_model.specs.Language.SyntaxTree.{tree_of};
+ghost use Rattle.pipe_hall.specs.Closing.{shard_in};
+ghost use Rattle.pipe_hall.specs.NewShards.{IsNewShard, shard_slots};
+ghost use Rattle.pipe_hall.specs.SeatViews.{ShardValue, constants_of};
+ghost use Rattle.pipe_hall.specs.ShardParts.{HaveIdentities};
+
 use crate::carrier::Carrier;
 use crate::locks::Locks;
+use crate::opening::Opening;
+use crate::shard::{SHARDS, Shard};
 use crate::slot::Slot;
 use crate::view::View;
-use atomic_table::Seat;
+use atomic_table::{Seat, Table};
+use frame_book::book::Book;
+use om_shared::writer::OmWriter;
+use order_2d::two_passes::TwoPasses;
+use pipe_check::checked::Checked;
+use pipe_model::access::Accesses;
+use pipe_model::memory::NoMemory;
+use std::alloc::Global;
 use std::marker::Model;
+use std::snapshot::Snapshot;
 
 /// The book and the cells of a run, which workers share. Contracts see which hall it is, with its
 /// program, input and throttling limit, and the accesses before the run.
@@ -48,4 +66,84 @@ impl<M: Carrier> Model for HallKey<M> {
     ghost view = { λ k. record { hall = record { table = k.seat.table_id; constants = k.seat.me.0.it.constants }; seen = k.seat.me.0.it.seen } };
 
     ghost invariant = { λ k. IsIdle k.seat.me };
+}
+
+// The words of the locks, which are free.
+const FREE: [u64; 17] = [0; 17];
+
+// Appends the shards of the program's cells, in the order of their numbers.
+fn add_shards<M: Carrier>(
+    alloc: Global,
+    checked: &Checked,
+    before: &Accesses,
+    passes: &mut TwoPasses,
+    slots: &mut Vec<Slot<M>>,
+) -> Result<(), NoMemory>
+    requires room { length slots.old.items + 16 ≤ vec_capacity slots.old }
+    ensures shards { IfOk result (λ _. (xs : List ShardValue) × (slots.new.items ≡ slots.old.items ++ shard_slots xs) × (length xs ≡ 16) × ((k : ℕ) → k < 16 → IsNewShard before.now (tree_of checked.now) passes.old k (shard_in xs k))) }
+{
+    for number in 0..SHARDS {
+        let shard = Shard::new(alloc, checked, number, before, passes.split()?)?;
+        slots.push_reserved(Slot::Shard(shard));
+    }
+    Ok(())
+}
+
+/// Opens a hall of a book without events, and returns it with the seat of its first worker. The cells
+/// are those after the accesses `before`. The passes must be of the book's order lists, which must
+/// have identities. Returns an error only if memory runs out.
+pub fn hall_after<M: Carrier>(
+    alloc: Global,
+    book: Book<M, OmWriter>,
+    checked: &Checked,
+    before: &Accesses,
+    mut passes: TwoPasses,
+) -> Result<(HallOf<M>, HallKey<M>), NoMemory>
+    requires new { book ≡ new_book book.program book.input book.limit book.lists }
+    requires program { tree_of book.program ≡ tree_of checked.now }
+    requires lists { (passes.down ≡ book.lists.down) × (passes.right ≡ book.lists.right) }
+    requires identities { HaveIdentities passes }
+    ensures constants { IfOk result (λ opened. opened.0.hall.constants ≡ Some (constants_of book)) }
+    ensures before { IfOk result (λ opened. opened.0.before ≡ before.now) }
+    ensures key { IfOk result (λ opened. opened.1.hall ≡ opened.0.hall) }
+    ensures seen { IfOk result (λ opened. opened.1.seen ≡ []) }
+{
+    let opening = Opening {
+        book: Snapshot::of(&book),
+        before: Snapshot::of(before),
+    };
+    let mut slots = Vec::with_capacity(alloc, FREE.len())?;
+    slots.push_reserved(Slot::Book(book));
+    add_shards(alloc, checked, before, &mut passes, &mut slots)?;
+    match Table::new(alloc, &FREE, slots, &opening) {
+        Ok((table, seat)) => Ok((
+            HallOf {
+                locks: Locks { table },
+            },
+            HallKey { seat },
+        )),
+        Err(refused) => {
+            drop(refused);
+            Err(NoMemory)
+        }
+    }
+}
+
+/// Opens a hall whose cells have their declared values, as `hall_after` with no accesses.
+pub fn hall<M: Carrier>(
+    alloc: Global,
+    book: Book<M, OmWriter>,
+    checked: &Checked,
+    passes: TwoPasses,
+) -> Result<(HallOf<M>, HallKey<M>), NoMemory>
+    requires new { book ≡ new_book book.program book.input book.limit book.lists }
+    requires program { tree_of book.program ≡ tree_of checked.now }
+    requires lists { (passes.down ≡ book.lists.down) × (passes.right ≡ book.lists.right) }
+    requires identities { HaveIdentities passes }
+    ensures constants { IfOk result (λ opened. opened.0.hall.constants ≡ Some (constants_of book)) }
+    ensures before { IfOk result (λ opened. opened.0.before ≡ []) }
+    ensures key { IfOk result (λ opened. opened.1.hall ≡ opened.0.hall) }
+    ensures seen { IfOk result (λ opened. opened.1.seen ≡ []) }
+{
+    hall_after(alloc, book, checked, &Accesses::new(alloc), passes)
 }

@@ -12,6 +12,7 @@ mod rule;
 pub mod run_seat;
 pub mod seat;
 pub mod shard;
+mod shard_opening;
 mod slot;
 mod view;
 mod worker;

@@ -7,6 +7,7 @@ use pipe_model::access::Accesses;
 use std::snapshot::Snapshot;
 
 /// What a hall was opened with: its book, and the accesses before the run.
+#[derive(Drop)]
 pub struct Opening<M: Carrier> {
     /// The book without events.
     pub book: Snapshot<Book<M, OmWriter>>,

@@ -37,20 +37,24 @@ const LAST_TICKET: u64 = 4611686018427387904;
 /// its parts, and the order lists as far as its passes have seen them.
 #[derive(Drop)]
 pub struct Shard {
-    number: u32,
-    cells: Cells,
-    histories: Vec<History>,
-    log: Vec<ShardEntry>,
-    last: u64,
-    passes: TwoPasses,
+    pub(crate) number: u32,
+    pub(crate) cells: Cells,
+    pub(crate) histories: Vec<History>,
+    pub(crate) log: Vec<ShardEntry>,
+    pub(crate) last: u64,
+    pub(crate) passes: TwoPasses,
 }
 
 impl Model for Shard {
+    ghost use Rattle.std.specs.Prelude.{◌≤◌, ◌+◌, ◌*◌, ◌^◌, length};
     ghost use Rattle.pipe_hall.specs.SeatViews.{ShardValue};
 
     ghost Value = { ShardValue };
 
     ghost view = { λ s. record { number = s.number; cells = s.cells; histories = s.histories.items; log = s.log.items; last = s.last; lists = s.passes } };
+
+    // The number of the cell of each history is a `u32`.
+    ghost invariant = { λ s. s.number + 16 * length s.histories.items ≤ 2 ^ 32 };
 }
 
 // The access that is asked for.
