@@ -3,6 +3,7 @@
 #![tactic(auto)]
 
 pub mod carrier;
+mod found;
 pub mod hall;
 mod instance;
 mod locks;
