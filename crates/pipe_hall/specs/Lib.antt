@@ -14,3 +14,4 @@ pub mod Openings
 pub mod HallNames
 pub mod Closing
 pub mod NewShards
+pub mod FoundRaces

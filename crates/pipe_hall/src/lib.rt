@@ -4,6 +4,7 @@
 
 pub mod carrier;
 pub mod close;
+mod found;
 pub mod hall;
 mod instance;
 mod locks;

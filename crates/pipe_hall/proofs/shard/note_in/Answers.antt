@@ -1,4 +1,4 @@
-use Rattle.std.proofs.Common.{◌≡◌, ◌≢◌, ◌<◌, ℕ, get_or, set, ap, sym, subst, ◌∙◌, refl, arith, length-set, get_or-set_same}
+use Rattle.std.proofs.Common.{◌≡◌, get_or, set, sym, subst, ◌∙◌, length-set, get_or-set_same}
 use Rattle.access_history.specs.declared.history.History.{History}
 use Rattle.access_history.specs.KeptInstances.{KeepsAmong, KeptAreIn, nothing_kept}
 use Rattle.pipe_hall.specs.Accesses.{IsNotedStep}

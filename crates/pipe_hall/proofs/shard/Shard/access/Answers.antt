@@ -1,7 +1,6 @@
-use Rattle.std.proofs.Common.{◌≡◌, ◌≢◌, ◌<◌, ◌≤◌, ◌/◌, ◌+◌, List, ◌++◌, ◌∷◌, [], ℕ, Some, length, max, ap, ap₂, sym, subst, ◌∙◌, refl, arith}
-use Rattle.pipe_model.specs.declared.ticket.Entry.{Entry}
+use Rattle.std.proofs.Common.{◌≡◌, ◌/◌, ◌+◌, List, ◌++◌, ◌∷◌, [], max, ap, sym, subst, ◌∙◌, refl, arith}
 use Rattle.pipe_hall.specs.SeatViews.{ShardValue}
-use Rattle.pipe_hall.specs.Accesses.{GrowLists, IsAsked, IsMadeNow, IsNoted}
+use Rattle.pipe_hall.specs.Accesses.{GrowLists, IsNoted}
 use Rattle.pipe_hall.specs.ShardParts.{down_list, right_list, history_at}
 use Rattle.access_history.specs.KeptInstances.{KeptAreIn}
 use Rattle.pipe_model.specs.declared.access.Access.{Access}
