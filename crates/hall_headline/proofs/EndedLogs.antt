@@ -22,11 +22,11 @@ use Rattle.hall_laws.proofs.HallRuns.{closed_halls_are_runs}
 use Rattle.hall_laws.proofs.ShardStates.{shard_states_are_of_runs}
 use Rattle.pipe_hall.specs.Closing.{shard_in}
 use Rattle.pipe_hall.specs.SeatViews.{ShardValue}
-use Rattle.hall_headline.specs.HallEnds.{EndsAccessTheirCells, EndsAreRuns, EndsHaveCellsOfRuns, IsHallEnd, logs_of}
-use Rattle.hall_headline.proofs.HallEnds.{ends_are_closed_halls, has_shard, log_is, log_past, width}
+use Rattle.hall_headline.specs.HallEnds.{HallEndsAccessTheirCells, HallEndsAreRuns, HallEndsHaveCellsOfRuns, IsHallEnd, logs_of}
+use Rattle.hall_headline.proofs.HallEnds.{hall_ends_are_closed, has_shard, log_is, log_past, width}
 
-pub ends_are_runs : EndsAreRuns
-ends_are_runs before b shards events h none merged = closed_halls_are_runs b before (logs_of shards) events (ends_are_closed_halls before b shards h) none merged
+pub hall_ends_are_runs : HallEndsAreRuns
+hall_ends_are_runs before b shards events h none merged = closed_halls_are_runs b before (logs_of shards) events (hall_ends_are_closed before b shards h) none merged
 
 -- ---- the program's cells
 
@@ -65,13 +65,13 @@ module _ (before : List CellAccess) (b : BookState) (shards : List ShardValue) (
           (control_has_no_access h.book.control e.event (among_events e b.log (subst (λ l. Among e l) merged.merge.book_is (in_book merged.entries e m))))
       by_entry (OfShard k e) m = entry_inside k e (subst (λ l. Among e l) (merged.merge.shard_is k) (among_shard merged.entries k e m))
 
-pub ends_access_their_cells : EndsAccessTheirCells
-ends_access_their_cells before b shards events h merged = merge_inside before b shards h events merged
+pub hall_ends_access_their_cells : HallEndsAccessTheirCells
+hall_ends_access_their_cells before b shards events h merged = merge_inside before b shards h events merged
 
 -- ---- the cells after the run
 
-pub ends_have_cells_of_runs : EndsHaveCellsOfRuns
-ends_have_cells_of_runs before b shards events h none merged k l =
+pub hall_ends_have_cells_of_runs : HallEndsHaveCellsOfRuns
+hall_ends_have_cells_of_runs before b shards events h none merged k l =
     let s = (has_shard before b shards h k l).shard in
     let state = (shard_in shards k).cells in
     let store = store_of (tree_of b.program) in
@@ -80,7 +80,7 @@ ends_have_cells_of_runs before b shards events h none merged k l =
     record {
       number = s.part.0;
       shards = s.part.1;
-      cells = shard_states_are_of_runs b before (logs_of shards) events state (ends_are_runs before b shards events h none merged)
+      cells = shard_states_are_of_runs b before (logs_of shards) events state (hall_ends_are_runs before b shards events h none merged)
           (s.part.1 ∙ sym (width before b shards h))
           (subst (λ log. IsStateAfter store (before ++ map (λ (e : ShardEntry). e.access) log) state) own s.cells);
     }

@@ -17,11 +17,11 @@ use Rattle.pipe_hall.specs.Closing.{no_shard, shard_in}
 use Rattle.pipe_hall.specs.Logs.{noted_to}
 use Rattle.pipe_hall.specs.SeatViews.{ShardValue}
 use Rattle.pipe_hall.specs.ShardParts.{history_at}
-use Rattle.hall_headline.specs.HallEnds.{EndsHaveHistories, ShardsOfEndsFindAll, found_by, found_in, history_of, logs_of}
+use Rattle.hall_headline.specs.HallEnds.{HallEndsHaveHistories, HallEndsFindAll, found_by, found_in, history_of, logs_of}
 use Rattle.hall_headline.proofs.HallEnds.{has_shard, log_is, width}
 
-pub ends_have_histories : EndsHaveHistories
-ends_have_histories before b shards h = record { each = each }
+pub hall_ends_have_histories : HallEndsHaveHistories
+hall_ends_have_histories before b shards h = record { each = each }
   where
     each : (c : ℕ) → IsHistoryAfter (down_place (starts_of_book b)) (right_place (columns_of_book b) (starts_of_book b)) (entries_to (logs_of shards) c) (history_of shards c)
     each c =
@@ -42,8 +42,8 @@ flat_map_is : (shards : List ShardValue) → flat_map (λ x. x) (map found_in sh
 flat_map_is [] = refl
 flat_map_is (x ∷ shards) = ap (λ l. found_in x ++ l) (flat_map_is shards)
 
-pub shards_of_ends_find_all : ShardsOfEndsFindAll
-shards_of_ends_find_all before b shards h =
+pub hall_ends_find_all : HallEndsFindAll
+hall_ends_find_all before b shards h =
     subst (AreFound (history_of shards)) (flat_map_is shards)
     (shards_find_all (history_of shards) founds (omega (arith, wide)) found_at)
   where

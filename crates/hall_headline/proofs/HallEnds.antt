@@ -23,7 +23,7 @@ use Rattle.pipe_hall.specs.Closing.{no_shard, shard_in}
 use Rattle.pipe_hall.specs.Logs.{book_trace, of_shard, trace_by}
 use Rattle.pipe_hall.specs.SeatViews.{InstanceData, ShardValue}
 use Rattle.pipe_hall.specs.ShardParts.{HasShard}
-use Rattle.hall_headline.specs.HallEnds.{EndsAreClosedHalls, IsHallEnd, LogsOfEndsCanBeMerged, logs_of}
+use Rattle.hall_headline.specs.HallEnds.{HallEndsAreClosed, IsHallEnd, LogsOfHallEndsCanBeMerged, logs_of}
 use Rattle.hall_headline.proofs.EntryLists.{entries_of_instance_are, entries_of_shard_are, reads_are_right}
 
 -- ---- traces
@@ -106,8 +106,8 @@ module _ (before : List Access) (b : BookState) (shards : List ShardValue) (h : 
       subst (All (λ (e : ShardEntry). e.ticket < last_ticket b.log)) (sym (log_is k less) ∙ get_or_default (logs_of shards) k [] d l)
       (λ n f m. h.stop stopped k less (get_or (shard_in shards k).log n f) (among_at (shard_in shards k).log n f m))
 
-pub ends_are_closed_halls : EndsAreClosedHalls
-ends_are_closed_halls before b shards h = record { book = h.book; logs = shard_logs before b shards h; stop = stop_is_last before b shards h }
+pub hall_ends_are_closed : HallEndsAreClosed
+hall_ends_are_closed before b shards h = record { book = h.book; logs = shard_logs before b shards h; stop = stop_is_last before b shards h }
 
-pub logs_of_ends_can_be_merged : LogsOfEndsCanBeMerged
-logs_of_ends_can_be_merged before b shards h = logs_can_be_merged b before (logs_of shards) (shard_logs before b shards h)
+pub logs_of_hall_ends_can_be_merged : LogsOfHallEndsCanBeMerged
+logs_of_hall_ends_can_be_merged before b shards h = logs_can_be_merged b before (logs_of shards) (shard_logs before b shards h)

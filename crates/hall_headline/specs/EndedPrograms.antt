@@ -33,8 +33,8 @@ pub record IsProgramEnd (before : List Access) (b : BookState) (shards : List Sh
   pub columns : log.columns ≡ made_columns log.events
 
 -- if no token is out, the laws of merged halls hold for it
-abbrev pub EndsAreMergedHalls : Type 0
-EndsAreMergedHalls =
+abbrev pub HallEndsAreMerged : Type 0
+HallEndsAreMerged =
     (before : List Access) (b : BookState) (shards : List ShardValue) (log : RunLog) → IsProgramEnd before b shards log → NoTokenIsOut b
     → IsMergedHall b (logs_of shards) log
 
@@ -51,8 +51,8 @@ pub record AreRacesOfLog (log : RunLog) (found : List (CellId × Found)) : Type 
   pub instances : All (λ (f : CellId × Found). IsFoundIn (column_nodes log.columns) f.1) found
   pub reports : (reports : List Report) → AreGathered log found reports → AreReportsOf log.events reports
 
-abbrev pub EndsReportTheirRaces : Type 0
-EndsReportTheirRaces =
+abbrev pub HallEndsReportTheirRaces : Type 0
+HallEndsReportTheirRaces =
     (before : List Access) (b : BookState) (shards : List ShardValue) (log : RunLog) → IsProgramEnd before b shards log → NoTokenIsOut b
     → AreRacesOfLog log (found_by shards)
 
@@ -60,8 +60,8 @@ EndsReportTheirRaces =
 
 -- if the book is finished and the program breaks no rule, the reports are those of the run, and meet the headline with the run's output and
 -- trap
-abbrev pub FinishedEndsMeetTheHeadline : Type 0
-FinishedEndsMeetTheHeadline =
+abbrev pub FinishedHallEndsMeetTheHeadline : Type 0
+FinishedHallEndsMeetTheHeadline =
     (before : List Access) (b : BookState) (shards : List ShardValue) (log : RunLog) (reports : List Report) (races : List ℕ)
     → BreaksNoRule (tree_of b.program) → IsProgramEnd before b shards log → IsFinished (state_of b) → AreGathered log (found_by shards) reports
     → AreReportsOf log.events reports

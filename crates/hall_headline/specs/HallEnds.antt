@@ -48,23 +48,23 @@ pub record IsHallEnd (before : List Access) (b : BookState) (shards : List Shard
 
 -- ---- the logs
 
-abbrev pub EndsAreClosedHalls : Type 0
-EndsAreClosedHalls = (before : List Access) (b : BookState) (shards : List ShardValue) → IsHallEnd before b shards → ClosedHall b before (logs_of shards)
+abbrev pub HallEndsAreClosed : Type 0
+HallEndsAreClosed = (before : List Access) (b : BookState) (shards : List ShardValue) → IsHallEnd before b shards → ClosedHall b before (logs_of shards)
 
 -- tickets rise in the logs, as `merge` requires
-abbrev pub LogsOfEndsCanBeMerged : Type 0
-LogsOfEndsCanBeMerged =
+abbrev pub LogsOfHallEndsCanBeMerged : Type 0
+LogsOfHallEndsCanBeMerged =
     (before : List Access) (b : BookState) (shards : List ShardValue) → IsHallEnd before b shards → BookRises b.log × All ShardRises (logs_of shards)
 
 -- if no token is out, the merge of the logs is a run of the program
-abbrev pub EndsAreRuns : Type 0
-EndsAreRuns =
+abbrev pub HallEndsAreRuns : Type 0
+HallEndsAreRuns =
     (before : List Access) (b : BookState) (shards : List ShardValue) (events : List Event) → IsHallEnd before b shards → NoTokenIsOut b
     → AreMerged b.log (logs_of shards) events → IsRunOfHall b before (logs_of shards) events
 
 -- the accesses of the merge are to the program's cells
-abbrev pub EndsAccessTheirCells : Type 0
-EndsAccessTheirCells =
+abbrev pub HallEndsAccessTheirCells : Type 0
+HallEndsAccessTheirCells =
     (before : List Access) (b : BookState) (shards : List ShardValue) (events : List Event) → IsHallEnd before b shards
     → AreMerged b.log (logs_of shards) events → All (IsInside (cell_count (tree_of b.program))) events
 
@@ -76,19 +76,19 @@ pub record IsShardAfterRun (before : List Access) (b : BookState) (events : List
   pub shards : state.shard.shards ≡ 16
   pub cells : IsStateAfter (store_of (tree_of b.program)) (before ++ accesses_of (accesses_after events)) state
 
-abbrev pub EndsHaveCellsOfRuns : Type 0
-EndsHaveCellsOfRuns =
+abbrev pub HallEndsHaveCellsOfRuns : Type 0
+HallEndsHaveCellsOfRuns =
     (before : List Access) (b : BookState) (shards : List ShardValue) (events : List Event) → IsHallEnd before b shards → NoTokenIsOut b
     → AreMerged b.log (logs_of shards) events → (k : ℕ) → k < 16 → IsShardAfterRun before b events k (shard_in shards k).cells
 
 -- ---- the histories
 
 -- the history of each cell has noted the accesses to it
-abbrev pub EndsHaveHistories : Type 0
-EndsHaveHistories =
+abbrev pub HallEndsHaveHistories : Type 0
+HallEndsHaveHistories =
     (before : List Access) (b : BookState) (shards : List ShardValue) → IsHallEnd before b shards → HaveNotedEntries b (logs_of shards) (history_of shards)
 
 -- what the shards have found is what the histories report, each cell once
-abbrev pub ShardsOfEndsFindAll : Type 0
-ShardsOfEndsFindAll =
+abbrev pub HallEndsFindAll : Type 0
+HallEndsFindAll =
     (before : List Access) (b : BookState) (shards : List ShardValue) → IsHallEnd before b shards → AreFound (history_of shards) (found_by shards)

@@ -1,5 +1,0 @@
-use Rattle.hall_headline.proofs.programs.finished_ends_meet_the_headline.Goals as goal
-use Rattle.hall_headline.proofs.EndedPrograms.{finished_ends_meet_the_headline}
-
-pub returns : goal.returns
-returns c = finished_ends_meet_the_headline
