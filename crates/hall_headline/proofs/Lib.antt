@@ -1,0 +1,5 @@
+pub mod EntryLists
+pub mod HallEnds
+pub mod EndedLogs
+pub mod EndedReports
+pub mod EndedPrograms

@@ -1,0 +1,2 @@
+pub mod HallEnds
+pub mod EndedPrograms
