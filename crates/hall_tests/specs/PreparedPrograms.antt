@@ -1,5 +1,5 @@
 -- Programs that halls are opened for.
-use Rattle.std.specs.Prelude.{◌≡◌, ◌≤◌, ℕ, ℤ, List}
+use Rattle.std.specs.Prelude.{◌≡◌, ◌≤◌, ℤ, List}
 use Rattle.pipe_engine.specs.CarriedMachines.{cells_of}
 use Rattle.pipe_frame.specs.Ties.{HallName}
 use Rattle.pipe_model.specs.Language.CheckingRules.{BreaksNoRule}

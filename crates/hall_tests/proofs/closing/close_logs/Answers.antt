@@ -1,4 +1,4 @@
-use Rattle.std.proofs.Common.{◌≡◌, arith, subst, sym}
+use Rattle.std.proofs.Common.{arith, subst}
 use Rattle.std.proofs.lemmas.List.{get_or_default}
 use Rattle.pipe_hall.specs.Closing.{no_shard}
 use Rattle.run_record.specs.MergedLogs.{ShardRises}

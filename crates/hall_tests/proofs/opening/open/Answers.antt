@@ -1,4 +1,4 @@
-use Rattle.std.proofs.Common.{◌≡◌, arith, ap, subst, sym}
+use Rattle.std.proofs.Common.{subst, sym}
 use Rattle.frame_book.proofs.PlannedPrograms.{accepted_programs_are_planned}
 use Rattle.frame_book.specs.NewBooks.{IsPlannedProgram}
 use Rattle.pipe_hall.specs.ShardParts.{HaveIdentities}

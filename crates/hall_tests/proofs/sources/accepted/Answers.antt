@@ -1,4 +1,4 @@
-use Rattle.std.proofs.Common.{◌≡◌, None, subst, sym}
+use Rattle.std.proofs.Common.{subst, sym}
 use Rattle.language_laws.proofs.SpellablePrograms.{spelled_is_spellable}
 use Rattle.pipe_model.specs.declared.tree.Program.{Program}
 use Rattle.pipe_model.specs.Language.CheckingRules.{BreaksNoRule}

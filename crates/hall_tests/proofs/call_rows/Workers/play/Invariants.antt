@@ -1,4 +1,3 @@
-use Rattle.std.proofs.Common.{◌≡◌}
 use Rattle.hall_tests.specs.Workers.{IsWorkerOf}
 use Rattle.pipe_hall.specs.WorkerSeats.{hall_name}
 use Rattle.hall_tests.proofs.call_rows.Workers.play.Given as goal

@@ -1,4 +1,4 @@
-use Rattle.std.proofs.Common.{◌≡◌, ◌+◌, arith}
+use Rattle.std.proofs.Common.{arith}
 use Rattle.cell_store.proofs.DeclaredCells.{values_length}
 use Rattle.pipe_model.specs.Language.SyntaxTree.{tree_of}
 use Rattle.hall_tests.proofs.sources.Prepared.cells.Goals as goal
