@@ -1,29 +1,25 @@
 -- Names of halls, and the seats and payloads of instances, over plain data.
-use Rattle.std.proofs.Common.{◌≡◌, ℕ, ℤ, List, [], ◌∷◌, ◌++◌, length, refl, sym, ap, ap₂, ◌∙◌, subst, Option, Some, None}
+use Rattle.std.proofs.Common.{◌≡◌, ℕ, ℤ, List, [], ◌∷◌, refl, sym, ap, ap₂, ◌∙◌, subst, Option, Some, None}
 use Rattle.atomic_table.specs.Seated.{TableId}
 use Rattle.atomic_table.specs.Table.{Me}
-use Rattle.pipe_model.specs.declared.event.Event.{Event}
 use Rattle.pipe_model.specs.Language.SyntaxTree.{SyntaxTree, tree_of}
 use Rattle.pipe_model.specs.Runs.ControlRun.{ControlRun}
 use Rattle.pipe_model.specs.Runs.RunLogs.{state_after}
-use Rattle.pipe_model.specs.Runs.State.{State}
-use Rattle.pipe_frame.specs.HallViews.{BeginsWith, Sees}
-use Rattle.pipe_frame.specs.Ties.{BelongsTo, HallName, InstanceSeat, KnowsMarks, SeenLists, Tie, AreSeenLists, AreSeen}
+use Rattle.pipe_frame.specs.Ties.{HallName, InstanceSeat, SeenLists, Tie, AreSeenLists, AreSeen}
 use Rattle.pipe_frame.specs.TokenFields.{TokenFields, fields_of}
 use Rattle.pipe_frame.specs.declared.token.FrameToken.{FrameToken}
-use Rattle.frame_book.specs.BookStates.{BookState, events_of, replies_at, state_of}
+use Rattle.frame_book.specs.BookStates.{BookState, replies_at}
 use Rattle.frame_book.specs.GivenTokens.{IsGivenBy}
-use Rattle.pipe_hall.specs.SeatViews.{HallConstants, InstanceData, SeatView, SlotValue, TheBook, constants_of}
+use Rattle.pipe_hall.specs.SeatViews.{HallConstants, InstanceData, constants_of}
 use Rattle.pipe_hall.specs.HallRule.{view_of}
 use Rattle.pipe_frame.specs.SeatedTokens.{IsGivenToken, IsSeated, entries_of_seat, replies_of_seat, seated_entries, seated_replies}
-use Rattle.pipe_hall.specs.WorkerSeats.{HallId, HoldsBook, IsIdle, IsSameHall, StaysIdle, name_of, numbers_of}
+use Rattle.pipe_hall.specs.WorkerSeats.{HallId, IsIdle, IsSameHall, name_of, numbers_of}
 use Rattle.pipe_hall.specs.InstanceSeats.{badge_view, seat_of}
 use Rattle.pipe_hall.specs.Lending.{seat_in, tie_of}
-use Rattle.pipe_hall.specs.Steps.{BookSnapshot, ViewAndSlots, after_book, holding, new_instance, with_longer, with_run, worker_seat}
+use Rattle.pipe_hall.specs.Steps.{ViewAndSlots, new_instance, with_longer, worker_seat}
 use Rattle.pipe_hall.specs.declared.run_seat.RunSeat.{RunSeat}
 use Rattle.pipe_hall.specs.declared.view.View.{View}
 use Rattle.pipe_hall.specs.declared.slot.Slot.{Slot}
-use Rattle.pipe_hall.specs.declared.slot.Slot.TheVariants as slots
 
 -- ---- names of halls
 

@@ -1,63 +1,46 @@
 -- The calls of the book that take in a token, and those that take one in and give it out again.
-use Rattle.std.proofs.Common.{◌≡◌, ◌≢◌, ℕ, zero, suc, ◌+◌, ◌-◌, ◌^◌, ◌<◌, ◌≤◌, ◌==◌, ◌&&◌, ◌⊎◌, ⊎_elim, inl, inr, max, List, [], ◌∷◌, ◌++◌, map, length, get_or, set, refl, sym, ap, ap₂, ◌∙◌, subst, arith, cond, eq-eqb, ne_eqb, Bool, true, false, Option, Some, None, append-nil, append_assoc}
-use Rattle.std.proofs.lemmas.List.{length-append, map-append, same_from_push, length_push, get_or_push, get_or-set_same, set-set, length-set, length-map}
+use Rattle.std.proofs.Common.{◌≡◌, ◌≢◌, ℕ, zero, suc, ◌<◌, ◌⊎◌, ⊎_elim, inl, inr, max, List, [], ◌∷◌, ◌++◌, map, length, get_or, set, refl, sym, ap, ap₂, ◌∙◌, subst, arith, cond, eq-eqb, ne_eqb, Option, Some, None, append-nil, append_assoc}
+use Rattle.std.proofs.lemmas.List.{length_push, get_or_push, get_or-set_same, set-set, length-set}
 use mathlib.Core.Logic.{dite}
-use native.Mathlib.Decide.{ℕ_discrete, dec_le}
+use native.Mathlib.Decide.{ℕ_discrete}
 use Rattle.pipe_model.specs.declared.event.Event.{Event}
 use Rattle.pipe_model.specs.declared.event.Event.TheVariants.{Begin, Advance, Enter, Finish, Stop, Access}
-use Rattle.pipe_model.specs.declared.node.NodeId.{NodeId}
 use Rattle.pipe_model.specs.Pipelines.Behaviour.{Action, Ended, Staged}
 use Rattle.pipe_model.specs.declared.status.Status.{Status}
 use Rattle.pipe_model.specs.declared.status.Status.TheVariants.{Running, Pending, Completed}
 use Rattle.pipe_model.specs.declared.ticket.BookEntry.{BookEntry}
 use Rattle.pipe_model.specs.declared.ticket.Entry.{Entry}
-use Rattle.pipe_model.specs.Orders.OrderMarks.{instance_marks}
-use Rattle.pipe_model.specs.Orders.Starts.{IsStarted, started_by, starts_of, start_number}
-use Rattle.pipe_model.specs.Races.Columns.{at, nodes_at}
-use Rattle.pipe_model.specs.Races.DeterminacyRaces.{Among, Here, Later}
-use Rattle.pipe_model.proofs.Members.{none_among}
-use Rattle.std.proofs.lemmas.Bool.{eqb-true}
-use Rattle.pipe_frame.specs.Replies.{replies_of}
+use Rattle.pipe_model.specs.Races.DeterminacyRaces.{Among}
 use Rattle.pipe_model.specs.Runs.Allowed.{ControlAllows, IsRunning}
-use Rattle.pipe_model.specs.Runs.ControlRun.{ControlRun, EmptyControlRun, ControlRunThen, is_access}
-use Rattle.pipe_model.specs.Runs.RunLogs.{columns_after, state_after}
-use Rattle.pipe_model.specs.Runs.State.{Frame, State, enter_pending, frame_at, fresh_frame, initial_state, next_state, own_columns, update_frame, with_action}
-use Rattle.pipe_model.specs.Runs.TicketLogs.{end_ticket, end_tickets, if_ticket, start_ticket, start_tickets, ticket_at, TimedAction}
+use Rattle.pipe_model.specs.Runs.ControlRun.{ControlRun}
+use Rattle.pipe_model.specs.Runs.RunLogs.{state_after}
+use Rattle.pipe_model.specs.Runs.State.{Frame, State, frame_at, next_state, update_frame, with_action}
+use Rattle.pipe_model.specs.Runs.TicketLogs.{end_ticket, end_tickets, if_ticket, ticket_at, TimedAction}
 use Rattle.pipe_model.specs.Runs.TicketOrder.{end_ticket_of, start_ticket_of}
-use Rattle.pipe_frame.specs.RunningTokens.{IsTokenOf}
 use Rattle.pipe_frame.specs.TokenFields.{TokenFields}
-use Rattle.run_laws.proofs.ListOrders.SoundStarts.{control_starts_sound}
-use Rattle.run_laws.proofs.ListOrders.StartsOfRuns.{Grew, IsStartSound, grew_begin, grew_enter}
-use Rattle.run_laws.proofs.LogMerge.InstanceCounts.{control_counts, end_tickets_counted, start_tickets_counted, started_in, ended_in, ended_by_status}
-use Rattle.run_laws.proofs.LogMerge.InstanceTickets.{start_tickets-append, end_tickets-append, ticket_within, start_has}
-use Rattle.run_laws.proofs.RunStates.Frames.{frame_at_last, frame_at_other, frame_at_past, frame_at_push, frame_at_updated, frame_at_within, length-update_frame, nodes_at_frame}
-use Rattle.run_laws.proofs.RunStates.GrowingColumns.{columns-action}
-use Rattle.frame_book.specs.BookStates.{BookState, HasRisingTickets, IsOut, Kept, Out, Spent, TokenState, timed_access, events_of, item_or, last_ticket, made, replies_at, state_of, stamped, with_events}
+use Rattle.run_laws.proofs.LogMerge.InstanceCounts.{ended_by_status}
+use Rattle.run_laws.proofs.LogMerge.InstanceTickets.{end_tickets-append, ticket_within}
+use Rattle.run_laws.proofs.RunStates.Frames.{frame_at_updated, frame_at_within, length-update_frame}
+use Rattle.frame_book.specs.BookStates.{BookState, HasRisingTickets, Kept, Out, Spent, TokenState, timed_access, events_of, item_or, last_ticket, made, replies_at, state_of, with_events}
 use Rattle.frame_book.specs.GivenTokens.{IsGivenBeside, IsOutOf}
-use Rattle.frame_book.specs.TokenLaws.{EndsNoneOf}
-use Rattle.frame_book.proofs.BookLogs.LogEntries.{below_last, events_of_with, starts_of-push, state_after-push, last_ticket_with, length_with, rise_with}
-use Rattle.frame_book.proofs.StartedInstances.GrownMarks.{marks_same}
-use Rattle.frame_book.proofs.StartedInstances.OtherTokens.{tokens_stay_until_their_ends}
+use Rattle.frame_book.proofs.BookLogs.LogEntries.{events_of_with, last_ticket_with}
 use Rattle.pipe_hall.specs.SeatViews.{HallConstants, InstanceData, constants_of}
 use Rattle.pipe_hall.specs.Logs.{book_trace, trace_by, with_at}
-use Rattle.pipe_hall.specs.BookParts.{HasSeats, IsTimelyToken, KnowsInstance, IsTimelyTrace, StartedBy, marks_in}
+use Rattle.pipe_hall.specs.BookParts.{KnowsInstance, IsTimelyTrace, StartedBy}
 use Rattle.pipe_hall.specs.Steps.{new_instance}
-use Rattle.pipe_hall.specs.BookCalls.{IsIterationAfter, IsBookCall, LeavesOthers}
+use Rattle.pipe_hall.specs.BookCalls.{IsIterationAfter, IsBookCall}
 use Rattle.pipe_model.specs.declared.node.Kind.TheVariants.{Wait, Continue}
 use Rattle.pipe_model.specs.declared.stage.StageEnd.{StageEnd}
 use Rattle.pipe_model.specs.declared.stage.StageEnd.TheVariants as stage_ends
 use Rattle.pipe_model.specs.declared.column.ColumnEnd.TheVariants as column_ends
-use Rattle.pipe_model.specs.Runs.Run.{state_from}
 use Rattle.pipe_model.specs.Runs.StageEnds.{stage_end_events}
 use Rattle.pipe_frame.specs.CallResults.{pending_events, resume_events}
-use Rattle.pipe_frame.specs.HallViews.{BeginsWith}
 use Rattle.pipe_frame.specs.StageEndCases.{EndsIteration, EntersAtOnce, MustWait}
-use Rattle.frame_book.specs.CallEffects.{after_stop, kept_now, with_resumed}
-use Rattle.pipe_hall.proofs.Boards.{begins_more, with_here}
-use Rattle.pipe_hall.proofs.ControlPrefixes.{run_state}
+use Rattle.frame_book.specs.CallEffects.{kept_now, with_resumed}
+use Rattle.pipe_hall.proofs.Boards.{with_here}
 use Rattle.pipe_hall.proofs.Sharding.{among_timed}
 use Rattle.pipe_hall.proofs.CallEffects.{start_stays, seats_after_call}
-use Rattle.pipe_hall.proofs.BookCalls.{IsOf, ended_count, enter_call, enter_iteration, event_moves, events_stamped, last_event, last_of, parts_are, past, push_other, quiet_moves, resume_call, set_other, state_is, timely_stays}
+use Rattle.pipe_hall.proofs.BookCalls.{IsOf, ended_count, enter_call, enter_iteration, event_moves, last_event, last_of, parts_are, past, push_other, quiet_moves, resume_call, set_other, state_is, timely_stays}
 
 -- ---- an instance has ended
 
@@ -480,4 +463,3 @@ waits_not_stopped s i end h e = subst (MustWait s i) e h
 
 pub enters_not_stopped : (s : State) (i : ℕ) (end : StageEnd) → EntersAtOnce s i end → end ≡ stage_ends.Stopped → ⊥
 enters_not_stopped s i end h e = subst (EntersAtOnce s i) e h
-

@@ -1,5 +1,5 @@
 -- A worker that has taken the book, and gives it back after a call.
-use Rattle.std.proofs.Common.{◌≡◌, ℕ, List, [], ◌∷◌, ◌++◌, length, refl, sym, ap, ◌∙◌, subst, Option, Some, None, append-nil}
+use Rattle.std.proofs.Common.{◌≡◌, List, [], ◌∷◌, ◌++◌, refl, sym, ap, ◌∙◌, subst, Option, Some, None, append-nil}
 use Rattle.atomic_table.specs.Seated.{TableId}
 use Rattle.pipe_model.specs.declared.event.Event.{Event}
 use Rattle.pipe_model.specs.declared.stage.StageEnd.{StageEnd}
@@ -7,7 +7,7 @@ use Rattle.pipe_model.specs.declared.ticket.Entry.{Entry}
 use Rattle.pipe_model.specs.Runs.ControlRun.{ControlRun}
 use Rattle.pipe_model.specs.Runs.RunLogs.{state_after}
 use Rattle.pipe_model.specs.Runs.State.{State}
-use Rattle.pipe_frame.specs.CallResults.{AdvanceReturns, BeginReturns, advance_events, begin_events, rescue_events}
+use Rattle.pipe_frame.specs.CallResults.{AdvanceReturns, advance_events, begin_events, rescue_events}
 use Rattle.pipe_frame.specs.HallViews.{BeginsWith, Sees}
 use Rattle.pipe_frame.specs.ResultTokens.{IfGo, IfStarted, IfToken}
 use Rattle.pipe_frame.specs.TokenFields.{TokenFields}
@@ -24,7 +24,7 @@ use Rattle.pipe_hall.specs.BookCalls.{IsBookCall}
 use Rattle.pipe_hall.specs.HallRule.{view_of}
 use Rattle.pipe_hall.specs.SeatViews.{HallConstants, InstanceData, TheBook, constants_of}
 use Rattle.pipe_hall.specs.Steps.{BookSnapshot, ViewAndSlots, after_book, holding}
-use Rattle.pipe_hall.specs.WorkerSeats.{HasTaken, HoldsBook, IsIdle, StaysIdle, name_of}
+use Rattle.pipe_hall.specs.WorkerSeats.{HasTaken, IsIdle, StaysIdle, name_of}
 use Rattle.pipe_hall.specs.declared.slot.Slot.TheVariants as slots
 use Rattle.pipe_hall.proofs.BookCalls.{events_stamped, unchanged_call}
 use Rattle.pipe_hall.proofs.EndingCalls.{ends_not_stopped, finishes, holds_back, waits_not_stopped}

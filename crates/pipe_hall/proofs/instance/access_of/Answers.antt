@@ -1,14 +1,14 @@
 use Rattle.std.proofs.Common.{◌≡◌, ◌<◌, ◌∙◌, subst, sym, ap, ap₂, refl, [], ◌∷◌, length, Some, None}
 use Rattle.pipe_model.specs.Language.Programs.{store_of}
 use Rattle.pipe_frame.specs.Ties.{AreElementsOf, AreSeen, AreSeenLists, HallName, SeenLists, Tie}
-use Rattle.pipe_frame.specs.TokenFields.{TokenFields, fields_of}
+use Rattle.pipe_frame.specs.TokenFields.{fields_of}
 use Rattle.pipe_frame.specs.declared.token.FrameToken.{FrameToken}
 use Rattle.pipe_hall.specs.HallRule.{view_of}
 use Rattle.pipe_hall.specs.WorkerSeats.{name_of}
 use Rattle.pipe_hall.specs.InstanceSeats.{badge_view, is_instance_badge}
-use Rattle.pipe_hall.specs.Lending.{seat_in, tie_of}
+use Rattle.pipe_hall.specs.Lending.{seat_in}
 use Rattle.pipe_hall.specs.Steps.{ViewAndSlots}
-use Rattle.pipe_hall.specs.SeatAccesses.{ran, seat_done, tie_after}
+use Rattle.pipe_hall.specs.SeatAccesses.{ran, seat_done}
 use Rattle.pipe_hall.specs.declared.view.View.{View}
 use Rattle.pipe_hall.specs.declared.run_seat.RunSeat.{RunSeat}
 use Rattle.pipe_hall.proofs.Answering.{has_seat, lists_with, tie_with}

@@ -1,22 +1,17 @@
 -- The instance has ended; its iteration goes on at once, or not.
-use Rattle.std.proofs.Common.{◌≡◌, ◌∙◌, ◌++◌, ◌∷◌, [], sym, ap, subst, refl, Some, None, length}
-use Rattle.pipe_model.specs.Language.SyntaxTree.{tree_of}
+use Rattle.std.proofs.Common.{◌≡◌, ◌∙◌, ◌++◌, ◌∷◌, [], sym, ap, subst, refl, Some}
 use Rattle.pipe_model.specs.Runs.StageEnds.{stage_end_events}
 use Rattle.pipe_model.specs.declared.event.Event.TheVariants.{Enter}
 use Rattle.pipe_frame.specs.CallResults.{AdvanceReturns, advance_events}
-use Rattle.pipe_frame.specs.HallViews.{BeginsWith, Sees}
-use Rattle.pipe_frame.specs.Replies.{replies_of}
-use Rattle.pipe_frame.specs.Ties.{AreSeenLists, HallName}
+use Rattle.pipe_frame.specs.HallViews.{Sees}
 use Rattle.pipe_frame.specs.TokenFields.{TokenFields, fields_of}
 use Rattle.pipe_frame.specs.declared.results.Next.TheVariants as nexts
 use Rattle.pipe_frame.specs.declared.token.FrameToken.{FrameToken}
-use Rattle.frame_book.specs.BookStates.{BookState, HasRisingTickets, Out, events_of, replies_at, state_of}
-use Rattle.frame_book.specs.GivenTokens.{IsOutOf}
+use Rattle.frame_book.specs.BookStates.{HasRisingTickets, Out, events_of, state_of}
 use Rattle.pipe_hall.specs.SeatViews.{constants_of}
-use Rattle.pipe_hall.proofs.Answering.{lists_with}
 use Rattle.pipe_hall.proofs.BookCalls.{stopped_later}
 use Rattle.pipe_hall.proofs.EndingCalls.{enters_not_stopped, goes_on}
-use Rattle.pipe_hall.proofs.TakenBooks.{advanced, ended_without, name_is, none_goes, sees, stays_idle}
+use Rattle.pipe_hall.proofs.TakenBooks.{advanced, ended_without, none_goes, sees, stays_idle}
 use Rattle.pipe_hall.proofs.worker.advance_at.Goals as goal
 
 pub advance-next-requires-clause-stopped : goal.advance-next-requires-clause-stopped
@@ -29,10 +24,14 @@ return_token-requires-clause-call g c =
     let b = c.take_back-book.result in
     let f = fields_of c.take_back-book.new.token in
     let same : f ≡ fields_of c.args.token = ap (λ (k : FrameToken g.row.M.Denot). fields_of k) c.take_back-book.ensures.token in
-    let e = c.in-Go.ensures in
-    (b, Some t.0, t.1.holds, goes_on b c.advance-next.new.self t.0 f c.args.trace c.args.end Out _ (t.2.fields ∙ sym same) (t.2.entries ∙ sym c.requires.trace) (fields_of c.in-Go.token)
-      (enters_not_stopped (state_of b) f.iteration c.args.end e.answer.1) refl e.book c.entries.ensures.control (subst HasRisingTickets c.entries.ensures.log c.entries.ensures.rise)
-      e.answer.2 e.token.0.out e.token.0.parts e.now)
+    let e = c.in-Go.ensures in (
+      b,
+      Some t.0,
+      t.1.holds,
+      goes_on b c.advance-next.new.self t.0 f c.args.trace c.args.end Out _ (t.2.fields ∙ sym same) (t.2.entries ∙ sym c.requires.trace) (fields_of c.in-Go.token)
+          (enters_not_stopped (state_of b) f.iteration c.args.end e.answer.1) refl e.book c.entries.ensures.control (subst HasRisingTickets c.entries.ensures.log c.entries.ensures.rise)
+          e.answer.2 e.token.0.out e.token.0.parts e.now,
+    )
 
 pub return_book-requires : goal.return_book-requires
 return_book-requires g c =
@@ -43,8 +42,13 @@ return_book-requires g c =
     let e = c.advance-next.ensures in
     record {
       own = c.take_back-book.ensures.own ∙ c.requires.own;
-      call = (b, Some t.0, t.1.holds, ended_without b c.advance-next.new.self t.0 f c.args.trace c.args.end c.advance-next.result c.in_default.not-Go (t.2.fields ∙ sym same) (t.2.entries ∙ sym c.requires.trace) e.answer e.book
-          c.entries.ensures.control (subst HasRisingTickets c.entries.ensures.log c.entries.ensures.rise));
+      call = (
+        b,
+        Some t.0,
+        t.1.holds,
+        ended_without b c.advance-next.new.self t.0 f c.args.trace c.args.end c.advance-next.result c.in_default.not-Go (t.2.fields ∙ sym same) (t.2.entries ∙ sym c.requires.trace) e.answer e.book
+            c.entries.ensures.control (subst HasRisingTickets c.entries.ensures.log c.entries.ensures.rise),
+      );
     }
 
 pub returns-in-Go-clause-idle : goal.returns-in-Go-clause-idle
@@ -66,10 +70,10 @@ returns-in-Go-clause-sees g c =
     let u : FrameToken g.row.M.Denot = record c.in-Go.token { payload = g.M.Carrier.with_seat c.in-Go.token.payload (Some s.0) } in
     let es = stage_end_events f.iteration c.args.end ++ Enter f.iteration ∷ [] in
     subst (λ (x : FrameToken g.row.M.Denot). Sees m.0.it.seen z.0.it.seen (stage_end_events c.args.token.iteration c.args.end ++ Enter c.args.token.iteration ∷ [])
-      (λ q. AdvanceReturns q c.args.token.iteration c.args.token.index c.args.end (nexts.Go x))) (sym s.1)
+    (λ q. AdvanceReturns q c.args.token.iteration c.args.token.index c.args.end (nexts.Go x))) (sym s.1)
     (subst (λ (k : TokenFields). Sees m.0.it.seen z.0.it.seen (stage_end_events k.iteration c.args.end ++ Enter k.iteration ∷ []) (λ q. AdvanceReturns q k.iteration k.index c.args.end (nexts.Go u))) same
     (sees g.row.M.Denot m c.take_back-book.new.seat.me b (Some t.0) t.1 z c.advance-next.new.self c.return_token.ensures.given es (λ q. AdvanceReturns q f.iteration f.index c.args.end (nexts.Go u))
-      (advanced {M = g.row.M.Denot} b c.advance-next.new.self f c.args.trace c.args.end (nexts.Go c.in-Go.token) e.book).1 e.answer))
+    (advanced {M = g.row.M.Denot} b c.advance-next.new.self f c.args.trace c.args.end (nexts.Go c.in-Go.token) e.book).1 e.answer))
 
 pub returns-in_default : goal.returns-in_default
 returns-in_default g c =

@@ -1,5 +1,5 @@
 -- An iteration has begun, or nothing has changed.
-use Rattle.std.proofs.Common.{◌≡◌, ◌∙◌, sym, ap, subst, None}
+use Rattle.std.proofs.Common.{◌∙◌, sym, ap, subst, None}
 use Rattle.pipe_frame.specs.CallResults.{BeginReturns, begin_events}
 use Rattle.pipe_frame.specs.Ties.{HallName}
 use Rattle.pipe_frame.specs.TokenFields.{fields_of}
@@ -13,9 +13,13 @@ pub return_token-requires-clause-call : goal.return_token-requires-clause-call
 return_token-requires-clause-call g c =
     let b = c.take_book-book.result in
     let h = c.take_book-book.ensures.taken in
-    let e = c.in-Started.ensures in
-    (b, None, h.holds, begin_call b c.begin-begun.new.self (fields_of c.in-Started.token) e.book h.tokens h.traces c.entries.ensures.control (subst HasRisingTickets c.entries.ensures.log c.entries.ensures.rise)
-      e.token.out e.token.parts e.now)
+    let e = c.in-Started.ensures in (
+      b,
+      None,
+      h.holds,
+      begin_call b c.begin-begun.new.self (fields_of c.in-Started.token) e.book h.tokens h.traces c.entries.ensures.control (subst HasRisingTickets c.entries.ensures.log c.entries.ensures.rise)
+          e.token.out e.token.parts e.now,
+    )
 
 pub return_book-requires : goal.return_book-requires
 return_book-requires g c =

@@ -1,5 +1,5 @@
 -- An iteration has entered a stage, or nothing has changed.
-use Rattle.std.proofs.Common.{◌≡◌, ◌∙◌, sym, ap, subst, None}
+use Rattle.std.proofs.Common.{sym, ap, subst, None}
 use Rattle.pipe_frame.specs.TokenFields.{fields_of}
 use Rattle.frame_book.specs.BookStates.{BookState, HasRisingTickets, Spent, item_or}
 use Rattle.frame_book.specs.CallEffects.{kept_now}
@@ -14,9 +14,13 @@ return_token-requires-clause-call g c =
     let b = c.take_book-book.result in
     let h = c.take_book-book.ensures.taken in
     let e = c.in-Some.ensures in
-    let f = fields_of c.in-Some.token in
-    (b, None, h.holds, enter_call b c.check_right-entered.new.self f (ap constants_of e.book) (ap (λ (y : BookState). y.tokens) e.book) (ap (λ (y : BookState). y.traces) e.book) e.token.out e.token.parts
-      (kept_now (item_or Spent b.tokens f.iteration)) (ap (λ (y : BookState). y.log) e.book) c.entries.ensures.control (subst HasRisingTickets c.entries.ensures.log c.entries.ensures.rise) e.now)
+    let f = fields_of c.in-Some.token in (
+      b,
+      None,
+      h.holds,
+      enter_call b c.check_right-entered.new.self f (ap constants_of e.book) (ap (λ (y : BookState). y.tokens) e.book) (ap (λ (y : BookState). y.traces) e.book) e.token.out e.token.parts
+          (kept_now (item_or Spent b.tokens f.iteration)) (ap (λ (y : BookState). y.log) e.book) c.entries.ensures.control (subst HasRisingTickets c.entries.ensures.log c.entries.ensures.rise) e.now,
+    )
 
 pub return_book-requires-clause-call : goal.return_book-requires-clause-call
 return_book-requires-clause-call g c =

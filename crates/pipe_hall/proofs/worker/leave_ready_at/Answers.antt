@@ -1,5 +1,5 @@
 -- The book keeps the token.
-use Rattle.std.proofs.Common.{◌≡◌, ◌∙◌, [], sym, ap, subst, set, Some, append-nil, None}
+use Rattle.std.proofs.Common.{◌∙◌, [], sym, ap, subst, set, Some, append-nil, None}
 use Rattle.pipe_model.specs.Language.SyntaxTree.{tree_of}
 use Rattle.pipe_frame.specs.Ties.{AreSeen, AreSeenLists, HallName}
 use Rattle.pipe_frame.specs.TokenFields.{TokenFields, fields_of}
@@ -22,13 +22,13 @@ leave_ready-requires-clause-payload g c =
     let n = name_of c.args.seat.now.table_id c.args.seat.now.me.0.it.constants in
     let name = name_is c.args.seat.now.table_id c.args.seat.now.me c.take_back-book.new.seat.me b (Some t.0) t.1 in
     let lists = ap (λ x. (g.M.Stands.tie x).lists) payload
-        ∙ lists_with g.row.M.Denot g.M.Stands.stands g.M.Stands.tie g.M.Carrier.lists g.M.Carrier.seat g.M.Carrier.with_seat g.met.M.Carrier.tied g.met.M.Carrier.seat_is g.met.M.Carrier.seat_stands p None in
+    ∙ lists_with g.row.M.Denot g.M.Stands.stands g.M.Stands.tie g.M.Carrier.lists g.M.Carrier.seat g.M.Carrier.with_seat g.met.M.Carrier.tied g.met.M.Carrier.seat_is g.met.M.Carrier.seat_stands p None in
     record {
       belongs = subst (λ l. AreSeenLists l b.lists.down b.lists.right) (sym lists)
           (subst (λ (x : HallName). AreSeenLists (g.M.Stands.tie p).lists x.lists.down x.lists.right) name c.requires.out.belongs);
       stands = subst (λ (k : FrameToken g.row.M.Denot). g.M.Stands.stands (tree_of b.program) b.input k.payload k.iteration (replies_at b k.iteration)) (sym c.take_back-book.ensures.token)
           (g.met.M.Carrier.seat_stands (tree_of b.program) b.input p None i (replies_at b i)
-            (subst (λ (x : HallName). g.M.Stands.stands x.tree x.input p i (replies_at b i)) name (subst (λ l. g.M.Stands.stands n.tree n.input p i l) t.2.replies c.requires.stands)));
+          (subst (λ (x : HallName). g.M.Stands.stands x.tree x.input p i (replies_at b i)) name (subst (λ l. g.M.Stands.stands n.tree n.input p i l) t.2.replies c.requires.stands)));
     }
 
 pub leave_ready-requires-clause-knows : goal.leave_ready-requires-clause-knows
@@ -44,10 +44,14 @@ return_book-requires-clause-call g c =
     let b = c.take_back-book.result in
     let x = c.leave_ready.new.self in
     let e = c.leave_ready.ensures in
-    let fields = ap (λ (k : FrameToken g.row.M.Denot). fields_of k) c.take_back-book.ensures.token in
-    (b, Some t.0, t.1.holds, left_call b x t.0 (ap constants_of e)
-      (ap (λ (y : BookState). y.tokens) e ∙ ap (λ (f : TokenFields). set b.tokens f.iteration (Kept f)) (fields ∙ sym t.2.fields)) (ap (λ (y : BookState). y.traces) e) (ap (λ (y : BookState). y.log) e)
-      (t.2.entries ∙ c.requires.fresh))
+    let fields = ap (λ (k : FrameToken g.row.M.Denot). fields_of k) c.take_back-book.ensures.token in (
+      b,
+      Some t.0,
+      t.1.holds,
+      left_call b x t.0 (ap constants_of e)
+          (ap (λ (y : BookState). y.tokens) e ∙ ap (λ (f : TokenFields). set b.tokens f.iteration (Kept f)) (fields ∙ sym t.2.fields)) (ap (λ (y : BookState). y.traces) e) (ap (λ (y : BookState). y.log) e)
+          (t.2.entries ∙ c.requires.fresh),
+    )
 
 pub returns-clause-idle : goal.returns-clause-idle
 returns-clause-idle g c =

@@ -1,5 +1,5 @@
 -- A token was found, or nothing has changed.
-use Rattle.std.proofs.Common.{◌≡◌, ◌∙◌, sym, ap, subst, Some, None}
+use Rattle.std.proofs.Common.{◌∙◌, sym, ap, subst, Some, None}
 use Rattle.pipe_frame.specs.CallResults.{RescueReturns}
 use Rattle.pipe_frame.specs.HallViews.{RescueSees}
 use Rattle.pipe_frame.specs.Ties.{HallName}
@@ -19,9 +19,13 @@ pub return_token-requires-clause-call : goal.return_token-requires-clause-call
 return_token-requires-clause-call g c =
     let b = c.take_book-book.result in
     let h = c.take_book-book.ensures.taken in
-    let e = c.in-Token.ensures in
-    (b, None, h.holds, rescued_call b c.rescue-found.new.self (fields_of c.in-Token.token) e.book c.entries.ensures.control (subst HasRisingTickets c.entries.ensures.log c.entries.ensures.rise)
-      e.token.out e.token.parts e.now)
+    let e = c.in-Token.ensures in (
+      b,
+      None,
+      h.holds,
+      rescued_call b c.rescue-found.new.self (fields_of c.in-Token.token) e.book c.entries.ensures.control (subst HasRisingTickets c.entries.ensures.log c.entries.ensures.rise)
+          e.token.out e.token.parts e.now,
+    )
 
 pub return_book-requires : goal.return_book-requires
 return_book-requires g c =
@@ -48,8 +52,8 @@ returns-in-Token-clause-sees g c =
     let u : FrameToken g.row.M.Denot = record c.in-Token.token { payload = g.M.Carrier.with_seat c.in-Token.token.payload (Some s.0) } in
     subst (λ (y : FrameToken g.row.M.Denot). RescueSees limit m.0.it.seen z.0.it.seen (rescue.Token y)) (sym s.1)
     (rescue_sees_of {M = g.row.M.Denot} limit m.0.it.seen z.0.it.seen b x (rescue.Token u) h.seen (seen_after g.row.M.Denot m n b None h z x c.return_token.ensures.given)
-      (ap (λ (y : BookState). events_of y.log) e.book ∙ resumed_events b u.iteration)
-      (subst (λ (k : HallName). RescueReturns {M = g.row.M.Denot} k.limit (state_of b) (IsReady b) (rescue.Token u)) (sym (name_is c.args.seat.now.table_id m n b None h)) e.answer))
+    (ap (λ (y : BookState). events_of y.log) e.book ∙ resumed_events b u.iteration)
+    (subst (λ (k : HallName). RescueReturns {M = g.row.M.Denot} k.limit (state_of b) (IsReady b) (rescue.Token u)) (sym (name_is c.args.seat.now.table_id m n b None h)) e.answer))
 
 pub returns-in_default : goal.returns-in_default
 returns-in_default g c =

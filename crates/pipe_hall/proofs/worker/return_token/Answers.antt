@@ -1,5 +1,5 @@
 -- The token's payload has got the seat of its instance.
-use Rattle.std.proofs.Common.{◌≡◌, sym, ap, subst, refl, Some}
+use Rattle.std.proofs.Common.{sym, ap, subst, refl, Some}
 use Rattle.pipe_frame.specs.RunningTokens.{IsTokenOf}
 use Rattle.pipe_frame.specs.SeatedTokens.{IsGivenToken}
 use Rattle.pipe_frame.specs.TokenFields.{fields_of}
@@ -19,8 +19,8 @@ returns-clause-token g c =
     let x = c.args.book in
     subst (IsGivenToken g.M.Stands.stands g.M.Stands.tie (name_of z v.constants)) (sym s.1)
     (given_in g.row.M.Denot g.M.Stands.stands g.M.Stands.tie g.M.Carrier.lists g.M.Carrier.seat g.M.Carrier.with_seat g.met.M.Carrier.tied g.met.M.Carrier.seat_is g.met.M.Carrier.seat_stands
-      (name_of z v.constants) z x c.args.token s.0 (view_of (run_seat (after_book v x (Some (new_instance x (fields_of c.args.token)))))) s.2 s.3 c.requires.constants refl
-      (ap (name_of z) c.requires.constants) c.requires.token)
+    (name_of z v.constants) z x c.args.token s.0 (view_of (run_seat (after_book v x (Some (new_instance x (fields_of c.args.token)))))) s.2 s.3 c.requires.constants refl
+    (ap (name_of z) c.requires.constants) c.requires.token)
 
 pub returns-clause-runs : goal.returns-clause-runs
 returns-clause-runs g c =

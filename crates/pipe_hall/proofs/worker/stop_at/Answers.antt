@@ -1,5 +1,5 @@
 -- The stop is the last event, or the run had been stopped.
-use Rattle.std.proofs.Common.{◌≡◌, ◌∙◌, sym, ap, subst, None}
+use Rattle.std.proofs.Common.{◌∙◌, sym, ap, subst, None}
 use Rattle.pipe_model.specs.Runs.RunLogs.{state_after}
 use Rattle.pipe_frame.specs.HallViews.{BeginsWith}
 use Rattle.frame_book.specs.BookStates.{HasRisingTickets}
