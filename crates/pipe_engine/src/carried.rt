@@ -1,0 +1,149 @@
+//! What the tokens of a run carry.
+
+ghost use Rattle.std.specs.Prelude.{◌≡◌, IfOk, Some, None, is_some, true};
+
+use frame_book::payload::Payload;
+use om_shared::writer::OmWriter;
+use order_2d::two_orders::TwoOrders;
+use order_2d::two_passes::TwoPasses;
+use pipe_frame::stands::Stands;
+use pipe_hall::carrier::Carrier;
+use pipe_hall::run_seat::RunSeat;
+use pipe_model::memory::NoMemory;
+use stage_code::code::Code;
+use stage_code::instr::Part;
+use stage_interp::machine::Machine;
+use std::alloc::Global;
+use std::marker::{Brand, PhantomData};
+
+/// The code that the machines of a run have. It exists in proofs only, and the call that makes the run
+/// picks it.
+pub trait RunCode {
+    ghost use Rattle.stage_code.specs.FlatCode.{FlatCode};
+
+    ghost code: { FlatCode };
+}
+
+impl RunCode for Brand {
+    ghost use Rattle.std.specs.Prelude.{[], pos};
+
+    ghost code = { record {
+      instrs = [];
+      init = 0;
+      pipe = 0;
+      last = 0;
+      depth = 0;
+      limits = record { iterations = pos 0; stages = pos 0; steps = pos 0; emits = pos 0 };
+    } };
+}
+
+/// The payload of a token in a hall: a machine for the code of `B`, the seat of its instance while it
+/// runs, and passes to the order lists.
+#[derive(Drop)]
+pub struct Carried<B: RunCode> {
+    /// The machine, unless it was taken out to run.
+    pub machine: Option<Machine>,
+    /// The seat of the instance while the token is out of the book.
+    pub seat: Option<RunSeat>,
+    /// The passes to the order lists.
+    pub passes: TwoPasses,
+    of: PhantomData<B>,
+}
+
+impl<B: RunCode> Carried<B> {
+    ghost use Rattle.pipe_engine.specs.CarriedMachines.{HasMachine};
+    ghost use Rattle.stage_interp.specs.MachineState.{IsMadeFor};
+
+    /// Returns a payload with a machine for this code. Returns an error only if memory runs out.
+    pub fn new(alloc: Global, code: &Code, passes: TwoPasses) -> Result<Self, NoMemory>
+        requires code { code.now ≡ B.code }
+        ensures machine { IfOk result (λ carried. HasMachine carried.machine (IsMadeFor B.code)) }
+        ensures seat { IfOk result (λ carried. carried.seat ≡ None) }
+        ensures passes { IfOk result (λ carried. carried.passes ≡ passes) }
+    {
+        Ok(Carried {
+            machine: Some(Machine::new(alloc, code)?),
+            seat: None,
+            passes,
+            of: PhantomData,
+        })
+    }
+
+    /// Takes the machine out, which must be there.
+    pub fn take_machine(&mut self) -> Machine
+        requires there { is_some self.old.machine ≡ true }
+        ensures machine { self.old.machine ≡ Some result }
+        ensures payload { self.new ≡ record self.old { machine = None } }
+    {
+        match self.machine.take() {
+            Some(machine) => machine,
+            None => unreachable!(),
+        }
+    }
+
+    /// Puts a machine in. One that was there is dropped.
+    pub fn put_machine(&mut self, machine: Machine)
+        ensures { self.new ≡ record self.old { machine = Some machine } }
+    {
+        self.machine = Some(machine);
+    }
+}
+
+impl<B: RunCode> Stands for Carried<B> {
+    ghost use Rattle.pipe_engine.specs.CarriedMachines.{CanRun, HasMachine, IsAtInstance, stands_whole};
+    ghost use Rattle.pipe_hall.specs.Lending.{tie_of};
+
+    ghost whole = { λ tree x. HasMachine x.machine (CanRun B.code tree) };
+
+    ghost stands = { λ tree input x i replies. HasMachine x.machine (λ m. IsAtInstance B.code tree input m i replies) };
+
+    ghost tie = { λ x. tie_of x.passes x.seat };
+
+    ghost stands_whole = { λ tree input x i replies h. stands_whole B.code tree input x.machine i replies h };
+}
+
+impl<B: RunCode> Payload<OmWriter> for Carried<B> {
+    fn begin(&mut self, iteration: u32) {
+        if let Some(machine) = &mut self.machine {
+            machine.reset(Part::Pipe, iteration);
+        }
+    }
+
+    fn started(&mut self, orders: &mut TwoOrders<OmWriter>) {
+        orders.confirm(&mut self.passes);
+    }
+}
+
+impl<B: RunCode> Carrier for Carried<B> {
+    ghost use Rattle.std.specs.Prelude.{refl};
+
+    ghost lists = { λ x. x.passes };
+
+    ghost seat = { λ x. x.seat };
+
+    ghost with_lists = { λ x l. record x { passes = l } };
+
+    ghost with_seat = { λ x s. record x { seat = s } };
+
+    fn take_seat(&mut self) -> Option<RunSeat> {
+        self.seat.take()
+    }
+
+    fn put_seat(&mut self, run: RunSeat) {
+        self.seat = Some(run);
+    }
+
+    fn passes(&mut self) -> &mut TwoPasses {
+        &mut self.passes
+    }
+
+    ghost tied = { λ x. refl };
+
+    ghost seat_is = { λ x s. (refl, refl) };
+
+    ghost lists_are = { λ x. refl };
+
+    ghost seat_whole = { λ tree x s h. h };
+
+    ghost seat_stands = { λ tree input x s i replies h. h };
+}
