@@ -1,0 +1,2 @@
+pub mod InstanceEnds
+pub mod NamedStages

@@ -1,0 +1,4 @@
+pub mod GivenTokens
+pub mod HeldInstances
+pub mod PreparedPrograms
+pub mod Workers

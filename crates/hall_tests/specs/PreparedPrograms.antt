@@ -1,0 +1,24 @@
+-- Programs that halls are opened for.
+use Rattle.std.specs.Prelude.{◌≡◌, ◌≤◌, ℕ, ℤ, List}
+use Rattle.pipe_engine.specs.CarriedMachines.{cells_of}
+use Rattle.pipe_frame.specs.Ties.{HallName}
+use Rattle.pipe_model.specs.Language.CheckingRules.{BreaksNoRule}
+use Rattle.pipe_model.specs.Language.SyntaxTree.{SyntaxTree}
+use Rattle.stage_code.specs.FlatCode.{FlatCode}
+use Rattle.stage_interp.specs.Standing.{IsCodeOf}
+
+-- a program that breaks no rule, with its code
+pub record IsPrepared (tree : SyntaxTree) (code : FlatCode) : Type 0 where
+  pub accepted : BreaksNoRule tree
+  pub code_of : IsCodeOf tree code
+
+-- the hall is of this program and input
+pub record IsHallOf (h : HallName) (tree : SyntaxTree) (input : List ℤ) : Type 0 where
+  pub tree_is : h.tree ≡ tree
+  pub input_is : h.input ≡ input
+
+-- machines for code `own` run the hall's program with this code and input
+pub record CanDrive (own : FlatCode) (h : HallName) (code : FlatCode) (input : List ℤ) : Type 0 where
+  pub code_is : code ≡ own
+  pub input_is : input ≡ h.input
+  pub few : cells_of h.tree ≤ 4294967296

@@ -1,0 +1,148 @@
+//! The program part: each iteration does what its program does, for the replies that it got.
+
+ghost use Rattle.std.specs.Prelude.{◌≡◌, ◌≤◌, IsTrue};
+ghost use Rattle.hall_tests.specs.PreparedPrograms.{IsPrepared};
+ghost use Rattle.pipe_frame.specs.StageEndCases.{NamesNextStage};
+ghost use Rattle.pipe_model.specs.Language.SyntaxTree.{tree_of};
+ghost use Rattle.pipe_model.specs.Pipelines.Behaviour.{Behaviour};
+ghost use Rattle.stage_interp.specs.MachineState.{IsMadeFor};
+ghost use Rattle.stage_interp.specs.Standing.{StandsFor};
+
+use crate::checker::recorded::Recorded;
+use crate::sources::Prepared;
+use pipe_model::access::Access;
+use pipe_model::column::ColumnEnd;
+use pipe_model::event::Event;
+use pipe_model::list::Numbers;
+use pipe_model::memory::NoMemory;
+use pipe_model::node::Kind;
+use pipe_model::stage::StageEnd;
+use stage_code::code::Code;
+use stage_code::instr::Part;
+use stage_interp::machine::Machine;
+use std::alloc::Global;
+
+// An action of one iteration.
+#[derive(Clone, Copy)]
+enum Action {
+    Access(Access),
+    End(StageEnd),
+}
+
+fn end_of(end: ColumnEnd) -> StageEnd {
+    match end {
+        ColumnEnd::End => StageEnd::End,
+        ColumnEnd::Closed => StageEnd::Closed,
+        ColumnEnd::Trapped(trap) => StageEnd::Trap(trap),
+    }
+}
+
+fn naming(kind: Kind, stage: i64) -> StageEnd {
+    match kind {
+        Kind::Wait => StageEnd::Wait(stage),
+        Kind::Continue | Kind::Zero => StageEnd::Continue(stage),
+    }
+}
+
+// The action that an event is, if it is one of this iteration.
+fn action_of(event: Event, iteration: u32) -> Option<Action> {
+    match event {
+        Event::Access(i, access) if i == iteration => Some(Action::Access(access)),
+        Event::Advance(i, kind, stage) if i == iteration => Some(Action::End(naming(kind, stage))),
+        Event::Finish(i, end) if i == iteration => Some(Action::End(end_of(end))),
+        _ => None,
+    }
+}
+
+// Whether the iteration goes on after an instance with this end.
+fn goes_on(end: StageEnd) -> bool
+    ensures { IsTrue result → NamesNextStage end }
+{
+    match end {
+        StageEnd::Wait(_) | StageEnd::Continue(_) => true,
+        StageEnd::End | StageEnd::Closed | StageEnd::Trap(_) | StageEnd::Stopped => false,
+    }
+}
+
+// Runs an instance over a memory that replies as in the log. Returns its end, and whether it has made
+// exactly these accesses. If it names a next stage, the machine is at the start of that.
+fn replay(
+    machine: &mut Machine,
+    code: &Code,
+    input: &Numbers,
+    cells: u32,
+    accesses: Vec<Access>,
+) -> (StageEnd, bool)
+    requires before { (t : Behaviour) × StandsFor code.now cells input.now machine.old.run t }
+    ensures { NamesNextStage result.0 → (t : Behaviour) × StandsFor code.now cells input.now machine.new.run t }
+{
+    let mut memory = Recorded::new(cells, accesses);
+    let end = machine.run_stage(code, input, &mut memory);
+    (end, memory.is_done())
+}
+
+// Whether the actions of an iteration in the log are those of its program, for the machine at the
+// start of the iteration.
+fn is_replayed(
+    alloc: Global,
+    machine: &mut Machine,
+    prepared: &Prepared,
+    events: &[Event],
+    iteration: u32,
+) -> Result<bool, NoMemory>
+    requires prepared { IsPrepared (tree_of prepared.now.checked) prepared.now.code }
+    requires made { IsMadeFor prepared.now.code machine.old }
+{
+    let cells = prepared.cells();
+    let Prepared {
+        checked: _,
+        code,
+        input,
+    } = prepared;
+    machine.reset(Part::Pipe, iteration);
+    let mut accesses = Vec::new(alloc);
+    for event in events {
+        match action_of(*event, iteration) {
+            None => {}
+            Some(Action::Access(access)) => accesses.push(access)?,
+            Some(Action::End(end)) => {
+                let these = accesses;
+                accesses = Vec::new(alloc);
+                let (own_end, done) = replay(machine, code, input, cells, these);
+                let same = own_end == end && done;
+                if !same || !goes_on(own_end) {
+                    return Ok(same);
+                }
+            }
+        }
+    }
+    Ok(false)
+}
+
+// How many iterations have begun.
+fn begun(events: &[Event]) -> u32 {
+    let mut begun = 0u32;
+    for event in events {
+        if let Event::Begin(_) = event {
+            begun = begun.saturating_add(1);
+        }
+    }
+    begun
+}
+
+/// Returns the first iteration that does not do, up to its end, what the program does.
+pub fn program_fault(
+    alloc: Global,
+    prepared: &Prepared,
+    events: &[Event],
+) -> Result<Option<u32>, NoMemory>
+    requires prepared { IsPrepared (tree_of prepared.now.checked) prepared.now.code }
+{
+    for iteration in 0..begun(events) {
+        let mut machine = Machine::new(alloc, &prepared.code)?;
+        if !is_replayed(alloc, &mut machine, prepared, events, iteration)? {
+            return Ok(Some(iteration));
+        }
+    }
+    Ok(None)
+}

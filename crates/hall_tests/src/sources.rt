@@ -1,0 +1,87 @@
+//! Sources, as programs with their code.
+
+ghost use Rattle.std.specs.Prelude.{◌≡◌, ◌≤◌, ◌+◌, IfOk};
+ghost use Rattle.hall_tests.specs.PreparedPrograms.{IsPrepared};
+ghost use Rattle.pipe_engine.specs.CarriedMachines.{cells_of};
+ghost use Rattle.pipe_model.specs.Language.CheckingRules.{BreaksNoRule, cell_total};
+ghost use Rattle.pipe_model.specs.Language.SyntaxTree.{tree_of};
+
+use pipe_check::checked::Checked;
+use pipe_check::program::check;
+use pipe_lexer::scan::tokens;
+use pipe_model::list::Numbers;
+use pipe_parser::parse::parse;
+use stage_code::code::Code;
+use stage_code::lower::lower;
+use std::alloc::Global;
+use std::test::Fail;
+
+/// Counts in stage 0, and adds up in stage 1, which waits. Cell 2 is `n`.
+pub const PREFIX_SUMS: &str = "limits iterations 8, stages 4, steps 100, emits 8; \
+    cell n = 0; cell s = 0; \
+    pipe_while (n < 3) { n = n + 1; let t = n; pipe_wait(1); s = s + t; emit s; }";
+
+/// Iterations 0 and 1 wait for no one. The first writes `f`, cell 3, in stage 1, and the second reads
+/// it in stage 0, so these two accesses race. Nothing else does.
+pub const RACING: &str = "limits iterations 2, stages 3, steps 50, emits 2; \
+    cell n = 0; cell f = 0; cell c = 0; pipe_while (n < 2) { n = n + 1; if (iter() == 0) { \
+    pipe_continue(1); f = 1; } else { if (f == 0) { pipe_continue(1); } pipe_continue(2); c = 1; } }";
+
+/// 64 iterations over 33 declared cells, from 2 to 34. Stage 1 waits, so its accesses to `a`, cells 3 to
+/// 18, are in order. Stage 2 does not: iterations with the same remainder race on their cell of
+/// `b`, which is 19 and the remainder.
+pub const MANY_CELLS: &str = "limits iterations 64, stages 3, steps 100, emits 0; \
+    cell n = 0; cell a[16] = 0; cell b[16] = 0; pipe_while (n < 64) { n = n + 1; \
+    pipe_wait(1); a[iter() % 16] = a[iter() % 16] + 1; pipe_continue(2); b[iter() % 16] = iter(); }";
+
+/// A program that is accepted, with its code, and an input without numbers.
+#[derive(Drop)]
+pub struct Prepared {
+    pub checked: Checked,
+    pub code: Code,
+    pub input: Numbers,
+}
+
+fn refused() -> Fail {
+    Fail::new(format_args!("the source is refused"))
+}
+
+// Returns the program of a source, or fails the test if the source is refused.
+fn accepted(alloc: Global, source: &[u8]) -> Result<Checked, Fail>
+    ensures { IfOk result (λ checked. BreaksNoRule (tree_of checked)) }
+{
+    let Ok(tokens) = tokens(alloc, source) else {
+        return Err(refused());
+    };
+    let Ok(parsed) = parse(alloc, source, &tokens) else {
+        return Err(refused());
+    };
+    let Ok(checked) = check(alloc, parsed.program) else {
+        return Err(refused());
+    };
+    Ok(checked)
+}
+
+/// Returns the program of a source with its code, or fails the test if the source is refused.
+pub fn prepare(alloc: Global, source: &str) -> Result<Prepared, Fail>
+    ensures { IfOk result (λ prepared. IsPrepared (tree_of prepared.checked) prepared.code) }
+{
+    let checked = accepted(alloc, source.as_bytes())?;
+    let code = lower(alloc, &checked)?;
+    Ok(Prepared {
+        checked,
+        code,
+        input: Numbers::new(alloc),
+    })
+}
+
+impl Prepared {
+    /// Returns the number of cells of the program.
+    pub fn cells(&self) -> u32
+        ensures count { result ≡ cells_of (tree_of self.now.checked) }
+        ensures all { cell_total (tree_of self.now.checked).cells + 2 ≤ result }
+        ensures few { result ≤ 65538 }
+    {
+        self.checked.cell_count()
+    }
+}

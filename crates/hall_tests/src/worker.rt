@@ -1,0 +1,181 @@
+//! Workers of a hall.
+
+ghost use Rattle.std.specs.Prelude.{◌≡◌};
+ghost use Rattle.hall_tests.specs.GivenTokens.{IsGivenIn};
+ghost use Rattle.hall_tests.specs.PreparedPrograms.{CanDrive};
+ghost use Rattle.hall_tests.specs.Workers.{IsWorkerOf};
+ghost use Rattle.pipe_hall.specs.WorkerSeats.{hall_name};
+
+use crate::instance::run_and_advance;
+use book_tests::play::Seen;
+use pipe_engine::carried::{Carried, RunCode};
+use pipe_frame::hall::Hall;
+use pipe_frame::results::{Begun, Next, Rescue};
+use pipe_frame::token::FrameToken;
+use pipe_hall::seat::HallSeat;
+use pipe_model::list::Numbers;
+use stage_code::code::Code;
+use std::alloc::Global;
+use std::sync::Wait;
+use std::thread::yield_now;
+
+/// A call of the hall; `u32` is an iteration. `Run` runs the instance of the worker's token, and ends
+/// it.
+#[derive(Clone, Copy, PartialEq, Eq, Debug)]
+pub enum Call {
+    Begin,
+    Run,
+    CheckRight(u32),
+    LeaveReady,
+    Rescue,
+}
+
+/// A worker's seat, and the token that the worker holds, if it holds one.
+#[derive(Drop)]
+pub struct Worker<'a, B: RunCode> {
+    pub seat: HallSeat<'a, Carried<B>>,
+    pub token: Option<FrameToken<Carried<B>>>,
+}
+
+impl<'a, B: RunCode> Worker<'a, B> {
+    // Holds a token of the hall.
+    fn hold(&mut self, token: FrameToken<Carried<B>>) -> Seen
+        requires { IsGivenIn B.code (hall_name self.old.seat.hall) token }
+        ensures { IsWorkerOf B.code (hall_name self.old.seat.hall) self.new.seat self.new.token }
+    {
+        let seen = Seen::Token(token.iteration, token.index);
+        self.token = Some(token);
+        seen
+    }
+
+    fn begin<R: Wait>(&mut self, rt: &R) -> Seen
+        requires { IsWorkerOf B.code (hall_name self.old.seat.hall) self.old.seat self.old.token }
+        ensures { IsWorkerOf B.code (hall_name self.old.seat.hall) self.new.seat self.new.token }
+    {
+        match self.seat.begin(rt) {
+            Begun::Started(token) => self.hold(token),
+            Begun::Throttled => Seen::Throttled,
+            Begun::Closed => Seen::Closed,
+            Begun::NotYet => Seen::NotYet,
+            Begun::Stopped => Seen::Stopped,
+        }
+    }
+
+    fn check_right<R: Wait>(&mut self, rt: &R, iteration: u32) -> Seen
+        requires { IsWorkerOf B.code (hall_name self.old.seat.hall) self.old.seat self.old.token }
+        ensures { IsWorkerOf B.code (hall_name self.old.seat.hall) self.new.seat self.new.token }
+    {
+        match self.seat.check_right(rt, iteration) {
+            Some(token) => self.hold(token),
+            None => Seen::Absent,
+        }
+    }
+
+    fn rescue<R: Wait>(&mut self, rt: &R) -> Seen
+        requires { IsWorkerOf B.code (hall_name self.old.seat.hall) self.old.seat self.old.token }
+        ensures { IsWorkerOf B.code (hall_name self.old.seat.hall) self.new.seat self.new.token }
+    {
+        match self.seat.rescue(rt) {
+            Rescue::Token(token) => self.hold(token),
+            Rescue::MayBegin => Seen::MayBegin,
+            Rescue::Nothing => Seen::Nothing,
+            Rescue::Finished => Seen::Finished,
+            Rescue::Stopped => Seen::Stopped,
+        }
+    }
+
+    fn leave_ready<R: Wait>(&mut self, rt: &R) -> Seen
+        requires { IsWorkerOf B.code (hall_name self.old.seat.hall) self.old.seat self.old.token }
+        ensures { IsWorkerOf B.code (hall_name self.old.seat.hall) self.new.seat self.new.token }
+    {
+        match self.token.take() {
+            Some(token) => {
+                self.seat.leave_ready(rt, token);
+                Seen::Done
+            }
+            None => Seen::Refused,
+        }
+    }
+
+    // Runs the instance of the token, and ends it.
+    fn run<R: Wait>(self, alloc: Global, rt: &R, code: &Code, input: &Numbers) -> (Self, Seen)
+        requires drives { CanDrive B.code (hall_name self.seat.hall) code.now input.now }
+        requires given { IsWorkerOf B.code (hall_name self.seat.hall) self.seat self.token }
+        ensures { IsWorkerOf B.code (hall_name self.entry.seat.hall) result.0.seat result.0.token }
+    {
+        let Worker { seat, token } = self;
+        let Some(token) = token else {
+            return (Worker { seat, token: None }, Seen::Refused);
+        };
+        let (seat, next) = run_and_advance(alloc, rt, code, input, seat, token);
+        match next {
+            Next::Go(token) => {
+                let seen = Seen::Token(token.iteration, token.index);
+                let token = Some(token);
+                (Worker { seat, token }, seen)
+            }
+            Next::Suspended => (Worker { seat, token: None }, Seen::Suspended),
+            Next::Ended => (Worker { seat, token: None }, Seen::Ended),
+            Next::Stopped => (Worker { seat, token: None }, Seen::Stopped),
+        }
+    }
+
+    /// Makes a call, and returns the worker and the result.
+    pub fn make<R: Wait>(
+        self,
+        alloc: Global,
+        rt: &R,
+        code: &Code,
+        input: &Numbers,
+        call: Call,
+    ) -> (Self, Seen)
+        requires drives { CanDrive B.code (hall_name self.seat.hall) code.now input.now }
+        requires given { IsWorkerOf B.code (hall_name self.seat.hall) self.seat self.token }
+        ensures { IsWorkerOf B.code (hall_name self.entry.seat.hall) result.0.seat result.0.token }
+    {
+        let mut worker = self;
+        let seen = match call {
+            Call::Begin => worker.begin(rt),
+            Call::Run => return worker.run(alloc, rt, code, input),
+            Call::CheckRight(iteration) => worker.check_right(rt, iteration),
+            Call::LeaveReady => worker.leave_ready(rt),
+            Call::Rescue => worker.rescue(rt),
+        };
+        (worker, seen)
+    }
+}
+
+// The call that a worker makes after a result.
+fn next_call(seen: Seen) -> Call {
+    match seen {
+        Seen::Token(_, _) => Call::Run,
+        Seen::MayBegin => Call::Begin,
+        _ => Call::Rescue,
+    }
+}
+
+/// Runs instances until the run is finished or stopped.
+pub fn work<'a, R: Wait, B: RunCode>(
+    alloc: Global,
+    rt: &R,
+    code: &Code,
+    input: &Numbers,
+    seat: HallSeat<'a, Carried<B>>,
+) -> HallSeat<'a, Carried<B>>
+    requires drives { CanDrive B.code (hall_name seat.hall) code.now input.now }
+    ensures hall { hall_name result.hall ≡ hall_name seat.entry.hall }
+{
+    let mut worker = Worker { seat, token: None };
+    let mut seen = Seen::Nothing;
+    for _ in rt.forever() {
+        let (after, result) = worker.make(alloc, rt, code, input, next_call(seen));
+        worker = after;
+        seen = result;
+        match seen {
+            Seen::Finished | Seen::Stopped => return worker.seat,
+            Seen::Nothing => yield_now(),
+            _ => {}
+        }
+    }
+    unreachable!()
+}
