@@ -16,9 +16,10 @@ use Rattle.frame_book.specs.BookStates.{BookState}
 use Rattle.program_laws.specs.DeclaredCells.{IsInside, cell_count}
 use Rattle.run_record.specs.MergedLogs.{AreMerged, BookRises, ShardRises}
 use Rattle.hall_laws.specs.ClosedHalls.{ClosedHall, IsSoundBook, NoTokenIsOut}
-use Rattle.hall_laws.specs.HallReports.{AreFound, HaveNotedEntries, found_in_slots}
+use Rattle.hall_laws.specs.HallReports.{AreFound, HaveNotedEntries}
 use Rattle.hall_laws.specs.HallRuns.{IsRunOfHall}
 use Rattle.pipe_hall.specs.Closing.{EndedHall, StopIsLast, shard_in}
+use Rattle.pipe_hall.specs.FoundRaces.{found_in_slots}
 use Rattle.pipe_hall.specs.SeatViews.{ShardValue, start_of}
 use Rattle.pipe_hall.specs.ShardParts.{history_at}
 
@@ -30,7 +31,7 @@ logs_of shards = map (λ (x : ShardValue). x.log) shards
 abbrev pub history_of : List ShardValue → ℕ → History
 history_of shards c = history_at (shard_in shards (c % 16)).histories (c / 16)
 
--- what the histories of a shard report, slot by slot
+-- what `Shard::found` returns
 abbrev pub found_in : ShardValue → List (CellId × Found)
 found_in x = found_in_slots 16 x.number 0 x.histories
 

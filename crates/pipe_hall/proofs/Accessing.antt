@@ -1,5 +1,5 @@
 -- Accesses in the cells of a shard.
-use Rattle.std.proofs.Common.{◌≡◌, ◌≢◌, ℕ, ℤ, zero, suc, get_or, ◌+◌, ◌<◌, ◌≤◌, ◌%◌, ◌/◌, ◌⊎◌, inl, inr, drop, IfSome, IfNone, List, [], ◌∷◌, ◌++◌, length, max, refl, sym, ap, ap₂, ◌∙◌, ◌↔◌, subst, arith, Option, Some, None, true, false, Result, Ok, Err, OnOk}
+use Rattle.std.proofs.Common.{◌≡◌, ℕ, ℤ, zero, suc, get_or, ◌+◌, ◌<◌, ◌%◌, ◌/◌, ◌⊎◌, inl, inr, drop, IfSome, IfNone, List, [], ◌∷◌, ◌++◌, length, refl, sym, ap, ap₂, ◌∙◌, ◌↔◌, subst, arith, Option, Some, None, true, false, Result, Ok, Err, OnOk}
 use Rattle.std.specs.Result.{is_err}
 use Rattle.std.proofs.lemmas.List.{length-append}
 use Rattle.pipe_model.specs.declared.access.Access.{Access}
@@ -9,7 +9,6 @@ use Rattle.pipe_model.specs.declared.marks.Marks.{Marks}
 use Rattle.pipe_model.specs.Orders.GrowingLists.{AreIn, KeepsOrder}
 use Rattle.pipe_model.specs.Orders.OrderList.{IsLog, StandsBefore, list_of_log}
 use Rattle.pipe_model.specs.Pipelines.Behaviour.{write_access}
-use Rattle.pipe_model.specs.Pipelines.Store.{InitialStore}
 use Rattle.pipe_frame.specs.HallViews.{BeginsWith}
 use Rattle.pipe_model.specs.declared.ticket.Entry.{Entry}
 use Rattle.pipe_model.specs.declared.ticket.ShardEntry.{ShardEntry}
@@ -23,7 +22,6 @@ use Rattle.run_laws.proofs.ListOrders.LongerLogs.{longer_logs_keep_the_order}
 use Rattle.access_history.specs.declared.history.History.{History}
 use Rattle.access_history.specs.declared.history.Who.{Who}
 use Rattle.access_history.specs.KeptInstances.{KeptAreIn}
-use Rattle.cell_store.specs.ShardState.{IsStateAfter, IsOfShard, ShardState}
 use Rattle.pipe_hall.specs.SeatViews.{HallConstants, InstanceData, SeatView, ShardValue, constants_of}
 use Rattle.pipe_hall.specs.Logs.{entry_of}
 use Rattle.pipe_hall.specs.Steps.{ShardSnapshot, after_entries, after_log}

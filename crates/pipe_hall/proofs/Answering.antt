@@ -1,82 +1,25 @@
--- What the calls of a seat owe, over plain data.
-use Rattle.std.proofs.Common.{◌≡◌, ℕ, ℤ, List, [], ◌∷◌, ◌++◌, length, refl, sym, ap, ap₂, ◌∙◌, subst, Option, Some, None}
+-- Names of halls, and the seats and payloads of instances, over plain data.
+use Rattle.std.proofs.Common.{◌≡◌, ℕ, ℤ, List, [], ◌∷◌, refl, sym, ap, ap₂, ◌∙◌, subst, Option, Some, None}
 use Rattle.atomic_table.specs.Seated.{TableId}
 use Rattle.atomic_table.specs.Table.{Me}
-use Rattle.pipe_model.specs.declared.event.Event.{Event}
 use Rattle.pipe_model.specs.Language.SyntaxTree.{SyntaxTree, tree_of}
 use Rattle.pipe_model.specs.Runs.ControlRun.{ControlRun}
 use Rattle.pipe_model.specs.Runs.RunLogs.{state_after}
-use Rattle.pipe_model.specs.Runs.State.{State}
-use Rattle.pipe_frame.specs.HallViews.{BeginsWith, Sees}
-use Rattle.pipe_frame.specs.Ties.{BelongsTo, HallName, InstanceSeat, KnowsMarks, SeenLists, Tie, AreSeenLists, AreSeen}
+use Rattle.pipe_frame.specs.Ties.{HallName, InstanceSeat, SeenLists, Tie, AreSeenLists, AreSeen}
 use Rattle.pipe_frame.specs.TokenFields.{TokenFields, fields_of}
 use Rattle.pipe_frame.specs.declared.token.FrameToken.{FrameToken}
-use Rattle.frame_book.specs.BookStates.{BookState, events_of, replies_at, state_of}
+use Rattle.frame_book.specs.BookStates.{BookState, replies_at}
 use Rattle.frame_book.specs.GivenTokens.{IsGivenBy}
-use Rattle.pipe_hall.specs.SeatViews.{HallConstants, InstanceData, SeatView, SlotValue, TheBook, constants_of}
+use Rattle.pipe_hall.specs.SeatViews.{HallConstants, InstanceData, constants_of}
 use Rattle.pipe_hall.specs.HallRule.{view_of}
 use Rattle.pipe_frame.specs.SeatedTokens.{IsGivenToken, IsSeated, entries_of_seat, replies_of_seat, seated_entries, seated_replies}
-use Rattle.pipe_hall.specs.WorkerSeats.{HallId, HoldsBook, IsIdle, IsSameHall, StaysIdle, name_of, numbers_of}
+use Rattle.pipe_hall.specs.WorkerSeats.{HallId, IsIdle, IsSameHall, name_of, numbers_of}
 use Rattle.pipe_hall.specs.InstanceSeats.{badge_view, seat_of}
 use Rattle.pipe_hall.specs.Lending.{seat_in, tie_of}
-use Rattle.pipe_hall.specs.Steps.{BookSnapshot, ViewAndSlots, after_book, holding, new_instance, with_longer, with_run, worker_seat}
+use Rattle.pipe_hall.specs.Steps.{ViewAndSlots, new_instance, with_longer, worker_seat}
 use Rattle.pipe_hall.specs.declared.run_seat.RunSeat.{RunSeat}
 use Rattle.pipe_hall.specs.declared.view.View.{View}
 use Rattle.pipe_hall.specs.declared.slot.Slot.{Slot}
-use Rattle.pipe_hall.specs.declared.slot.Slot.TheVariants as slots
-
--- ---- the seat of a worker
-
-module _ (M : Type 0) (m0 m1 : ViewAndSlots M) (b : BookState) (taken : m1 ≡ (view_of (holding m0.0.it 0 (TheBook b)), (0, slots.Out) ∷ m0.1)) where
-  pub holds : (back : Option InstanceData) → m0.1 ≡ [] → m0.0.it.held ≡ [] → m0.0.it.run ≡ back → HoldsBook m1 b back
-  holds back empty held run = record {
-    slots = ap (λ (k : ViewAndSlots M). k.1) taken ∙ ap (λ cs. (0, slots.Out) ∷ cs) empty;
-    held = ap (λ (k : ViewAndSlots M). k.0.it.held) taken ∙ ap (λ hs. (0, TheBook b) ∷ hs) held;
-    run = ap (λ (k : ViewAndSlots M). k.0.it.run) taken ∙ run;
-  }
-
-  pub constants_taken : m1.0.it.constants ≡ Some (constants_of b)
-  constants_taken = ap (λ (k : ViewAndSlots M). k.0.it.constants) taken
-
-  -- a worker that has given the book back
-  pub stays_idle : (m2 : ViewAndSlots M) (c : BookState) (a : HallConstants) → m2 ≡ (view_of (after_book m1.0.it c None), []) → m0.0.it.constants ≡ Some a → a ≡ constants_of b
-      → ControlRun b.limit (events_of c.log) (state_of c) → StaysIdle m0 m2
-  stays_idle m2 c a given knows same control =
-      let constants : m2.0.it.constants ≡ Some (constants_of b) = ap (λ (k : ViewAndSlots M). k.0.it.constants) given ∙ constants_taken in
-      record {
-        idle = record {
-          constants = constants_of b;
-          knows = constants;
-          control = subst (λ es. ControlRun b.limit es (state_after es)) (sym (ap (λ (k : ViewAndSlots M). k.0.it.seen) given)) control;
-          run = ap (λ (k : ViewAndSlots M). k.0.it.run) given;
-          held = ap (λ (k : ViewAndSlots M). k.0.it.held) given;
-          slots = ap (λ (k : ViewAndSlots M). k.1) given;
-        };
-        constants = constants ∙ (ap (λ x. Some x) (sym same) ∙ sym knows);
-      }
-
-  pub seen_after : (m2 : ViewAndSlots M) (c : BookState) → m2 ≡ (view_of (after_book m1.0.it c None), []) → m2.0.it.seen ≡ events_of c.log
-  seen_after m2 c given = ap (λ (k : ViewAndSlots M). k.0.it.seen) given
-
--- the control run of a book that a call has left as it was
-pub control_same : (b c : BookState) → c ≡ b → ControlRun b.limit (events_of b.log) (state_of b) → ControlRun b.limit (events_of c.log) (state_of c)
-control_same b c e h = subst (λ (x : BookState). ControlRun b.limit (events_of x.log) (state_of x)) (sym e) h
-
--- and of one of the same limit, or with the same log
-pub control_within : (b c : BookState) → c.limit ≡ b.limit → ControlRun c.limit (events_of c.log) (state_of c) → ControlRun b.limit (events_of c.log) (state_of c)
-control_within b c e h = subst (λ n. ControlRun n (events_of c.log) (state_of c)) e h
-
-pub control_of_log : (b c : BookState) → c.log ≡ b.log → ControlRun b.limit (events_of b.log) (state_of b) → ControlRun b.limit (events_of c.log) (state_of c)
-control_of_log b c e h = subst (λ l. ControlRun b.limit (events_of l) (state_after (events_of l))) (sym e) h
-
--- the name of the hall, by the book
-pub name_is : (z : TableId) (o : Option HallConstants) (a : HallConstants) (b : BookState) → o ≡ Some a → a ≡ constants_of b → name_of z o ≡ name_of z (Some (constants_of b))
-name_is z o a b knows same = ap (name_of z) (knows ∙ ap (λ x. Some x) same)
-
--- what a call has seen
-pub sees_of : (before after own : List Event) (b c : BookState) (Returns : State → Type 0) → BeginsWith (events_of b.log) before → after ≡ events_of c.log → events_of c.log ≡ events_of b.log ++ own → Returns (state_of b)
-    → Sees before after own Returns
-sees_of before after own b c Returns later seen adds r = record { base = events_of b.log; later = later; adds = seen ∙ adds; returns = r }
 
 -- ---- names of halls
 
@@ -97,13 +40,6 @@ name_hall z (Some a) = refl
 
 pub same_table : (g h : HallId) → IsSameHall g h → g.table ≡ h.table
 same_table g h e = numbers_same g.table h.table (sym (name_hall g.table g.constants) ∙ (e ∙ name_hall h.table h.constants))
-
--- the seat of a worker that has taken in that of an instance
-pub stays_with : (M : Type 0) (m0 m1 m2 : ViewAndSlots M) (w : SeatView) → m1 ≡ (view_of (with_run m0.0.it w), m0.1) → StaysIdle m1 m2 → StaysIdle m0 m2
-stays_with M m0 m1 m2 w e h = record {
-  idle = h.idle;
-  constants = h.constants ∙ ap (λ (k : ViewAndSlots M). k.0.it.constants) e;
-}
 
 -- ---- tokens
 

@@ -1,21 +1,19 @@
 -- The locks and the seats of the table: what each kind of step keeps.
-use Rattle.std.proofs.Common.{◌≡◌, ◌≢◌, ℕ, zero, suc, ◌+◌, ◌<◌, ◌≤◌, List, [], ◌∷◌, ◌++◌, length, get_or, set, drop, refl, sym, ap, ◌∙◌, subst, arith, ◌⊎◌, ⊎_elim, inl, inr, cond, eq-eqb, ne_eqb, append_assoc, append-nil, length-set, get_or-set_same, get_or-set_other, Option, Some, None}
+use Rattle.std.proofs.Common.{◌≡◌, ◌≢◌, ℕ, zero, suc, ◌<◌, List, [], ◌∷◌, ◌++◌, length, get_or, set, drop, refl, sym, ap, ◌∙◌, subst, arith, ◌⊎◌, ⊎_elim, inl, inr, cond, eq-eqb, ne_eqb, append_assoc, append-nil, length-set, get_or-set_same, Option, Some, None}
 use mathlib.Core.Option.{none, some, some-injective, some-ne-none}
 use mathlib.Core.Logic.{dite}
 use native.Mathlib.Decide.{ℕ_discrete}
 use lib.ListN.{get_elem?}
-use Rattle.atomic_table.specs.Table.{State, Me, Act, step, keeps, takes, gives, stepped, rest, opening, Allows, Splits, Joins}
-use Rattle.atomic_table.proofs.Lists.{at_set, at_snoc, set_here, set_else, set_again, at_longer, at_last}
-use Rattle.pipe_model.specs.declared.access.Access.{Access}
-use Rattle.pipe_model.specs.declared.event.Event.{Event}
+use Rattle.atomic_table.specs.Table.{State, rest}
+use Rattle.atomic_table.proofs.Lists.{at_set, set_here, set_else, set_again, at_longer, at_last}
 use Rattle.pipe_model.specs.Races.DeterminacyRaces.{Among, Here, Later}
 use Rattle.pipe_model.proofs.Members.{none_among}
 use Rattle.pipe_frame.specs.HallViews.{BeginsWith}
 use Rattle.frame_book.specs.BookStates.{BookState, events_of}
-use Rattle.pipe_hall.specs.SeatViews.{HallConstants, InstanceData, SeatView, ShardValue, SlotValue, TheBook, TheShard, constants_of, nothing_known}
+use Rattle.pipe_hall.specs.SeatViews.{HallConstants, InstanceData, SeatView, ShardValue, SlotValue, constants_of, nothing_known}
 use Rattle.pipe_hall.specs.Logs.{with_at}
 use Rattle.pipe_hall.specs.HallRule.{Board, IsPlaced, IsRightView, slot_of, value_at, view_of}
-use Rattle.pipe_hall.specs.Steps.{ViewAndSlots, holding, constants_after, without_run, run_seat, worker_seat, with_run, joined}
+use Rattle.pipe_hall.specs.Steps.{holding, constants_after, without_run, run_seat, worker_seat, with_run, joined}
 use Rattle.pipe_hall.specs.declared.view.View.{View}
 use Rattle.pipe_hall.specs.declared.slot.Slot.{Slot}
 

@@ -1,5 +1,5 @@
 -- A call on the book keeps what is known of the book, of the seats and of the shards.
-use Rattle.std.proofs.Common.{◌≡◌, ◌≢◌, ℕ, zero, suc, ◌+◌, ◌*◌, ◌^◌, ◌<◌, ◌≤◌, ◌==◌, List, [], ◌∷◌, ◌++◌, map, length, get_or, refl, sym, ap, ◌∙◌, subst, arith, cond, Bool, true, false, Option, Some, None, IfSome}
+use Rattle.std.proofs.Common.{◌≡◌, ◌≢◌, ℕ, zero, suc, ◌+◌, ◌*◌, ◌≤◌, ◌==◌, List, [], ◌∷◌, ◌++◌, map, length, get_or, refl, sym, ap, ◌∙◌, subst, arith, cond, Option, Some, None, IfSome}
 use Rattle.std.proofs.lemmas.List.{length-append}
 use mathlib.Core.Logic.{dite}
 use native.Mathlib.Decide.{ℕ_discrete}
@@ -14,20 +14,19 @@ use Rattle.pipe_model.specs.Orders.GrowingLists.{AreIn}
 use Rattle.pipe_model.specs.Pipelines.Store.{InitialStore}
 use Rattle.pipe_model.specs.Races.DeterminacyRaces.{Among}
 use Rattle.pipe_model.specs.Runs.TicketLogs.{start_tickets, ticket_at}
-use Rattle.pipe_model.specs.Runs.TicketOrder.{start_ticket_of, end_ticket_of}
+use Rattle.pipe_model.specs.Runs.TicketOrder.{start_ticket_of}
 use Rattle.pipe_frame.specs.Replies.{replies_of}
 use Rattle.pipe_frame.specs.Ties.{SeenLists}
-use Rattle.pipe_frame.specs.TokenFields.{TokenFields}
 use Rattle.run_laws.proofs.LogMerge.InstanceTickets.{start_tickets-append}
 use Rattle.access_history.specs.declared.history.History.{History}
 use Rattle.access_history.specs.declared.history.Who.{Who}
 use Rattle.access_history.specs.KeptInstances.{AgreeOn, AllKept}
-use Rattle.frame_book.specs.BookStates.{BookState, IsOut, Spent, item_or, timed_access}
-use Rattle.pipe_hall.specs.SeatViews.{HallConstants, InstanceData, ShardValue, constants_of}
-use Rattle.pipe_hall.specs.Logs.{book_trace, trace_by, of_shard, with_at}
+use Rattle.frame_book.specs.BookStates.{BookState, IsOut, item_or, timed_access}
+use Rattle.pipe_hall.specs.SeatViews.{HallConstants, InstanceData, ShardValue}
+use Rattle.pipe_hall.specs.Logs.{trace_by, of_shard, with_at}
 use Rattle.pipe_hall.specs.BookParts.{HasSeats, IsTimelyToken, KnowsInstance, IsTimelyTrace, StartedBy, marks_in}
-use Rattle.pipe_hall.specs.ShardParts.{AgreeOnLog, down_list, right_list, HasShard, IsCellHistory, IsOfLog, IsShardOf, history_at, who_of}
-use Rattle.pipe_hall.specs.BookCalls.{IsIterationAfter, IsBookCall, LeavesOthers}
+use Rattle.pipe_hall.specs.ShardParts.{down_list, right_list, HasShard, IsCellHistory, IsOfLog, IsShardOf, history_at, who_of}
+use Rattle.pipe_hall.specs.BookCalls.{IsIterationAfter, IsBookCall}
 use Rattle.pipe_hall.proofs.Boards.{with_here, with_else}
 
 -- ---- tickets of a longer log

@@ -1,11 +1,11 @@
 -- Taking everything.
 use mathlib.Core.Logic.{dite}
 use native.Mathlib.Decide.{ℕ_discrete}
-use Rattle.std.proofs.Common.{◌≡◌, ℕ, zero, suc, ◌+◌, ◌<◌, ◌≤◌, ◌^◌, List, [], ◌∷◌, ◌++◌, length, get_or, set, length-set, get_or-set_same, refl, sym, ap, ◌∙◌, subst, arith, ⊎_elim, Option, Some, ◌↔◌}
+use Rattle.std.proofs.Common.{◌≡◌, ℕ, zero, suc, ◌+◌, ◌<◌, ◌≤◌, ◌^◌, List, [], ◌∷◌, ◌++◌, length, set, length-set, get_or-set_same, refl, sym, ap, ◌∙◌, subst, arith, Option, ◌↔◌}
 use Rattle.std.proofs.lemmas.List.{length-append}
 use Rattle.pipe_model.specs.Races.DeterminacyRaces.{Among, Here, Later}
 use Rattle.frame_book.specs.BookStates.{BookState, events_of}
-use Rattle.pipe_hall.specs.SeatViews.{HallStart, InstanceData, SeatView, ShardValue, SlotValue, TheBook, TheShard}
+use Rattle.pipe_hall.specs.SeatViews.{HallStart, InstanceData, SeatView, ShardValue, TheBook, TheShard}
 use Rattle.pipe_model.specs.declared.access.Access.{Access}
 use Rattle.pipe_model.specs.Orders.OrderList.{StandsBefore, list_of_log}
 use Rattle.pipe_model.specs.Orders.Starts.{starts_of}
@@ -15,7 +15,6 @@ use Rattle.pipe_hall.specs.BookParts.{marks_in}
 use Rattle.pipe_hall.specs.ShardParts.{HasShard}
 use Rattle.pipe_hall.specs.Closing.{EndedHall, HasHistories, HasLearned, HasSeenAll, no_shard, shard_in}
 use Rattle.pipe_hall.specs.Steps.{ClosedHall, HoldsAll, holding}
-use Rattle.pipe_hall.specs.Accesses.{GrowLists}
 use Rattle.pipe_model.specs.declared.event.Event.{Event}
 use Rattle.pipe_model.specs.Language.Programs.{store_of}
 use Rattle.pipe_model.specs.Language.SyntaxTree.{tree_of}

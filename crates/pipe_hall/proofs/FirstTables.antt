@@ -1,5 +1,5 @@
 -- A new hall obeys the rule.
-use Rattle.std.proofs.Common.{◌≡◌, ◌≢◌, ℕ, ℤ, zero, suc, ◌+◌, ◌*◌, ◌<◌, ◌≤◌, List, [], ◌∷◌, ◌++◌, get_or, length, map, refl, sym, ap, ◌∙◌, subst, arith, Option, Some, None, append-nil, replicate}
+use Rattle.std.proofs.Common.{◌≡◌, ℕ, ℤ, zero, suc, ◌+◌, ◌*◌, ◌<◌, List, [], ◌∷◌, ◌++◌, get_or, length, map, refl, sym, ap, ◌∙◌, subst, arith, Option, Some, None, append-nil, replicate}
 use mathlib.Core.Logic.{dite}
 use native.Mathlib.Decide.{ℕ_discrete}
 use Rattle.pipe_hall.proofs.Closing.{at_end_is, at_more}
@@ -25,7 +25,7 @@ use Rattle.pipe_model.specs.Races.DeterminacyRaces.{Among}
 use Rattle.pipe_hall.specs.Logs.{accesses_of, noted_to, of_node}
 use Rattle.pipe_hall.specs.HallRule.{Board, IsHall, IsRightView, first_view, slot_of, value_at}
 use Rattle.pipe_hall.specs.BookParts.{HasSeats, marks_in}
-use Rattle.pipe_hall.specs.ShardParts.{HasShard, HaveIdentities, IsCellHistory, IsShardOf, history_at, last_of}
+use Rattle.pipe_hall.specs.ShardParts.{HasShard, HaveIdentities, IsCellHistory, last_of}
 use Rattle.pipe_hall.specs.NewShards.{IsNewShard, shard_slots}
 use Rattle.pipe_hall.specs.Closing.{shard_in}
 use Rattle.pipe_hall.specs.declared.slot.Slot.TheVariants as slots

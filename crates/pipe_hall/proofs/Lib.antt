@@ -4,7 +4,9 @@ pub mod CallEffects
 pub mod Sharding
 pub mod Steps
 pub mod BookCalls
+pub mod EndingCalls
 pub mod Seating
+pub mod TakenBooks
 pub mod Answering
 pub mod Rescuing
 pub mod Accessing

@@ -1,11 +1,10 @@
 -- The iterations that were left ready, as a list.
-use Rattle.std.proofs.Common.{◌≡◌, ◌+◌, ◌<◌, ◌⊎◌, ⊎_elim, inl, inr, ℕ, zero, suc, List, [], ◌∷◌, ◌++◌, length, get_or, refl, sym, ap, ◌∙◌, subst, arith, Bool, true, false, cond, Option, Some, None, ◌↔◌, Contains}
+use Rattle.std.proofs.Common.{◌≡◌, ◌<◌, ⊎_elim, inl, inr, ℕ, zero, suc, List, [], ◌∷◌, ◌++◌, length, get_or, refl, sym, ap, ◌∙◌, subst, arith, Bool, true, false, cond, Option, Some, None, Contains}
 use Rattle.std.proofs.lemmas.Bool.{cases_lt}
 use Rattle.pipe_model.specs.declared.status.Status.{Status}
 use Rattle.pipe_model.specs.declared.status.Status.TheVariants.{Running, Pending, Completed}
-use Rattle.pipe_model.specs.Runs.Allowed.{IsRunning, MayBegin, MayEnter}
 use Rattle.pipe_model.specs.Runs.State.{Frame, State, frame_at}
-use Rattle.pipe_frame.specs.CallResults.{CanGoOn, IsFirstToGoOn, RescueReturns, rescue_events}
+use Rattle.pipe_frame.specs.CallResults.{RescueReturns, rescue_events}
 use Rattle.pipe_frame.specs.TokenFields.{TokenFields}
 use Rattle.pipe_frame.specs.declared.results.Rescue.{Rescue}
 use Rattle.pipe_frame.specs.declared.results.Rescue.TheVariants as rescue

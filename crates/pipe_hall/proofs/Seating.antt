@@ -1,14 +1,14 @@
 -- Facts for the functions that step on the table.
-use Rattle.std.proofs.Common.{◌≡◌, ◌+◌, ◌<◌, arith, zero, suc, ℕ, List, [], ◌∷◌, refl, sym, ap, ◌∙◌, subst, Bool, true, false, Option, Some, None}
+use Rattle.std.proofs.Common.{◌≡◌, ◌+◌, arith, ℕ, List, [], ◌∷◌, refl, sym, ap, ◌∙◌, true, false, Option, Some, None}
 use Rattle.atomic_table.specs.Table.{rest}
 use Rattle.atomic_table.specs.Seated.{TableId}
 use Rattle.pipe_hall.specs.declared.run_seat.RunSeat.{RunSeat}
 use Rattle.frame_book.specs.BookStates.{BookState}
 use Rattle.pipe_frame.specs.declared.token.FrameToken.{FrameToken}
 use Rattle.pipe_hall.specs.SeatViews.{HallConstants, InstanceData, SeatView, ShardValue, SlotValue, TheBook, TheShard}
-use Rattle.pipe_hall.specs.HallRule.{slot_of, view_of}
-use Rattle.pipe_hall.specs.InstanceSeats.{badge_view, is_instance_badge, is_instance_view}
-use Rattle.pipe_hall.specs.Steps.{BookSnapshot, ViewAndSlots, ShardSnapshot, IsSnapshot}
+use Rattle.pipe_hall.specs.HallRule.{slot_of}
+use Rattle.pipe_hall.specs.InstanceSeats.{is_instance_badge, is_instance_view}
+use Rattle.pipe_hall.specs.Steps.{ViewAndSlots, IsSnapshot}
 use Rattle.pipe_hall.specs.declared.view.View.{View}
 use Rattle.pipe_hall.specs.declared.slot.Slot.{Slot}
 use Rattle.pipe_hall.specs.declared.slot.Slot.TheVariants as slots

@@ -1,36 +1,33 @@
 -- An access keeps what is known of the book, of the seats and of the shards.
-use Rattle.std.proofs.Common.{◌≡◌, ◌≢◌, ℕ, zero, suc, ◌+◌, ◌-◌, ◌*◌, ◌/◌, ◌%◌, ◌^◌, ◌<◌, ◌≤◌, ◌==◌, ◌&&◌, ◌⊎◌, ⊎_elim, inl, inr, max, List, [], ◌∷◌, ◌++◌, map, length, get_or, drop, refl, sym, ap, ap₂, ◌∙◌, subst, arith, cond, eqb, eq-eqb, ne_eqb, Bool, true, false, Option, Some, None, IfSome, append_assoc, append-nil}
-use Rattle.std.proofs.lemmas.List.{length-append, map-append}
+use Rattle.std.proofs.Common.{◌≡◌, ◌≢◌, ℕ, ◌+◌, ◌*◌, ◌/◌, ◌%◌, ◌^◌, ◌<◌, ◌≤◌, ◌==◌, ◌&&◌, ◌⊎◌, ⊎_elim, inl, inr, List, [], ◌∷◌, ◌++◌, map, get_or, refl, sym, ap, ap₂, ◌∙◌, subst, arith, cond, eq-eqb, ne_eqb, Bool, true, false, Option, Some, None, IfSome, append_assoc}
+use Rattle.std.proofs.lemmas.List.{map-append}
 use Rattle.std.proofs.lemmas.List.Quantifiers.{all_pairs_push}
 use mathlib.Core.Logic.{dite}
 use native.Mathlib.Decide.{ℕ_discrete}
 use Rattle.pipe_model.specs.declared.access.Access.{Access}
 use Rattle.pipe_model.specs.declared.marks.Marks.{Marks}
 use Rattle.pipe_model.specs.declared.node.NodeId.{NodeId}
-use Rattle.pipe_model.specs.declared.ticket.BookEntry.{BookEntry}
 use Rattle.pipe_model.specs.declared.ticket.Entry.{Entry}
 use Rattle.pipe_model.specs.declared.ticket.ShardEntry.{ShardEntry}
 use Rattle.pipe_model.specs.Language.Programs.{store_of}
 use Rattle.pipe_model.specs.Language.SyntaxTree.{tree_of}
-use Rattle.pipe_model.specs.Orders.GrowingLists.{AreIn, KeepsOrder}
+use Rattle.pipe_model.specs.Orders.GrowingLists.{AreIn}
 use Rattle.pipe_model.specs.Orders.Starts.{IsStarted, starts_of}
 use Rattle.pipe_model.specs.Pipelines.Store.{HasReply, InitialStore}
-use Rattle.pipe_model.specs.Races.CellRaces.{NotedAccess, noted_access, accesses_to}
+use Rattle.pipe_model.specs.Races.CellRaces.{noted_access}
 use Rattle.pipe_model.specs.Races.Columns.{at}
 use Rattle.pipe_model.specs.Races.DeterminacyRaces.{Among, Here, Later}
 use Rattle.pipe_model.specs.Runs.TicketLogs.{TimedAction, TicketsRise}
 use Rattle.pipe_model.specs.Runs.TicketOrder.{start_ticket_of}
 use Rattle.pipe_model.proofs.Members.{among_left, among_right, among_either, among_at, none_among, only_one}
-use Rattle.pipe_frame.specs.TokenFields.{TokenFields}
 use Rattle.pipe_frame.specs.Ties.{SeenLists}
-use Rattle.access_history.specs.declared.history.History.{History}
 use Rattle.access_history.specs.declared.history.Who.{Who}
-use Rattle.access_history.specs.KeptInstances.{AgreeOn, AllKept, IsEither, IsHistoryAfter, KeepsAmong}
+use Rattle.access_history.specs.KeptInstances.{AgreeOn, IsEither, IsHistoryAfter}
 use Rattle.cell_store.specs.ShardState.{IsStateAfter}
-use Rattle.frame_book.specs.BookStates.{BookState, IsOut, Spent, events_of, item_or, timed_access}
+use Rattle.frame_book.specs.BookStates.{BookState, events_of, timed_access}
 use Rattle.pipe_hall.specs.SeatViews.{InstanceData, ShardValue}
-use Rattle.pipe_hall.specs.Logs.{accesses_of, book_trace, entry_of, node_access, noted_to, of_node, of_shard, trace_by, with_at}
-use Rattle.pipe_hall.specs.Accesses.{GrowLists, IsAccessed, IsNoted}
+use Rattle.pipe_hall.specs.Logs.{accesses_of, book_trace, entry_of, noted_to, of_node, of_shard, trace_by, with_at}
+use Rattle.pipe_hall.specs.Accesses.{GrowLists, IsAccessed}
 use Rattle.pipe_hall.specs.BookParts.{HasSeats, KnowsInstance, marks_in}
 use Rattle.pipe_hall.specs.ShardParts.{AgreeOnLog, HasShard, IsCellHistory, IsOfLog, IsShardOf, down_list, right_list, history_at, last_of, who_of}
 use Rattle.pipe_hall.proofs.Boards.{with_here, with_else, among_cons}

@@ -1,14 +1,12 @@
 -- Each kind of step on the table of a hall keeps its rule.
-use Rattle.std.proofs.Common.{◌≡◌, ◌≢◌, ℕ, zero, suc, ◌+◌, ◌%◌, ◌^◌, ◌<◌, ◌≤◌, List, [], ◌∷◌, ◌++◌, length, get_or, set, drop, refl, sym, ap, ◌∙◌, subst, arith, ⊎_elim, ◌⊎◌, inl, inr, eqb, Option, Some, None}
-use mathlib.Core.Option.{none, some, some-injective}
+use Rattle.std.proofs.Common.{◌≡◌, ◌≢◌, ℕ, zero, suc, ◌<◌, List, [], ◌∷◌, ◌++◌, length, get_or, set, drop, refl, sym, ap, ◌∙◌, subst, arith, ⊎_elim, ◌⊎◌, eqb, Option, Some, None}
+use mathlib.Core.Option.{none, some}
 use mathlib.Core.Logic.{dite}
 use native.Mathlib.Decide.{ℕ_discrete}
 use lib.ListN.{get_elem?}
 use prog.Atomic.{either}
-use Rattle.atomic_table.specs.Table.{State, Me, Act, step, keeps, takes, gives, stepped, Allows, Splits, Joins}
+use Rattle.atomic_table.specs.Table.{State, step, keeps, takes, gives, stepped, Allows, Splits, Joins}
 use Rattle.atomic_table.proofs.Lists.{exchanged, set_else, set_here}
-use Rattle.pipe_model.specs.declared.access.Access.{Access}
-use Rattle.pipe_model.specs.declared.marks.Marks.{Marks}
 use Rattle.pipe_model.specs.declared.event.Event.{Event}
 use Rattle.pipe_model.specs.declared.ticket.ShardEntry.{ShardEntry}
 use Rattle.pipe_model.specs.Language.Programs.{store_of}
@@ -22,20 +20,20 @@ use Rattle.pipe_model.specs.declared.ticket.BookEntry.{BookEntry}
 use Rattle.pipe_frame.specs.HallViews.{BeginsWith}
 use Rattle.std.proofs.lemmas.List.{map-append}
 use Rattle.std.proofs.Math.Nat.{le-max_left, le-max_right}
-use Rattle.pipe_model.specs.Races.DeterminacyRaces.{Among, Here, Later}
+use Rattle.pipe_model.specs.Races.DeterminacyRaces.{Among, Here}
 use Rattle.pipe_frame.specs.TokenFields.{fields_of}
 use Rattle.pipe_frame.specs.declared.token.FrameToken.{FrameToken}
 use Rattle.run_laws.proofs.ListOrders.SoundStarts.{control_starts_sound}
 use Rattle.run_laws.proofs.RunStates.Frames.{nodes_at_frame}
 use Rattle.access_history.specs.declared.history.Who.{Who}
 use Rattle.frame_book.specs.BookStates.{BookState, IsOut, events_of, state_of}
-use Rattle.pipe_hall.specs.SeatViews.{HallConstants, HallStart, InstanceData, SeatView, ShardValue, SlotValue, TheBook, TheShard, constants_of, nothing_known}
-use Rattle.pipe_hall.specs.Logs.{entry_of, with_at}
-use Rattle.pipe_hall.specs.Accesses.{IsMade, MadeBy, next_ticket}
+use Rattle.pipe_hall.specs.SeatViews.{HallConstants, HallStart, InstanceData, ShardValue, SlotValue, TheBook, TheShard, constants_of, nothing_known}
+use Rattle.pipe_hall.specs.Logs.{with_at}
+use Rattle.pipe_hall.specs.Accesses.{MadeBy, next_ticket}
 use Rattle.pipe_hall.specs.BookParts.{HasSeats, KnowsInstance, marks_in}
-use Rattle.pipe_hall.specs.ShardParts.{HasShard, IsShardOf}
-use Rattle.pipe_hall.specs.HallRule.{Board, IsHall, IsRightView, slot_of, value_at, view_of}
-use Rattle.pipe_hall.specs.Steps.{ViewAndSlots, IsSnapshot, BookSnapshot, ShardSnapshot, holding, takes_slot, after_book, new_instance, returns_book, returns_book_and_token, after_shard, after_entries, after_log, returns_shard, meets, with_longer, HoldsAll, ClosedHall, without_run, run_seat, worker_seat, with_run, joined}
+use Rattle.pipe_hall.specs.ShardParts.{HasShard}
+use Rattle.pipe_hall.specs.HallRule.{Board, IsHall, slot_of, value_at, view_of}
+use Rattle.pipe_hall.specs.Steps.{ViewAndSlots, IsSnapshot, holding, takes_slot, after_book, new_instance, returns_book, returns_book_and_token, after_shard, after_entries, after_log, returns_shard, meets, with_longer, HoldsAll, ClosedHall, without_run, run_seat, worker_seat, with_run, joined}
 use Rattle.pipe_hall.specs.BookCalls.{IsBookCall}
 use Rattle.pipe_hall.specs.declared.view.View.{View}
 use Rattle.pipe_hall.specs.declared.slot.Slot.{Slot}

@@ -1,17 +1,17 @@
 -- What a call of the book changes, as far as the rule of the hall is concerned: an iteration, whose seat was taken in or is given out.
-use Rattle.std.specs.Prelude.{◌≡◌, ◌≢◌, ℕ, List, [], ◌∷◌, ◌++◌, ◌<◌, ◌≤◌, length, Option, Some, None, Bool, true, false, ◌==◌, if◌then◌else◌}
+use Rattle.std.specs.Prelude.{◌≡◌, ◌≢◌, ℕ, List, [], ◌++◌, length, Option, Some, None}
 use Rattle.pipe_model.specs.declared.node.NodeId.{NodeId}
 use Rattle.pipe_model.specs.declared.ticket.BookEntry.{BookEntry}
 use Rattle.pipe_model.specs.Orders.Starts.{IsStarted, starts_of}
 use Rattle.pipe_model.specs.Runs.Allowed.{IsRunning}
 use Rattle.pipe_model.specs.Runs.ControlRun.{ControlRun}
-use Rattle.pipe_model.specs.Runs.TicketOrder.{start_ticket_of, end_ticket_of}
+use Rattle.pipe_model.specs.Runs.TicketOrder.{end_ticket_of}
 use Rattle.pipe_frame.specs.RunningTokens.{IsTokenOf}
 use Rattle.pipe_frame.specs.TokenFields.{TokenFields}
-use Rattle.frame_book.specs.BookStates.{BookState, HasRisingTickets, IsOut, Spent, Kept, events_of, item_or, state_of}
+use Rattle.frame_book.specs.BookStates.{BookState, HasRisingTickets, IsOut, Spent, events_of, item_or, state_of}
 use Rattle.pipe_hall.specs.SeatViews.{InstanceData, constants_of}
-use Rattle.pipe_hall.specs.Logs.{book_trace, trace_by}
-use Rattle.pipe_hall.specs.BookParts.{HasSeats, IsTimelyToken, KnowsInstance, IsTimelyTrace, StartedBy, marks_in}
+use Rattle.pipe_hall.specs.Logs.{trace_by}
+use Rattle.pipe_hall.specs.BookParts.{HasSeats, IsTimelyToken, KnowsInstance, IsTimelyTrace, marks_in}
 
 -- the log has grown by these entries, and the other iterations are as they were
 pub record LeavesOthers (b c : BookState) (i : ℕ) : Type 0 where

@@ -1,10 +1,8 @@
 -- The rule of a hall. Word 0 is the lock of the book, which is in slot 0; word k + 1 is that of shard k, in slot k + 1.
-use Rattle.std.specs.Prelude.{◌≡◌, ◌≢◌, ℕ, zero, suc, List, [], ◌∷◌, ◌++◌, ◌<◌, length, Option, Some, None, slice_index}
+use Rattle.std.specs.Prelude.{◌≡◌, ◌≢◌, ℕ, zero, suc, List, [], ◌<◌, length, Option, Some, None, slice_index}
 use mathlib.Core.Option.{none, some}
 use lib.ListN.{get_elem?}
 use Rattle.atomic_table.specs.Table.{State}
-use Rattle.pipe_model.specs.declared.access.Access.{Access}
-use Rattle.pipe_model.specs.declared.event.Event.{Event}
 use Rattle.pipe_model.specs.Races.DeterminacyRaces.{Among}
 use Rattle.pipe_frame.specs.HallViews.{BeginsWith}
 use Rattle.frame_book.specs.BookStates.{BookState, events_of}

@@ -1,5 +1,5 @@
 -- What a payload lends to the hall.
-use Rattle.std.specs.Prelude.{◌≡◌, ℕ, Option, Some, None}
+use Rattle.std.specs.Prelude.{Option, Some, None}
 use Rattle.std.specs.Borrow.{Lends, MutBor, Fml}
 use denote.RattleType.{RattleType}
 use Rattle.pipe_frame.specs.Ties.{Tie, SeenLists, InstanceSeat}

@@ -1,5 +1,5 @@
 -- The entries of shards and of traces.
-use Rattle.std.specs.Prelude.{◌≡◌, ℕ, List, [], ◌∷◌, ◌++◌, ◌%◌, ◌==◌, ◌&&◌, filter, map, Option, Some, None, if◌then◌else◌}
+use Rattle.std.specs.Prelude.{ℕ, List, [], ◌∷◌, ◌%◌, ◌==◌, ◌&&◌, map, Option, Some, None, if◌then◌else◌}
 use Rattle.pipe_model.specs.declared.access.Access.{Access}
 use Rattle.pipe_model.specs.declared.access.NodeAccess.{NodeAccess}
 use Rattle.pipe_model.specs.declared.ticket.Entry.{Entry}

@@ -1,7 +1,7 @@
 -- What each step on the table of a hall does to the seat that makes it: of the step, the seat before, the number found and the seat after.
 use Rattle.std.specs.Prelude.{◌≡◌, ◌≢◌, ℕ, suc, List, [], ◌∷◌, ◌++◌, ◌<◌, length, drop, Option, Some, None}
 use mathlib.Core.Option.{some}
-use Rattle.atomic_table.specs.Table.{Me, Step, rest}
+use Rattle.atomic_table.specs.Table.{Me, Step}
 use Rattle.pipe_model.specs.declared.access.Access.{Access}
 use Rattle.pipe_model.specs.declared.event.Event.{Event}
 use Rattle.pipe_model.specs.declared.ticket.ShardEntry.{ShardEntry}

@@ -1,5 +1,5 @@
 -- What contracts see of halls and of the seats of workers.
-use Rattle.std.specs.Prelude.{◌≡◌, ℕ, ℤ, pos, List, [], ◌∷◌, Option, Some, None}
+use Rattle.std.specs.Prelude.{◌≡◌, ℕ, pos, List, [], ◌∷◌, length, Option, Some, None}
 use Rattle.atomic_table.specs.Seated.{TableId}
 use Rattle.atomic_table.specs.Table.{Me}
 use Rattle.pipe_model.specs.declared.access.Access.{Access}
@@ -7,9 +7,13 @@ use Rattle.pipe_model.specs.declared.event.Event.{Event}
 use Rattle.pipe_model.specs.Language.SyntaxTree.{SyntaxTree, Number, Empty, tree_of}
 use Rattle.pipe_model.specs.Runs.ControlRun.{ControlRun}
 use Rattle.pipe_model.specs.Runs.RunLogs.{state_after}
-use Rattle.pipe_frame.specs.Ties.{HallName}
-use Rattle.frame_book.specs.BookStates.{BookState}
-use Rattle.pipe_hall.specs.SeatViews.{HallConstants, InstanceData, TheBook}
+use Rattle.pipe_frame.specs.HallViews.{BeginsWith}
+use Rattle.pipe_frame.specs.SeatedTokens.{seated_entries, seated_replies}
+use Rattle.pipe_frame.specs.Ties.{HallName, Tie}
+use Rattle.pipe_frame.specs.TokenFields.{TokenFields}
+use Rattle.frame_book.specs.BookStates.{BookState, events_of, replies_at, state_of}
+use Rattle.frame_book.specs.GivenTokens.{IsOutOf}
+use Rattle.pipe_hall.specs.SeatViews.{HallConstants, InstanceData, TheBook, constants_of}
 use Rattle.pipe_hall.specs.Steps.{ViewAndSlots}
 use Rattle.pipe_hall.specs.declared.view.View.{View}
 use Rattle.pipe_hall.specs.declared.slot.Slot.TheVariants as slots
@@ -78,3 +82,20 @@ pub record HoldsBook {M : Type 0} (m : ViewAndSlots M) (b : BookState) (back : O
   pub slots : m.1 ≡ (0, slots.Out) ∷ []
   pub held : m.0.it.held ≡ (0, TheBook b) ∷ []
   pub run : m.0.it.run ≡ back
+
+-- an idle seat has taken the book; `back` is the instance whose seat it has taken in before that, if there is one
+pub record HasTaken {M : Type 0} (m n : ViewAndSlots M) (b : BookState) (back : Option InstanceData) : Type 0 where
+  pub holds : HoldsBook n b back
+  pub knew : m.0.it.constants ≡ Some (constants_of b)
+  pub knows : n.0.it.constants ≡ Some (constants_of b)
+  pub seen : BeginsWith (events_of b.log) m.0.it.seen
+  pub control : ControlRun b.limit (events_of b.log) (state_of b)
+  pub tokens : length b.tokens ≡ length (state_of b).frames
+  pub traces : length b.traces ≡ length (state_of b).frames
+
+-- this is known of the running instance whose token has these fields, and whose payload has this tie
+pub record IsDataOf (b : BookState) (f : TokenFields) (t : Tie) (d : InstanceData) : Type 0 where
+  pub out : IsOutOf b f
+  pub fields : d.fields ≡ f
+  pub replies : seated_replies t ≡ replies_at b f.iteration
+  pub entries : d.entries ≡ seated_entries t

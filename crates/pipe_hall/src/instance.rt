@@ -23,7 +23,7 @@ use crate::run_seat::RunSeat;
 use crate::shard::SHARDS;
 use crate::slot::Slot;
 use crate::view::View;
-use crate::worker::{seat_in, stop_at};
+use crate::worker::{stop_at, take_seat_of};
 use access_history::history::Who;
 use atomic_table::Seat;
 use order_2d::two_passes::TwoPasses;
@@ -124,7 +124,7 @@ fn access_of<R: Wait, M: Carrier>(
     ensures stands { (tree : SyntaxTree) (input : List ℤ) (i : ℕ) (before : List (List ℤ)) → M.stands tree input token.old.payload i before → M.stands tree input token.new.payload i before }
     ensures tie { M.tie token.new.payload ≡ tie_after (M.tie token.old.payload) result }
 {
-    let RunSeat { badge } = seat_in(&mut token.payload);
+    let RunSeat { badge } = take_seat_of(&mut token.payload);
     let mut run = badge.into_seat::<Slot<M>>();
     let done = access_for(rt, hall, &mut run, token, trace, cell, write);
     token.payload.put_seat(RunSeat {

@@ -1,6 +1,6 @@
-//! The seats of workers, and the calls of the book.
+//! The calls of the book, by the seats of workers.
 
-ghost use Rattle.std.specs.Prelude.{◌≡◌, ◌∷◌, ◌++◌, ◌+◌, [], ℕ, None, Some, IfSome, true};
+ghost use Rattle.std.specs.Prelude.{◌≡◌, ◌∷◌, ◌++◌, ◌+◌, [], ℕ, Option, None, Some, IfSome, true};
 ghost use Rattle.atomic_table.specs.Table.{Me};
 ghost use Rattle.pipe_model.specs.Runs.RunLogs.{state_after};
 ghost use Rattle.pipe_model.specs.Language.Programs.{pipeline_of};
@@ -9,11 +9,18 @@ ghost use Rattle.pipe_frame.specs.HallViews.{BeginsWith, RescueSees, Sees};
 ghost use Rattle.pipe_frame.specs.Replies.{IsPerformed, replies_of};
 ghost use Rattle.pipe_frame.specs.StageEndCases.{NamesNextStage};
 ghost use Rattle.pipe_frame.specs.RunningTokens.{IsTokenOf};
+ghost use Rattle.pipe_frame.specs.SeatedTokens.{IsGivenToken, IsSeated, seated_entries, seated_replies};
 ghost use Rattle.pipe_frame.specs.TokenFields.{fields_of};
 ghost use Rattle.pipe_frame.specs.ResultTokens.{IfGo, IfStarted, IfToken};
+ghost use Rattle.frame_book.specs.BookStates.{BookState, events_of};
+ghost use Rattle.frame_book.specs.GivenTokens.{IsGivenBy};
+ghost use Rattle.pipe_hall.specs.BookCalls.{IsBookCall};
+ghost use Rattle.pipe_hall.specs.HallRule.{view_of};
+ghost use Rattle.pipe_hall.specs.SeatViews.{InstanceData, constants_of};
+ghost use Rattle.pipe_hall.specs.Steps.{ViewAndSlots, after_book, new_instance};
+ghost use Rattle.pipe_hall.specs.WorkerSeats.{HasTaken, HoldsBook, IsDataOf, IsIdle, StaysIdle, hall_of, name_of};
 ghost use Rattle.pipe_hall.specs.declared.run_seat.RunSeat.{RunSeat};
-ghost use Rattle.pipe_frame.specs.SeatedTokens.{IsGivenToken, IsSeated, seated_entries, seated_replies};
-ghost use Rattle.pipe_hall.specs.WorkerSeats.{IsIdle, StaysIdle, hall_of, name_of};
+ghost use Rattle.pipe_hall.specs.declared.slot.Slot.{Slot as SlotOf};
 
 use crate::carrier::Carrier;
 use crate::locks::Locks;
@@ -21,11 +28,78 @@ use crate::run_seat::RunSeat;
 use crate::slot::Slot;
 use crate::view::View;
 use atomic_table::Seat;
+use frame_book::book::Book;
+use om_shared::writer::OmWriter;
 use pipe_frame::results::{Begun, Next, Rescue};
 use pipe_frame::token::FrameToken;
 use pipe_model::stage::StageEnd;
 use pipe_model::ticket::Trace;
 use std::sync::Wait;
+
+// Takes the book, for a worker.
+fn take_book<R: Wait, M: Carrier>(
+    rt: &R,
+    hall: &Locks<M>,
+    seat: &mut Seat<Slot<M>, View>,
+) -> Book<M, OmWriter>
+    requires own { seat.old.table_id ≡ hall.now.table.shared.table_id }
+    requires idle { IsIdle seat.old.me }
+    ensures own { seat.new.table_id ≡ seat.old.table_id }
+    ensures taken { HasTaken seat.old.me seat.new.me result None }
+{
+    hall.take_book(rt, seat)
+}
+
+// Takes the seat out of a payload that has one.
+pub(crate) fn take_seat_of<M: Carrier>(payload: &mut M) -> RunSeat
+    requires there { (r : RunSeat) × (M.seat payload.old ≡ Some r) }
+    ensures seat { M.seat payload.old ≡ Some result }
+    ensures payload { payload.new ≡ M.with_seat payload.old None }
+{
+    match payload.take_seat() {
+        Some(run) => run,
+        None => unreachable!(),
+    }
+}
+
+// Takes in the seat of the token's instance, and then the book.
+fn take_back<R: Wait, M: Carrier>(
+    rt: &R,
+    hall: &Locks<M>,
+    seat: &mut Seat<Slot<M>, View>,
+    token: &mut FrameToken<M>,
+) -> Book<M, OmWriter>
+    requires own { seat.old.table_id ≡ hall.now.table.shared.table_id }
+    requires idle { IsIdle seat.old.me }
+    requires out { IsSeated (hall_of seat.old.table_id seat.old.me) (fields_of token.old) (M.tie token.old.payload) }
+    ensures own { seat.new.table_id ≡ seat.old.table_id }
+    ensures taken { (d : InstanceData) × HasTaken seat.old.me seat.new.me result (Some d) × IsDataOf result (fields_of token.old) (M.tie token.old.payload) d }
+    ensures token { token.new ≡ record token.old { payload = M.with_seat token.old.payload None } }
+{
+    let run = take_seat_of(&mut token.payload);
+    hall.join_instance(seat, run);
+    hall.take_book(rt, seat)
+}
+
+// Gives the book back beside a token that it has given.
+fn return_token<M: Carrier>(
+    hall: &Locks<M>,
+    seat: &mut Seat<Slot<M>, View>,
+    book: Book<M, OmWriter>,
+    token: FrameToken<M>,
+) -> FrameToken<M>
+    requires own { seat.old.table_id ≡ hall.now.table.shared.table_id }
+    requires call { (b : BookState) × (back : Option InstanceData) × HoldsBook seat.old.me b back × IsBookCall b back book (Some (new_instance book (fields_of token))) }
+    requires constants { seat.old.me.0.it.constants ≡ Some (constants_of book) }
+    requires token { IsGivenBy M.stands M.tie book token }
+    ensures own { seat.new.table_id ≡ seat.old.table_id }
+    ensures given { seat.new.me ≡ (view_of (after_book seat.old.me.0.it book None), []) }
+    ensures same { (r : RunSeat) × (result ≡ record token { payload = M.with_seat token.payload (Some r) }) }
+    ensures token { IsGivenToken M.stands M.tie (hall_of seat.old.table_id seat.old.me) result }
+    ensures runs { IsTokenOf (events_of book.log) (fields_of result) }
+{
+    hall.return_book_and_token(seat, book, token)
+}
 
 // Begins the next iteration, for a worker with this seat.
 pub(crate) fn begin_at<R: Wait, M: Carrier>(
@@ -41,27 +115,14 @@ pub(crate) fn begin_at<R: Wait, M: Carrier>(
     ensures runs { IfStarted result (λ t. IsTokenOf seat.new.me.0.it.seen (fields_of t)) }
     ensures token { IfStarted result (IsGivenToken M.stands M.tie (hall_of seat.old.table_id seat.old.me)) }
 {
-    let mut book = hall.take_book(rt, seat);
-    match book.begin() {
-        Begun::Started(token) => {
-            let _ = book.entries();
-            Begun::Started(hall.return_book_and_token(seat, book, token))
-        }
-        Begun::Throttled => {
+    let mut book = take_book(rt, hall, seat);
+    let begun = book.begin();
+    let _ = book.entries();
+    match begun {
+        Begun::Started(token) => Begun::Started(return_token(hall, seat, book, token)),
+        begun => {
             hall.return_book(seat, book);
-            Begun::Throttled
-        }
-        Begun::Closed => {
-            hall.return_book(seat, book);
-            Begun::Closed
-        }
-        Begun::NotYet => {
-            hall.return_book(seat, book);
-            Begun::NotYet
-        }
-        Begun::Stopped => {
-            hall.return_book(seat, book);
-            Begun::Stopped
+            begun
         }
     }
 }
@@ -81,12 +142,11 @@ pub(crate) fn check_right_at<R: Wait, M: Carrier>(
     ensures runs { IfSome result (λ t. IsTokenOf seat.new.me.0.it.seen (fields_of t)) }
     ensures token { IfSome result (IsGivenToken M.stands M.tie (hall_of seat.old.table_id seat.old.me)) }
 {
-    let mut book = hall.take_book(rt, seat);
-    match book.check_right(iteration) {
-        Some(token) => {
-            let _ = book.entries();
-            Some(hall.return_book_and_token(seat, book, token))
-        }
+    let mut book = take_book(rt, hall, seat);
+    let entered = book.check_right(iteration);
+    let _ = book.entries();
+    match entered {
+        Some(token) => Some(return_token(hall, seat, book, token)),
         None => {
             hall.return_book(seat, book);
             None
@@ -108,40 +168,15 @@ pub(crate) fn rescue_at<R: Wait, M: Carrier>(
     ensures runs { IfToken result (λ t. IsTokenOf seat.new.me.0.it.seen (fields_of t)) }
     ensures token { IfToken result (IsGivenToken M.stands M.tie (hall_of seat.old.table_id seat.old.me)) }
 {
-    let mut book = hall.take_book(rt, seat);
-    match book.rescue() {
-        Rescue::Token(token) => {
-            let _ = book.entries();
-            Rescue::Token(hall.return_book_and_token(seat, book, token))
-        }
-        Rescue::MayBegin => {
+    let mut book = take_book(rt, hall, seat);
+    let found = book.rescue();
+    let _ = book.entries();
+    match found {
+        Rescue::Token(token) => Rescue::Token(return_token(hall, seat, book, token)),
+        found => {
             hall.return_book(seat, book);
-            Rescue::MayBegin
+            found
         }
-        Rescue::Nothing => {
-            hall.return_book(seat, book);
-            Rescue::Nothing
-        }
-        Rescue::Finished => {
-            hall.return_book(seat, book);
-            Rescue::Finished
-        }
-        Rescue::Stopped => {
-            hall.return_book(seat, book);
-            Rescue::Stopped
-        }
-    }
-}
-
-// Takes the seat out of a payload that has one.
-pub(crate) fn seat_in<M: Carrier>(payload: &mut M) -> RunSeat
-    requires there { (r : RunSeat) × (M.seat payload.old ≡ Some r) }
-    ensures seat { M.seat payload.old ≡ Some result }
-    ensures payload { payload.new ≡ M.with_seat payload.old None }
-{
-    match payload.take_seat() {
-        Some(run) => run,
-        None => unreachable!(),
     }
 }
 
@@ -161,10 +196,9 @@ pub(crate) fn leave_ready_at<R: Wait, M: Carrier>(
     ensures idle { StaysIdle seat.old.me seat.new.me }
     ensures sees { Sees seat.old.me.0.it.seen seat.new.me.0.it.seen [] (λ s. Unit {0}) }
 {
-    let run = seat_in(&mut token.payload);
-    hall.join_instance(seat, run);
-    let mut book = hall.take_book(rt, seat);
+    let mut book = take_back(rt, hall, seat, &mut token);
     book.leave_ready(token);
+    let _ = book.entries();
     hall.return_book(seat, book);
 }
 
@@ -191,27 +225,14 @@ pub(crate) fn advance_at<R: Wait, M: Carrier>(
     ensures runs { IfGo result (λ t. IsTokenOf seat.new.me.0.it.seen (fields_of t)) }
     ensures token { IfGo result (IsGivenToken M.stands M.tie (hall_of seat.old.table_id seat.old.me)) }
 {
-    let run = seat_in(&mut token.payload);
-    hall.join_instance(seat, run);
-    let mut book = hall.take_book(rt, seat);
-    match book.advance(token, end, trace) {
-        Next::Go(token) => {
-            let _ = book.entries();
-            Next::Go(hall.return_book_and_token(seat, book, token))
-        }
-        Next::Suspended => {
-            let _ = book.entries();
+    let mut book = take_back(rt, hall, seat, &mut token);
+    let next = book.advance(token, end, trace);
+    let _ = book.entries();
+    match next {
+        Next::Go(token) => Next::Go(return_token(hall, seat, book, token)),
+        next => {
             hall.return_book(seat, book);
-            Next::Suspended
-        }
-        Next::Ended => {
-            let _ = book.entries();
-            hall.return_book(seat, book);
-            Next::Ended
-        }
-        Next::Stopped => {
-            hall.return_book(seat, book);
-            Next::Stopped
+            next
         }
     }
 }
@@ -225,7 +246,7 @@ pub(crate) fn stop_at<R: Wait, M: Carrier>(rt: &R, hall: &Locks<M>, seat: &mut S
     ensures later { BeginsWith seat.new.me.0.it.seen seat.old.me.0.it.seen }
     ensures stopped { (state_after seat.new.me.0.it.seen).stopped ≡ true }
 {
-    let mut book = hall.take_book(rt, seat);
+    let mut book = take_book(rt, hall, seat);
     book.stop();
     let _ = book.entries();
     hall.return_book(seat, book);

@@ -1,8 +1,6 @@
 -- The rule's facts at the end, after the shards have learned and the stop was raised.
-use Rattle.std.proofs.Common.{◌≡◌, ◌<◌, ◌≤◌, ◌^◌, ◌∙◌, ℕ, List, Some, length, arith, ap, sym, subst}
-use Rattle.frame_book.specs.BookStates.{BookState, events_of}
-use Rattle.pipe_model.specs.declared.event.Event.{Event}
-use Rattle.pipe_model.specs.declared.access.Access.{Access}
+use Rattle.std.proofs.Common.{◌≤◌, ◌^◌, ◌∙◌, Some, length, arith, ap, sym, subst}
+use Rattle.frame_book.specs.BookStates.{events_of}
 use Rattle.pipe_model.specs.Runs.RunLogs.{state_after}
 use Rattle.pipe_hall.specs.Closing.{EndedHall, shard_in}
 use Rattle.pipe_hall.specs.Openings.{start_in}

@@ -1,5 +1,4 @@
 -- Each slot is freed, and the last state of the table obeys the rule.
-use Rattle.std.proofs.Common.{◌≡◌}
 use Rattle.core.specs.Mem.Slots.{slots_filled, slots_len}
 use Rattle.pipe_hall.specs.Openings.{start_in}
 use Rattle.pipe_hall.proofs.Freeing.{one_taken}

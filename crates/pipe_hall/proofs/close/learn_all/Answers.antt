@@ -1,5 +1,5 @@
 -- The shards learn one after the other.
-use Rattle.std.proofs.Common.{◌≡◌, ◌<◌, ◌+◌, ◌∙◌, ℕ, arith, refl, subst, sym, ap}
+use Rattle.std.proofs.Common.{◌+◌, ◌∙◌, arith, refl, subst, sym, ap}
 use Rattle.frame_book.specs.BookStates.{BookState}
 use Rattle.pipe_hall.specs.Closing.{HasLearned, shard_in}
 use Rattle.pipe_hall.specs.SeatViews.{ShardValue}

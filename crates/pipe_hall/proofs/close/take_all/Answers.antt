@@ -1,5 +1,5 @@
 -- The book is taken first, and then the shards in order.
-use Rattle.std.proofs.Common.{◌≡◌, ◌<◌, ◌∙◌, ◌+◌, arith, subst, sym, ap, ℕ, List}
+use Rattle.std.proofs.Common.{◌≡◌, ◌∙◌, ◌+◌, arith, subst, sym, ap, ℕ, List}
 use Rattle.pipe_hall.specs.SeatViews.{ShardValue}
 use Rattle.pipe_hall.specs.Steps.{ViewAndSlots}
 use Rattle.pipe_hall.proofs.Closing.{HoldsFirst, first_more, first_none, holds_all}

@@ -1,4 +1,4 @@
-use Rattle.std.proofs.Common.{◌≡◌, ◌<◌, ◌≤◌, ◌^◌, ℕ}
+use Rattle.std.proofs.Common.{◌<◌, ◌≤◌, ◌^◌, ℕ}
 use Rattle.pipe_hall.specs.Closing.{shard_in}
 use Rattle.pipe_hall.proofs.close.ticket_above.Given as goal
 

@@ -1,8 +1,7 @@
 -- The shards are appended one after the other.
-use Rattle.std.proofs.Common.{◌≡◌, ◌<◌, ◌≤◌, ◌+◌, ◌++◌, ◌∷◌, [], ◌∙◌, ℕ, List, length, arith, ap, sym, subst, refl, append_assoc, append-nil}
+use Rattle.std.proofs.Common.{◌++◌, ◌∷◌, [], ◌∙◌, length, arith, ap, sym, append_assoc}
 use Rattle.std.proofs.lemmas.List.{length-append}
 use Rattle.pipe_model.specs.Language.SyntaxTree.{tree_of}
-use Rattle.pipe_hall.specs.Closing.{shard_in}
 use Rattle.pipe_hall.specs.NewShards.{IsNewShard, shard_slots}
 use Rattle.pipe_hall.specs.declared.slot.Slot.TheVariants as slots
 use Rattle.pipe_hall.proofs.FirstTables.{new_more, shard_more}

@@ -1,5 +1,5 @@
 -- The first table obeys the rule.
-use Rattle.std.proofs.Common.{◌≡◌, ◌<◌, ◌++◌, ◌∷◌, [], ◌∙◌, ℕ, List, length, ap, ap₂, sym, subst, refl}
+use Rattle.std.proofs.Common.{◌++◌, ◌∷◌, [], ◌∙◌, List, ap, ap₂, sym, subst, refl}
 use Rattle.atomic_table.specs.Table.{opening}
 use Rattle.pipe_model.specs.Language.SyntaxTree.{SyntaxTree}
 use Rattle.pipe_model.specs.Runs.ControlRun.{ControlRun, EmptyControlRun}

@@ -1,11 +1,9 @@
-use Rattle.std.proofs.Common.{◌≡◌, ◌<◌, ◌∙◌, subst, sym, ap, ap₂, refl, [], ◌∷◌, length, Some, None, Option}
+use Rattle.std.proofs.Common.{◌≡◌, ◌<◌, subst, ap₂, length, Some}
 use Rattle.pipe_model.specs.Language.Programs.{store_of}
-use Rattle.pipe_model.specs.declared.ticket.Entry.{Entry}
 use Rattle.pipe_frame.specs.Ties.{HallName}
 use Rattle.pipe_frame.specs.TokenFields.{fields_of}
 use Rattle.pipe_frame.specs.SeatedTokens.{IsSeated}
 use Rattle.pipe_hall.specs.WorkerSeats.{name_of}
-use Rattle.pipe_hall.specs.SeatAccesses.{TraceAfter}
 use Rattle.pipe_hall.proofs.Accessing.{same_instance, replies_after, seated_after, trace_after}
 use Rattle.pipe_hall.proofs.instance.access_at.Goals as goal
 

@@ -1,12 +1,11 @@
-use Rattle.std.proofs.Common.{◌≡◌, ◌<◌, ◌+◌, ◌%◌, ◌∙◌, arith, subst, sym, ap, [], ◌∷◌, List, ℕ, refl, Some, None, length, ◌⊎◌, inl, inr, ⊎_elim}
+use Rattle.std.proofs.Common.{◌≡◌, ◌<◌, ◌+◌, ◌%◌, ◌∙◌, subst, ap, [], ◌∷◌, refl, Some, length, inl, inr, ⊎_elim}
 use Rattle.pipe_model.specs.Language.Programs.{store_of}
 use Rattle.pipe_frame.specs.Ties.{AreSeenLists, HallName}
-use Rattle.pipe_hall.specs.SeatViews.{HallConstants, SeatView, InstanceData, TheShard}
+use Rattle.pipe_hall.specs.SeatViews.{SeatView, TheShard}
 use Rattle.pipe_hall.specs.Accesses.{MadeBy}
 use Rattle.pipe_hall.specs.HallRule.{view_of}
 use Rattle.pipe_hall.specs.WorkerSeats.{name_of}
-use Rattle.pipe_hall.specs.Steps.{ViewAndSlots, after_shard, holding, after_log}
-use Rattle.pipe_hall.specs.SeatAccesses.{ran}
+use Rattle.pipe_hall.specs.Steps.{ViewAndSlots, after_shard, after_log}
 use Rattle.pipe_hall.specs.declared.slot.Slot.TheVariants as slots
 use Rattle.pipe_hall.proofs.Accessing.{can_begin, same_lists, either_made, run_done, trace_done}
 use Rattle.pipe_hall.proofs.instance.access_by.Goals as goal

@@ -1,4 +1,4 @@
-use Rattle.std.proofs.Common.{◌≡◌, ◌<◌, ◌∙◌, arith, subst, sym, ap}
+use Rattle.std.proofs.Common.{◌∙◌, arith, sym, ap}
 use Rattle.pipe_hall.proofs.Steps.{joins_instance}
 use Rattle.pipe_hall.specs.InstanceSeats.{badge_view}
 use Rattle.pipe_hall.proofs.Seating.{instance_badge}

@@ -1,4 +1,4 @@
-use Rattle.std.proofs.Common.{◌≡◌, ◌<◌, ◌∙◌, arith, subst, sym, ap, ℕ, eqb, Some}
+use Rattle.std.proofs.Common.{arith, subst, sym, eqb}
 use mathlib.Core.Option.{some}
 use prog.Atomic.{either}
 use Rattle.atomic_table.specs.Table.{Allows, step}

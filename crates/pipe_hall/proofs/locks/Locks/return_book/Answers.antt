@@ -1,4 +1,4 @@
-use Rattle.std.proofs.Common.{◌≡◌, ◌<◌, ◌∙◌, arith}
+use Rattle.std.proofs.Common.{◌∙◌, arith}
 use Rattle.pipe_hall.proofs.Steps.{may_return_book}
 use Rattle.pipe_hall.proofs.Seating.{other_value}
 use Rattle.pipe_hall.specs.Openings.{start_in}

@@ -1,7 +1,5 @@
-use Rattle.std.proofs.Common.{◌≡◌, ◌<◌, ◌∙◌, arith, refl, subst, sym, ap, [], ◌∷◌, Some, ℕ}
-use Rattle.frame_book.specs.BookStates.{BookState}
+use Rattle.std.proofs.Common.{◌≡◌, ◌∙◌, arith, refl, ap, [], ◌∷◌, Some}
 use Rattle.pipe_frame.specs.TokenFields.{fields_of}
-use Rattle.pipe_frame.specs.declared.token.FrameToken.{FrameToken}
 use Rattle.pipe_hall.specs.HallRule.{view_of}
 use Rattle.pipe_hall.specs.InstanceSeats.{is_instance_badge}
 use Rattle.pipe_hall.specs.Steps.{ViewAndSlots, after_book, new_instance, run_seat, without_run}

@@ -1,4 +1,4 @@
-use Rattle.std.proofs.Common.{◌≡◌, ◌<◌, ◌+◌, ◌∙◌, suc, arith, subst, sym, ap, [], ◌∷◌, List, ℕ}
+use Rattle.std.proofs.Common.{◌≡◌, ◌+◌, ◌∙◌, suc, arith, ap, []}
 use Rattle.pipe_hall.specs.HallRule.{view_of}
 use Rattle.pipe_hall.specs.Steps.{ViewAndSlots, after_shard}
 use Rattle.pipe_hall.proofs.Steps.{may_return_shard_at}

@@ -1,8 +1,8 @@
-use Rattle.std.proofs.Common.{◌≡◌, ◌∙◌, sym, ap, subst, [], ◌∷◌}
+use Rattle.std.proofs.Common.{◌∙◌, sym, ap, subst, ◌∷◌}
 use Rattle.pipe_hall.specs.HallRule.{view_of}
 use Rattle.pipe_hall.specs.Steps.{IsSnapshot, holding}
 use Rattle.pipe_hall.specs.declared.slot.Slot.TheVariants as slots
-use Rattle.pipe_hall.proofs.Seating.{book_value, shard_value, no_token, no_hole, no_shard}
+use Rattle.pipe_hall.proofs.Seating.{book_value}
 use Rattle.pipe_hall.proofs.locks.Locks.take_book.Goals as goal
 
 pub returns-clause-taken : goal.returns-clause-taken

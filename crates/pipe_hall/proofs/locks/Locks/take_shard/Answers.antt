@@ -1,5 +1,4 @@
-use Rattle.std.proofs.Common.{◌≡◌, ◌∙◌, sym, ap, subst, [], ◌∷◌}
-use Rattle.pipe_hall.specs.Steps.{IsSnapshot}
+use Rattle.std.proofs.Common.{◌∙◌, sym}
 use Rattle.pipe_hall.proofs.Seating.{book_value, no_book}
 use Rattle.pipe_hall.proofs.locks.Locks.take_shard.Goals as goal
 

@@ -1,6 +1,5 @@
 -- The seat takes in the other, and one look shows what both had seen.
-use Rattle.std.proofs.Common.{◌≡◌, ◌<◌, ◌∙◌, arith, sym, ap, subst}
-use Rattle.pipe_frame.specs.HallViews.{BeginsWith}
+use Rattle.std.proofs.Common.{◌∙◌, arith, sym, ap}
 use Rattle.pipe_hall.specs.Openings.{start_in}
 use Rattle.pipe_hall.specs.Steps.{ViewAndSlots}
 use Rattle.pipe_hall.specs.WorkerSeats.{HallState, WorkerSeat}

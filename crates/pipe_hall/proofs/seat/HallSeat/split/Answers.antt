@@ -1,5 +1,5 @@
 -- A further seat is idle, as the one that it is split from.
-use Rattle.std.proofs.Common.{◌≡◌, ◌<◌, ◌∙◌, arith, sym, ap}
+use Rattle.std.proofs.Common.{◌∙◌, arith, sym, ap}
 use Rattle.pipe_hall.specs.Openings.{start_in}
 use Rattle.pipe_hall.specs.WorkerSeats.{HallState}
 use Rattle.pipe_hall.proofs.Steps.{splits_worker}
