@@ -1,0 +1,6 @@
+pub mod TestedLists
+pub mod DequeSteps
+pub mod EndCalls
+pub mod FrontSteps
+pub mod UnusedEnds
+pub mod AllEnds
