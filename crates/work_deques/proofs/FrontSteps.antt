@@ -6,9 +6,8 @@ use Rattle.std.proofs.lemmas.Grind.{get_or-set_at}
 use Rattle.std.proofs.lemmas.List.{get_or-map, get_or-set_other, length-map, length-set, map-append, nil_from_length, same_from_push, take_all, take_more}
 use Rattle.std.proofs.lemmas.List.Elements.{All-get_or, All-nil, All-push, All-set}
 use Rattle.crossbeam_deque.specs.Handles.{worker_deque, worker_view}
-use Rattle.work_deques.proofs.TestedLists.{All_init}
-use Rattle.work_deques.specs.FrontsSoFar.{AreSoFar, IsSoFar}
-use Rattle.work_deques.specs.Tallies.{ALL_PARTS}
+use Rattle.work_deques.proofs.TestedLists.{All_init, All_last}
+use Rattle.work_deques.specs.FrontsSoFar.{AreSoFar, IsSoFar, IsWhole}
 use Rattle.work_deques.specs.WorkerEnds.{AreAllEnds, Deque, deque_of, deque_of_front, front_deques, front_parts, own_tally, parts_of_front}
 use Rattle.work_deques.specs.declared.ends.Ends.{Ends}
 use Rattle.work_deques.specs.declared.front.Front.{Front}
@@ -158,12 +157,22 @@ module _ {T Q : Type 0} where
         })
         (λ j p fs apart. other_given deques w k j p fs (k + 1) k (k + 1) apart)
 
-    -- the fronts of a worker that has k + 1 of them, without the last one
-    pub without_last : (e : Ends T Q) (fs : List (Front T Q)) (f : Front T Q) (d : Deque) → k < length deques → e.fronts.items ≡ fs ++ f ∷ [] → front_deques e ≡ take (k + 1) deques
+    without_last : (e : Ends T Q) (fs : List (Front T Q)) (f : Front T Q) (d : Deque) → k < length deques → e.fronts.items ≡ fs ++ f ∷ [] → front_deques e ≡ take (k + 1) deques
         → (map deque_of_front fs ≡ take k deques) × (deque_of_front f ≡ get_or deques k d)
     without_last e fs f d lk items all =
         let split : front_deques e ≡ map deque_of_front fs ++ deque_of_front f ∷ [] = ap (map deque_of_front) items ∙ map-append deque_of_front fs (f ∷ []) in
         same_from_push _ _ _ _ (sym split ∙ all ∙ take_more deques k d lk)
+
+    -- the last front of a worker that has the fronts of the first deques
+    pub last_deque : (made : ℕ) (e : Ends T Q) (fs : List (Front T Q)) (f : Front T Q) (d : Deque) → AreSoFar deques w made (k + 1) ends → w < length ends → e ≡ get_or ends w e
+        → e.fronts.items ≡ fs ++ f ∷ [] → k < length deques → deque_of_front f ≡ get_or deques k d
+    last_deque made e fs f d h l at items lk = (without_last e fs f d lk items (ap front_deques at ∙ (h.each w e l).here refl)).1
+
+    pub last_part : (made some : ℕ) (e : Ends T Q) (fs : List (Front T Q)) (f : Front T Q) → AreSoFar deques w made some ends → w < length ends → e ≡ get_or ends w e
+        → e.fronts.items ≡ fs ++ f ∷ [] → parts_of_front f ≡ 1
+    last_part made some e fs f h l at items =
+        let split : front_parts e ≡ map parts_of_front fs ++ parts_of_front f ∷ [] = ap (map parts_of_front) items ∙ map-append parts_of_front fs (f ∷ []) in
+        All_last (λ p. p ≡ 1) (map parts_of_front fs) (parts_of_front f) (subst (λ ps. All (λ p. p ≡ 1) ps) split (parts_at made some w e h l at))
 
     -- the last worker gives away its last front
     pub takes : (old new : Ends T Q) (f : Front T Q) → AreSoFar deques w (k + 1) (k + 1) ends → w < length ends → old ≡ get_or ends w old → new.own ≡ old.own
@@ -202,7 +211,7 @@ module _ {T Q : Type 0} where
   }
 
   -- no worker has fronts
-  pub none : (ends : List (Ends T Q)) → All (λ e. ((own_tally e).parts ≡ ALL_PARTS) × (e.fronts.items ≡ [])) ends → AreSoFar (map deque_of ends) 0 0 0 ends
+  pub none : (ends : List (Ends T Q)) → All IsWhole ends → AreSoFar (map deque_of ends) 0 0 0 ends
   none ends h = record {
     own = refl;
     one_part = λ j d l. subst (λ fs. All (λ p. p ≡ 1) (map parts_of_front fs)) (sym (h j d l).1) (All-nil (λ p. p ≡ 1));
@@ -217,7 +226,7 @@ module _ {T Q : Type 0} where
         };
   }
 
-  pub none_left : (deques : List Deque) (ends : List (Ends T Q)) → AreSoFar deques 0 0 0 ends → All (λ e. ((own_tally e).parts ≡ ALL_PARTS) × (e.fronts.items ≡ [])) ends
+  pub none_left : (deques : List Deque) (ends : List (Ends T Q)) → AreSoFar deques 0 0 0 ends → All IsWhole ends
   none_left deques ends h = λ j d l.
       let e = get_or ends j d in
       let b = h.each j d l in

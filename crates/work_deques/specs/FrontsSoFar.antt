@@ -26,3 +26,7 @@ module _ {T Q : Type 0} where
     pub put : (own_tally e).put ≡ []
     pub taken : (own_tally e).taken ≡ []
     pub fronts : All (λ v. v ≡ tally 1 [] []) (front_tallies e)
+
+  -- all fronts were given back to the owner of the deque
+  abbrev pub IsWhole : Ends T Q → Type 0
+  IsWhole e = ((own_tally e).parts ≡ ALL_PARTS) × (e.fronts.items ≡ [])

@@ -78,9 +78,13 @@ module _ {T Q : Type 0} where
     pub own_parts : (own_tally new).parts ≡ (own_tally old).parts
     pub front_parts : front_parts new ≡ front_parts old
 
-  -- the weight of what a worker has put into deques and taken out, at all its ends
-  abbrev pub weight_put : (ℕ → ℕ) → Ends T Q → ℕ
-  weight_put h e = sum_by h (own_tally e).put + sum_by (λ v. sum_by h v.put) (front_tallies e)
+  -- a number of each tally, added up over all ends of all workers
+  abbrev pub over_ends : (Tally → ℕ) → List (Ends T Q) → ℕ
+  over_ends f ends = sum_by (λ e. f (own_tally e) + sum_by f (front_tallies e)) ends
 
-  abbrev pub weight_taken : (ℕ → ℕ) → Ends T Q → ℕ
-  weight_taken h e = sum_by h (own_tally e).taken + sum_by (λ v. sum_by h v.taken) (front_tallies e)
+  -- the weight of all tasks that were put into the deques, and of all that were taken out
+  abbrev pub weight_put : (ℕ → ℕ) → List (Ends T Q) → ℕ
+  weight_put h ends = over_ends (λ v. sum_by h v.put) ends
+
+  abbrev pub weight_taken : (ℕ → ℕ) → List (Ends T Q) → ℕ
+  weight_taken h ends = over_ends (λ v. sum_by h v.taken) ends

@@ -4,7 +4,7 @@ ghost use Rattle.std.specs.Prelude.{◌<◌};
 ghost use Rattle.crossbeam_deque.specs.Handles.{worker_view};
 
 use crate::front::Front;
-use crate::protocol::{Got, OnePart, Put, Tested};
+use crate::protocol::{Got, OnePart, Put, Tested, Total};
 use crate::tally::{Tally, TaskTest};
 use crossbeam_deque::Worker;
 use pipe_model::memory::NoMemory;
@@ -24,10 +24,9 @@ pub struct Ends<T: Drop, Q: TaskTest<T>> {
 }
 
 impl<T: Drop, Q: TaskTest<T>> Ends<T, Q> {
-    ghost use Rattle.std.specs.Prelude.{◌≡◌, ◌<◌, ◌≤◌, ◌+◌, ◌∷◌, ◌++◌, [], ℕ, IfSome, IfErr, IfOk, MatchOption, MatchResult, min};
-    ghost use Rattle.crossbeam_deque.specs.Handles.{stealer_deque, view, worker_deque, worker_view};
-    ghost use Rattle.work_deques.specs.Tallies.{ALL_PARTS, joined, tally, with_put, with_taken};
-    ghost use Rattle.work_deques.specs.WorkerEnds.{SameDeques, capacity_of, deque_of, front_count, front_deques, front_parts, front_tallies, front_tally, index_of, own_tally};
+    ghost use Rattle.std.specs.Prelude.{◌≡◌, ◌<◌, ◌≤◌, ◌+◌, ◌∷◌, ◌++◌, [], ℕ, List, length, IfSome, IfErr, IfOk, MatchOption, MatchResult, min};
+    ghost use Rattle.work_deques.specs.Tallies.{ALL_PARTS, IsEven, joined, tally, with_put, with_taken};
+    ghost use Rattle.work_deques.specs.WorkerEnds.{SameDeques, capacity_of, deque_of, deque_of_front, front_count, front_tallies, front_tally, index_of, own_tally, tally_of_front};
 
     // Makes a deque with room for `capacity` tasks, and returns its back. There are no fronts yet.
     pub(crate) fn new(alloc: Global, capacity: u32) -> Result<Self, NoMemory>
@@ -49,8 +48,8 @@ impl<T: Drop, Q: TaskTest<T>> Ends<T, Q> {
         ensures deque { deque_of self.new ≡ deque_of self.old }
         ensures own { IfOk result (λ f. own_tally self.old ≡ tally ((own_tally self.new).parts + 1) (own_tally self.new).put (own_tally self.new).taken) }
         ensures fronts { self.new.fronts ≡ self.old.fronts }
-        ensures made { IfOk result (λ f. stealer_deque f.stealer ≡ deque_of self.new) }
-        ensures tally { IfOk result (λ f. view f.pass ≡ tally 1 [] []) }
+        ensures made { IfOk result (λ f. deque_of_front f ≡ deque_of self.new) }
+        ensures tally { IfOk result (λ f. tally_of_front f ≡ tally 1 [] []) }
     {
         Front::of(&mut self.own)
     }
@@ -62,6 +61,36 @@ impl<T: Drop, Q: TaskTest<T>> Ends<T, Q> {
     {
         self.fronts.push(front)?;
         Ok(())
+    }
+
+    // Removes the last front, and returns it.
+    pub(crate) fn take_front(&mut self) -> Front<T, Q>
+        requires { 0 < front_count self.old }
+        ensures own { self.new.own ≡ self.old.own }
+        ensures fronts { self.old.fronts.items ≡ self.new.fronts.items ++ result ∷ [] }
+    {
+        let Some(front) = self.fronts.pop() else {
+            unreachable!()
+        };
+        front
+    }
+
+    // Takes back a front of the worker's own deque. What the front has taken is then in the own tally.
+    pub(crate) fn absorb(&mut self, front: Front<T, Q>)
+        requires { deque_of_front front ≡ deque_of self.old }
+        ensures deque { deque_of self.new ≡ deque_of self.old }
+        ensures own { own_tally self.new ≡ joined (own_tally self.old) (tally_of_front front) }
+        ensures fronts { self.new.fronts ≡ self.old.fronts }
+    {
+        self.own.absorb::<OnePart>(front.into_pass());
+    }
+
+    // Returns how many tasks are in the own deque, of which the owner has all parts.
+    pub(crate) fn left(mut self) -> usize
+        requires { (own_tally self).parts ≡ ALL_PARTS }
+        ensures { (left : List ℕ) × (length left ≡ result) × IsEven (own_tally self) left }
+    {
+        self.own.len_as::<Total<Q>>()
     }
 
     /// Returns the number of workers; at most 4,294,967,295 are counted.

@@ -9,4 +9,5 @@ pub mod deques;
 pub mod ends;
 mod front;
 mod protocol;
+pub mod settle;
 pub mod tally;

@@ -2,10 +2,9 @@ use Rattle.std.proofs.Common.{◌≡◌, ◌∙◌, ◌+◌, [], All, length, ap
 use Rattle.std.proofs.lemmas.List.{length_push}
 use Rattle.std.proofs.lemmas.List.Elements.{All-nil, All-push}
 use Rattle.work_deques.proofs.FrontSteps.{none}
-use Rattle.work_deques.specs.FrontsSoFar.{AreUnused}
-use Rattle.work_deques.specs.Tallies.{ALL_PARTS, tally}
-use Rattle.work_deques.specs.WorkerEnds.{own_tally, tally_of_front}
-use Rattle.work_deques.specs.declared.ends.Ends.{Ends}
+use Rattle.work_deques.specs.FrontsSoFar.{AreUnused, IsWhole}
+use Rattle.work_deques.specs.Tallies.{tally}
+use Rattle.work_deques.specs.WorkerEnds.{tally_of_front}
 use Rattle.work_deques.specs.declared.tally.Tally.{Tally}
 use Rattle.work_deques.proofs.deques.without_fronts.Goals as goal
 
@@ -15,7 +14,6 @@ loop-preserved g c =
     let e = c.in_ok-new.ensures in
     let new = c.in_ok-new.field-0 in
     let items = c.in_ok-push.ensures.items in
-    let P = λ (e : Ends g.row.T.Denot g.row.Q.Denot). ((own_tally e).parts ≡ ALL_PARTS) × (e.fronts.items ≡ []) in
     record {
       counted = ap length items ∙ length_push _ _ ∙ ap (λ n. n + 1) h.counted;
       unused = rw items (All-push (AreUnused c.args.capacity) _ _ h.unused
@@ -26,7 +24,7 @@ loop-preserved g c =
             taken = ap (λ (v : Tally). v.taken) e.own;
             fronts = subst (λ fs. All (λ v. v ≡ tally 1 [] []) (map tally_of_front fs)) (sym e.fronts) (All-nil (λ v. v ≡ tally 1 [] []));
           });
-      none = rw items (All-push P _ _ h.none (ap (λ (v : Tally). v.parts) e.own, e.fronts));
+      none = rw items (All-push IsWhole _ _ h.none (ap (λ (v : Tally). v.parts) e.own, e.fronts));
     }
 
 pub returns-clause-so_far : goal.returns-clause-so_far
