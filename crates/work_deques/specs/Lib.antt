@@ -1,0 +1,3 @@
+pub mod Tallies
+pub mod WorkerEnds
+pub mod FrontsSoFar
