@@ -11,6 +11,7 @@ pub trait Gate {
 }
 
 /// Lets each worker pass at once.
+#[derive(Drop)]
 pub struct OpenGate;
 
 impl Gate for OpenGate {

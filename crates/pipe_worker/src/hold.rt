@@ -9,6 +9,7 @@ use std::sync::atomic::{AtomicBool, Ordering};
 /// Holds one instance until another is at the gate, but only for a number of turns. It is a test
 /// double: a test names two instances that may run at the same time, and asks by `met` whether they
 /// did.
+#[derive(Drop)]
 pub struct HoldGate {
     held: NodeId,
     until: NodeId,
