@@ -1,0 +1,2 @@
+pub mod SeenRuns
+pub mod SameEnds

@@ -1,0 +1,12 @@
+-- Ends of deques before and after calls.
+use Rattle.std.proofs.Common.{◌∙◌}
+use Rattle.work_deques.specs.WorkerEnds.{SameDeques}
+use Rattle.work_deques.specs.declared.ends.Ends.{Ends}
+
+pub then_same : {T Q : Type 0} (u v w : Ends T Q) → SameDeques u v → SameDeques v w → SameDeques u w
+then_same u v w h k = record {
+  own = k.own ∙ h.own;
+  fronts = k.fronts ∙ h.fronts;
+  own_parts = k.own_parts ∙ h.own_parts;
+  front_parts = k.front_parts ∙ h.front_parts;
+}

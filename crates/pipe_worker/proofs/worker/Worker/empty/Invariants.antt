@@ -1,0 +1,11 @@
+use Rattle.std.proofs.Common.{◌≡◌}
+use Rattle.pipe_worker.specs.Tasks.{IsStopSeen}
+use Rattle.pipe_worker.specs.Workers.{IsSameWorker}
+use Rattle.pipe_worker.proofs.worker.Worker.empty.Given as goal
+
+abbrev pub invariant-loop : goal.invariant-loop
+invariant-loop g l = record {
+  named : g.H.Hall.named l.hall ≡ g.Q.WorkTest.named;
+  stopped : IsStopSeen (g.H.Hall.seen l.fn.hall) → IsStopSeen (g.H.Hall.seen l.hall);
+  worker : IsSameWorker l.fn.self l.self;
+}

@@ -1,0 +1,4 @@
+pub mod Machines
+pub mod HeldInstances
+pub mod Tasks
+pub mod Workers

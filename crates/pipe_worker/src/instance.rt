@@ -1,0 +1,47 @@
+//! Instances that run over the cells of a hall.
+
+ghost use Rattle.std.specs.Prelude.{◌≡◌};
+ghost use Rattle.pipe_frame.specs.SeatedTokens.{IsGivenToken, seated_replies};
+ghost use Rattle.pipe_frame.specs.TokenFields.{fields_of};
+ghost use Rattle.pipe_worker.specs.HeldInstances.{MayAdvance};
+ghost use Rattle.pipe_worker.specs.Machines.{CanDrive};
+
+use crate::lent::LentHall;
+use crate::memory::{InstanceMemory, RunningInstance};
+use crate::runs::Runs;
+use pipe_frame::hall::Hall;
+use pipe_frame::token::FrameToken;
+use pipe_model::list::Numbers;
+use pipe_model::stage::StageEnd;
+use pipe_model::ticket::Trace;
+use stage_code::code::Code;
+use std::alloc::Global;
+use std::sync::Wait;
+
+/// Runs the instance of a token over the cells of the hall. Returns the hall, the token, the accesses
+/// of the instance and its end.
+pub fn run_instance<'a, R: Wait, M: Runs + Drop, H: Hall<M>, J: RunningInstance>(
+    alloc: Global,
+    rt: &R,
+    code: &Code,
+    input: &Numbers,
+    lent: LentHall<'a, H>,
+    mut token: FrameToken<M>,
+) -> (LentHall<'a, H>, FrameToken<M>, Trace, StageEnd)
+    requires reference { lent.hall.ghost_name ≡ J.reference }
+    requires named { H.named lent.hall.now ≡ J.named }
+    requires drives { CanDrive M.code J.named code.now input.now }
+    requires given { IsGivenToken M.stands M.tie J.named token }
+    requires iteration { token.iteration ≡ J.iteration }
+    requires replies { seated_replies (M.tie token.payload) ≡ J.replies }
+    ensures reference { result.0.hall.ghost_name ≡ lent.entry.hall.ghost_name }
+    ensures named { H.named result.0.hall.now ≡ J.named }
+    ensures advances { MayAdvance M.whole M.stands M.tie J.named (H.seen result.0.hall.now) result.1 result.2 result.3 }
+{
+    let mut machine = token.payload.take_machine();
+    let mut memory = InstanceMemory::<R, M, H, J>::new(alloc, rt, lent, token);
+    let end = machine.run_stage(code, input, &mut memory);
+    let (lent, mut token, trace) = memory.finish();
+    token.payload.put_machine(machine);
+    (lent, token, trace, end)
+}

@@ -1,0 +1,14 @@
+//! Workers: each runs stage instances, looks for more at its right neighbour, in its own deque, in the
+//! deques of the others and in the scheduler's book, and returns once the run is over (Lee et al.,
+//! "On-the-Fly Pipeline Parallelism", SPAA 2013).
+#![tactic(auto)]
+
+pub mod advance;
+pub mod gate;
+pub mod hold;
+pub mod instance;
+pub mod lent;
+pub mod memory;
+pub mod runs;
+pub mod work_test;
+pub mod worker;

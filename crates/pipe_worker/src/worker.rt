@@ -1,0 +1,307 @@
+//! The loop of a worker.
+
+ghost use Rattle.std.specs.Prelude.{◌≡◌, IfSome};
+ghost use Rattle.pipe_frame.specs.SeatedTokens.{IsGivenToken};
+ghost use Rattle.pipe_worker.specs.Machines.{CanDrive};
+ghost use Rattle.pipe_worker.specs.Tasks.{IsOver, IsStopSeen};
+ghost use Rattle.pipe_worker.specs.Workers.{IsSameWorker, ends_of, number_of};
+
+use crate::advance::run_and_advance;
+use crate::gate::Gate;
+use crate::runs::Runs;
+use crate::work_test::WorkTest;
+use crossbeam_utils::Backoff;
+use lazy_enable::look::{Look, StageOutcome, after};
+use pipe_frame::hall::Hall;
+use pipe_frame::results::{Begun, Next, Rescue};
+use pipe_frame::token::{FrameToken, Task};
+use pipe_model::list::Numbers;
+use pipe_model::node::NodeId;
+use pipe_model::stage::StageEnd;
+use stage_code::code::Code;
+use std::alloc::Global;
+use std::sync::Wait;
+use work_deques::ends::Ends;
+
+// How often a worker looks for a task again before it asks the book once more, after the book had
+// nothing for it. The book has a lock, which workers with instances need.
+const LOOKS_BEFORE_RESCUE: u32 = 4;
+
+/// A worker, with its ends of the deques. Workers have numbers from 0, as their deques have.
+#[derive(Drop)]
+pub struct Worker<M: Runs + Drop, Q: WorkTest<M>> {
+    alloc: Global,
+    number: u32,
+    ends: Ends<Task<M>, Q>,
+}
+
+// What came of a worker's question to the book.
+enum Rescued {
+    // There was something to do, and it was done.
+    Worked,
+    // There is nothing to do now.
+    Nothing,
+    // The run is finished or stopped.
+    Over,
+}
+
+// Returns whether the loop goes on after an instance 0 with this end.
+fn loop_goes_on(end: StageEnd) -> bool {
+    match end {
+        StageEnd::Wait(_) | StageEnd::Continue(_) | StageEnd::End => true,
+        StageEnd::Closed | StageEnd::Trap(_) | StageEnd::Stopped => false,
+    }
+}
+
+impl<M: Runs + Drop, Q: WorkTest<M>> Worker<M, Q> {
+    /// Returns the worker with this number.
+    pub fn new(alloc: Global, number: u32, ends: Ends<Task<M>, Q>) -> Self
+        ensures number { number_of result ≡ number }
+        ensures ends { ends_of result ≡ ends }
+    {
+        Worker {
+            alloc,
+            number,
+            ends,
+        }
+    }
+
+    /// Returns the worker's ends of the deques.
+    pub fn into_ends(self) -> Ends<Task<M>, Q>
+        ensures { result ≡ ends_of self }
+    {
+        self.ends
+    }
+
+    // Takes a task from the deque of another worker, if one has some.
+    fn steal<R: Wait>(&mut self, rt: &R) -> Option<Task<M>>
+        ensures task { IfSome result Q.meets }
+        ensures worker { IsSameWorker self.old self.new }
+    {
+        let workers = self.ends.workers();
+        for step in 1..workers {
+            let victim = (u64::from(self.number) + u64::from(step)) % u64::from(workers);
+            if let Some(task) = self.ends.steal(rt, victim as u32) {
+                return Some(task);
+            }
+        }
+        None
+    }
+
+    // Takes the last task of the worker's own deque, or else one of another worker.
+    fn take_task<R: Wait>(&mut self, rt: &R) -> Option<Task<M>>
+        ensures task { IfSome result Q.meets }
+        ensures worker { IsSameWorker self.old self.new }
+    {
+        match self.ends.pop() {
+            Some(task) => Some(task),
+            None => self.steal(rt),
+        }
+    }
+
+    // Keeps a token as a task, or leaves it to others if the deque refuses it.
+    fn keep<R: Wait, H: Hall<M>>(&mut self, rt: &R, hall: &mut H, token: FrameToken<M>)
+        requires named { H.named hall.old ≡ Q.named }
+        requires given { IsGivenToken M.stands M.tie Q.named token }
+        ensures named { H.named hall.new ≡ Q.named }
+        ensures worker { IsSameWorker self.old self.new }
+    {
+        if let Err(Task::Resume(token)) = self.ends.push(Task::Resume(token)) {
+            hall.leave_ready(rt, token);
+        }
+    }
+
+    // Leaves the tasks of the worker's own deque to others. A task to begin an iteration is dropped,
+    // since the book knows whether one may begin.
+    fn empty<R: Wait, H: Hall<M>>(&mut self, rt: &R, hall: &mut H)
+        requires named { H.named hall.old ≡ Q.named }
+        ensures named { H.named hall.new ≡ Q.named }
+        ensures stopped { IsStopSeen (H.seen hall.old) → IsStopSeen (H.seen hall.new) }
+        ensures worker { IsSameWorker self.old self.new }
+    {
+        for _ in rt.forever() {
+            match self.ends.pop() {
+                None => return,
+                Some(Task::Begin) => {}
+                Some(Task::Resume(token)) => hall.leave_ready(rt, token),
+            }
+        }
+    }
+
+    // Looks for a further task after an iteration that cannot go on.
+    fn look<R: Wait, H: Hall<M>>(
+        &mut self,
+        rt: &R,
+        hall: &mut H,
+        iteration: u32,
+        outcome: StageOutcome,
+    )
+        requires named { H.named hall.old ≡ Q.named }
+        ensures named { H.named hall.new ≡ Q.named }
+        ensures worker { IsSameWorker self.old self.new }
+    {
+        match after(outcome, true) {
+            Look::Right => {
+                if let Some(token) = hall.check_right(rt, iteration) {
+                    self.keep(rt, hall, token);
+                }
+            }
+            Look::On | Look::Rescue => {}
+        }
+    }
+
+    // Runs an iteration from an instance on, until it cannot go on.
+    fn run<R: Wait, H: Hall<M>, G: Gate>(
+        &mut self,
+        rt: &R,
+        code: &Code,
+        input: &Numbers,
+        hall: &mut H,
+        gate: &G,
+        token: FrameToken<M>,
+    )
+        requires named { H.named hall.old ≡ Q.named }
+        requires drives { CanDrive M.code Q.named code.now input.now }
+        requires given { IsGivenToken M.stands M.tie Q.named token }
+        ensures named { H.named hall.new ≡ Q.named }
+        ensures worker { IsSameWorker self.old self.new }
+    {
+        let mut token = token;
+        for _ in rt.forever() {
+            let iteration = token.iteration;
+            let index = token.index;
+            gate.at(rt, self.number, NodeId { iteration, index });
+            let (next, end) = run_and_advance(self.alloc, rt, code, input, hall, token);
+            if index == 0 && loop_goes_on(end) {
+                let _refused = self.ends.push(Task::Begin);
+            }
+            match next {
+                Next::Go(further) => token = further,
+                Next::Suspended => {
+                    self.look(rt, hall, iteration, StageOutcome::Suspended);
+                    return;
+                }
+                Next::Ended => {
+                    self.look(rt, hall, iteration, StageOutcome::Ended);
+                    return;
+                }
+                Next::Stopped => {
+                    self.empty(rt, hall);
+                    return;
+                }
+            }
+        }
+    }
+
+    // Begins the next iteration, if it may begin, and runs it.
+    fn begin<R: Wait, H: Hall<M>, G: Gate>(
+        &mut self,
+        rt: &R,
+        code: &Code,
+        input: &Numbers,
+        hall: &mut H,
+        gate: &G,
+    )
+        requires named { H.named hall.old ≡ Q.named }
+        requires drives { CanDrive M.code Q.named code.now input.now }
+        ensures named { H.named hall.new ≡ Q.named }
+        ensures worker { IsSameWorker self.old self.new }
+    {
+        match hall.begin(rt) {
+            Begun::Started(token) => self.run(rt, code, input, hall, gate, token),
+            Begun::Stopped => self.empty(rt, hall),
+            Begun::Throttled | Begun::Closed | Begun::NotYet => {}
+        }
+    }
+
+    // Does a task.
+    fn perform<R: Wait, H: Hall<M>, G: Gate>(
+        &mut self,
+        rt: &R,
+        code: &Code,
+        input: &Numbers,
+        hall: &mut H,
+        gate: &G,
+        task: Task<M>,
+    )
+        requires named { H.named hall.old ≡ Q.named }
+        requires drives { CanDrive M.code Q.named code.now input.now }
+        requires task { Q.meets task }
+        ensures named { H.named hall.new ≡ Q.named }
+        ensures worker { IsSameWorker self.old self.new }
+    {
+        match task {
+            Task::Begin => self.begin(rt, code, input, hall, gate),
+            Task::Resume(token) => self.run(rt, code, input, hall, gate, token),
+        }
+    }
+
+    // Asks the book for something to do, and does it.
+    fn rescue<R: Wait, H: Hall<M>, G: Gate>(
+        &mut self,
+        rt: &R,
+        code: &Code,
+        input: &Numbers,
+        hall: &mut H,
+        gate: &G,
+    ) -> Rescued
+        requires named { H.named hall.old ≡ Q.named }
+        requires drives { CanDrive M.code Q.named code.now input.now }
+        ensures named { H.named hall.new ≡ Q.named }
+        ensures over { result ≡ Rescued.Over → IsOver (H.seen hall.new) }
+        ensures worker { IsSameWorker self.old self.new }
+    {
+        match hall.rescue(rt) {
+            Rescue::Token(token) => {
+                self.run(rt, code, input, hall, gate, token);
+                Rescued::Worked
+            }
+            Rescue::MayBegin => {
+                self.begin(rt, code, input, hall, gate);
+                Rescued::Worked
+            }
+            Rescue::Nothing => Rescued::Nothing,
+            Rescue::Finished => Rescued::Over,
+            Rescue::Stopped => {
+                self.empty(rt, hall);
+                Rescued::Over
+            }
+        }
+    }
+
+    /// Runs instances until the run is over. Returns only after the hall has seen the run finished or
+    /// stopped; the worker's ends are then still ends of the same deques.
+    pub fn work<R: Wait, H: Hall<M>, G: Gate>(
+        &mut self,
+        rt: &R,
+        code: &Code,
+        input: &Numbers,
+        hall: &mut H,
+        gate: &G,
+    )
+        requires named { H.named hall.old ≡ Q.named }
+        requires drives { CanDrive M.code Q.named code.now input.now }
+        ensures named { H.named hall.new ≡ Q.named }
+        ensures over { IsOver (H.seen hall.new) }
+        ensures worker { IsSameWorker self.old self.new }
+    {
+        let backoff = Backoff::new();
+        let mut looks = 0u32;
+        for _ in rt.forever() {
+            if let Some(task) = self.take_task(rt) {
+                backoff.reset();
+                looks = 0;
+                self.perform(rt, code, input, hall, gate, task);
+            } else if looks > 0 {
+                looks -= 1;
+                backoff.snooze();
+            } else {
+                match self.rescue(rt, code, input, hall, gate) {
+                    Rescued::Worked => backoff.reset(),
+                    Rescued::Nothing => looks = LOOKS_BEFORE_RESCUE,
+                    Rescued::Over => return,
+                }
+            }
+        }
+    }
+}
