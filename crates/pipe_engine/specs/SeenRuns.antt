@@ -1,0 +1,11 @@
+-- What a joined seat has seen of a run.
+use Rattle.std.specs.Prelude.{List}
+use Rattle.pipe_frame.specs.HallViews.{BeginsWith}
+use Rattle.pipe_model.specs.declared.event.Event.{Event}
+use Rattle.pipe_worker.specs.Tasks.{IsOver}
+
+-- the events that were seen begin with those of a run that is over
+pub record HasSeenOver (seen : List Event) : Type 0 where
+  pub base : List Event
+  pub over : IsOver base
+  pub later : BeginsWith seen base
