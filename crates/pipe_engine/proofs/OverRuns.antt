@@ -1,6 +1,8 @@
 -- A run that is over stays over: after the end only a stop is allowed, and nothing after a stop.
 use Rattle.std.proofs.Common.{◌≡◌, ◌∙◌, ◌++◌, ◌∷◌, [], ℕ, List, true, false, inl, inr, refl, sym, ap, subst, append_assoc, append-nil}
 use Rattle.frame_book.proofs.Conditions.Rescue.{open_by_begin}
+use Rattle.pipe_engine.specs.SeenRuns.{HasSeenOver}
+use Rattle.pipe_frame.specs.HallViews.{BeginsWith}
 use Rattle.pipe_model.specs.declared.event.Event.{Event}
 use Rattle.pipe_model.specs.declared.event.Event.TheVariants.{Begin, Access, Advance, Enter, Finish, Stop}
 use Rattle.pipe_model.specs.Runs.Allowed.{ControlAllows, IsRunning, MayBegin, MayEnter}
@@ -35,13 +37,13 @@ only_stops limit s Stop sound h may = refl
 step : (limit : ℕ) (front : List Event) (e : Event) → IsAllowedAt limit front e → IsOver front → IsOver (front ++ e ∷ [])
 step limit front e a over =
     elim over [
-    | inl finished ↦ (
-        let h = subst IsFinished (sym (control_state_is a.before)) finished in
-        let stop = only_stops limit a.state e (control_starts_sound a.before).sound h a.control in
-        inr (subst (λ x. (state_after (front ++ x ∷ [])).stopped ≡ true) (sym stop) (ap (λ (s : State). s.stopped) (state_from-push initial_state front Stop))))
-    | inr stopped ↦ (
-        let e : false ≡ true = sym a.going ∙ ap (λ (s : State). s.stopped) (control_state_is a.before) ∙ stopped in
-        absurd (cc))
+      | inl finished ↦ (
+          let h = subst IsFinished (sym (control_state_is a.before)) finished in
+          let stop = only_stops limit a.state e (control_starts_sound a.before).sound h a.control in
+          inr (subst (λ x. (state_after (front ++ x ∷ [])).stopped ≡ true) (sym stop) (ap (λ (s : State). s.stopped) (state_from-push initial_state front Stop))))
+      | inr stopped ↦ (
+          let e : false ≡ true = sym a.going ∙ ap (λ (s : State). s.stopped) (control_state_is a.before) ∙ stopped in
+          absurd (cc))
     ]
 
 -- the events that follow are those of a run that is over
@@ -49,3 +51,7 @@ pub over_stays : {limit : ℕ} {events : List Event} {c : State} → ControlRun 
 over_stays r base [] same over = subst IsOver (sym (same ∙ append-nil base)) over
 over_stays {limit = limit} r base (e ∷ rest) same over =
     over_stays r (base ++ e ∷ []) rest (same ∙ sym (append_assoc base (e ∷ []) rest)) (step limit base e (allowed_at r base e rest same) over)
+
+pub seen_runs : (limit : ℕ) (events seen : List Event) → ControlRun limit events (state_after events) → BeginsWith events seen → HasSeenOver seen → IsOver events
+seen_runs limit events seen r begins h =
+    over_stays r h.base (h.later.0 ++ begins.0) (begins.1 ∙ ap (λ l. l ++ begins.0) h.later.1 ∙ append_assoc h.base h.later.0 begins.0) h.over

@@ -6,5 +6,6 @@
 pub mod carried;
 pub mod drive;
 pub mod lanes;
+pub mod over;
 pub mod task_test;
 pub mod workers;

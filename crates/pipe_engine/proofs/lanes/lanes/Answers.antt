@@ -1,7 +1,7 @@
-use Rattle.std.proofs.Common.{◌≡◌, ◌∙◌, ◌++◌, ◌∷◌, [], ap, ap₂, length, map, arith}
-use Rattle.std.proofs.lemmas.List.{length_push, map_push}
+use Rattle.std.proofs.Common.{◌≡◌, arith}
+use Rattle.std.proofs.lemmas.List.{length_push}
 use Rattle.std.proofs.lemmas.List.Elements.{All-push}
-use Rattle.pipe_engine.specs.Lanes.{ends_in, seat_in}
+use Rattle.pipe_engine.specs.Lanes.{seat_in}
 use Rattle.pipe_engine.proofs.LaneLists.{ends_push, numbered_push}
 use Rattle.work_deques.proofs.TestedLists.{All_init, All_last}
 use Rattle.pipe_engine.proofs.lanes.lanes.Goals as goal

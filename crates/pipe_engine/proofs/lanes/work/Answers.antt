@@ -1,5 +1,5 @@
-use Rattle.std.proofs.Common.{◌≡◌, ◌∙◌, All, ap, length, map, subst, sym, arith}
-use Rattle.pipe_engine.specs.Lanes.{ends_in, seat_in}
+use Rattle.std.proofs.Common.{◌≡◌, ◌∙◌, ap, length, map, subst, sym, arith}
+use Rattle.pipe_engine.specs.Lanes.{ends_in}
 use Rattle.pipe_engine.proofs.LaneLists.{all_ends_stay, written_back}
 use Rattle.work_deques.specs.WorkerEnds.{AreAllEnds}
 use Rattle.pipe_engine.proofs.lanes.work.Goals as goal
