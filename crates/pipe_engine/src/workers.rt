@@ -5,7 +5,6 @@ ghost use Rattle.pipe_engine.specs.SeenRuns.{HasSeenOver};
 ghost use Rattle.pipe_frame.specs.HallViews.{BeginsWith};
 ghost use Rattle.pipe_hall.specs.WorkerSeats.{IsSameHall, hall_name};
 ghost use Rattle.pipe_worker.specs.Machines.{CanDrive};
-ghost use Rattle.pipe_worker.specs.Tasks.{IsOver};
 
 use crate::carried::{Carried, RunCode};
 use crate::drive::drive;
