@@ -13,10 +13,6 @@ mod checker_rows;
 #[cfg(test)]
 mod closing;
 #[cfg(test)]
-mod instance;
-#[cfg(test)]
-mod memory;
-#[cfg(test)]
 mod opening;
 #[cfg(test)]
 mod run_rows;

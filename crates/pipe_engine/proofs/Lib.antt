@@ -1,0 +1,3 @@
+pub mod LaneLists
+pub mod OverRuns
+pub mod JoinedSeats

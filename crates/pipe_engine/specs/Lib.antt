@@ -1,1 +1,3 @@
-pub mod CarriedMachines
+pub mod TaskNumbers
+pub mod Lanes
+pub mod SeenRuns

@@ -1,0 +1,12 @@
+use Rattle.std.proofs.Common.{◌≡◌, ◌+◌, All, length, map, vec_len}
+use Rattle.pipe_engine.specs.Lanes.{AreNumbered, ends_in, seat_in}
+use Rattle.pipe_engine.proofs.lanes.lanes.Given as goal
+
+abbrev pub invariant-loop-ends : goal.invariant-loop-ends
+invariant-loop-ends g l = record {
+  made : map ends_in l.lanes.items ≡ l.yielded;
+  seats : vec_len l.seats + length l.yielded ≡ vec_len l.fn.seats;
+  left : All (λ seat. g.H.Hall.named seat ≡ g.J.DrivenHall.named) l.seats.items;
+  named : All (λ lane. g.H.Hall.named (seat_in lane) ≡ g.J.DrivenHall.named) l.lanes.items;
+  numbers : AreNumbered l.lanes.items;
+}
