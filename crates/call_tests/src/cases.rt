@@ -1,11 +1,11 @@
 // Calls over files and sinks in memory, for the tests of the top call.
 
 use cilkp_program::call::{Ended, cilkp};
-use cilkp_program::gate::OpenGate;
 use pipe_io::mem_files::MemFiles;
 use pipe_io::mem_sink::MemSink;
 use pipe_model::list::Bytes;
 use pipe_model::memory::NoMemory;
+use pipe_worker::gate::{Gate, OpenGate};
 use std::alloc::Global;
 use std::test::Fail;
 
@@ -46,13 +46,22 @@ pub struct Case<'a> {
 }
 
 impl<'a> Case<'a> {
+    // A run with one worker, which makes the serial run.
     pub fn of(source: &'a [u8]) -> Self {
         Case {
-            words: &["run", "a.pipe", "a.in"],
+            words: &["run", "a.pipe", "a.in", "--workers", "1"],
             source,
             input: b"",
             read_fails: None,
             write_fails: None,
+        }
+    }
+
+    // The same call with four workers.
+    pub fn with_four_workers(self) -> Self {
+        Case {
+            words: &["run", "a.pipe", "a.in", "--workers", "4", "--throttle", "8"],
+            ..self
         }
     }
 
@@ -83,15 +92,15 @@ impl<'a> Case<'a> {
     }
 
     // Makes the call, and returns its result and what the sink took.
-    pub fn run(self, alloc: Global) -> Result<(Ended, Vec<u8>), NoMemory> {
-        let mut call = self.set_up(alloc)?;
-        let ended = call.make(alloc)?;
-        Ok((ended, call.sink.taken().as_slice().to_vec(alloc)?))
+    pub fn run(self, rt: &HostRuntime) -> Result<(Ended, Vec<u8>), NoMemory> {
+        let mut call = self.set_up(rt.alloc())?;
+        let ended = call.make(rt)?;
+        Ok((ended, call.sink.taken().as_slice().to_vec(rt.alloc())?))
     }
 
     // Fails the test if the status or the text differs.
-    pub fn check(self, alloc: Global, name: &str, status: u8, text: &str) -> Result<(), Fail> {
-        let (ended, taken) = self.run(alloc)?;
+    pub fn check(self, rt: &HostRuntime, name: &str, status: u8, text: &str) -> Result<(), Fail> {
+        let (ended, taken) = self.run(rt)?;
         if ended.status != status
             || ended.written != text.len() as u64
             || taken.as_slice() != text.as_bytes()
@@ -114,14 +123,23 @@ pub struct Call {
 }
 
 impl Call {
-    pub fn make(&mut self, alloc: Global) -> Result<Ended, NoMemory> {
+    pub fn make(&mut self, rt: &HostRuntime) -> Result<Ended, NoMemory> {
+        self.make_at(rt, &OpenGate)
+    }
+
+    // Makes the call, with a gate for its workers.
+    pub fn make_at<G: Gate + Sync>(
+        &mut self,
+        rt: &HostRuntime,
+        gate: &G,
+    ) -> Result<Ended, NoMemory> {
         cilkp(
-            (),
-            alloc,
+            rt,
+            rt.alloc(),
             self.words.as_slice(),
             &mut self.files,
             &mut self.sink,
-            &OpenGate,
+            gate,
         )
     }
 }

@@ -15,3 +15,5 @@ mod refusal_tests;
 mod row_tests;
 #[cfg(test)]
 mod tests;
+#[cfg(test)]
+mod thread_rows;

@@ -1,7 +1,6 @@
 // The real files and the real sink, and the files and sinks in memory that never fail. `row_tests`
 // has those that fail.
 
-use cilkp_program::gate::{Gate, OpenGate};
 use pipe_io::files::{Files, ReadPart};
 use pipe_io::mem_files::CleanFiles;
 use pipe_io::mem_sink::CleanSink;
@@ -9,7 +8,6 @@ use pipe_io::real::{RealFiles, RealSink};
 use pipe_io::sink::{Sink, WritePart};
 use pipe_io::whole::{Whole, WriteEnd, read_whole, write_text};
 use pipe_model::list::Bytes;
-use pipe_model::node::NodeId;
 use std::fs;
 use std::test::Fail;
 
@@ -71,12 +69,4 @@ fn real_sink(rt: HostRuntime) {
     // A write that takes nothing is a fault.
     assert_eq!(rt; real.write_part(b""), WritePart::Failed);
     assert_eq!(rt; real.faults.get(), 1);
-    // The open gate returns at once.
-    OpenGate.at(
-        0,
-        NodeId {
-            iteration: 0,
-            index: 0,
-        },
-    );
 }

@@ -3,9 +3,9 @@
 #![tactic(auto)]
 
 use cilkp_program::call::{Ended, cilkp};
-use cilkp_program::gate::OpenGate;
 use pipe_io::real::{RealFiles, RealSink};
 use pipe_model::memory::NoMemory;
+use pipe_worker::gate::OpenGate;
 use std::env;
 use std::io::ErrorKind;
 use std::process::ExitCode;

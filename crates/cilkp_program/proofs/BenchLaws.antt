@@ -20,9 +20,13 @@ use Rattle.cilkp_program.specs.BenchCalls.{IsToBench, ReturnsSummary}
 use Rattle.dag_build.specs.NodeColumns.{node_columns}
 use Rattle.program_laws.specs.WorkBounds.{instances_in}
 use Rattle.pipe_model.specs.declared.memory.NoMemory.{NoMemory}
-use Rattle.cilkp_program.proofs.InstanceCounts.{elision_is_small, instances_of_log}
+use Rattle.cilkp_program.proofs.SerialDags.{given_columns}
+use Rattle.cilkp_program.specs.declared.bench.Measured.{Measured}
+use Rattle.pipe_model.specs.declared.column.Column.{Column}
+use Rattle.pipe_model.specs.Language.ProgramsOfTrees.{whole_of}
+use Rattle.pipe_model.specs.Pipelines.WholePrograms.{program_columns}
 use Rattle.cilkp_program.specs.declared.program_run.TheConstants.{MOST_INSTANCES}
-use Rattle.cilkp_program.specs.SerialResults.{elision_columns, elision_log, elision_output}
+use Rattle.cilkp_program.specs.SerialResults.{elision_columns, elision_output}
 use Rattle.cilkp_program.specs.Benchmarks.{IsGenerated, elision_summary, last_or_zero, summary_text}
 use Rattle.cilkp_program.specs.CallResults.{IsCallResult, OfRow, SourceFault, InputFault, IsPrinted}
 use Rattle.cilkp_program.specs.declared.load.Input.{Input}
@@ -68,26 +72,31 @@ same_summary seed size tree other numbers others text g e h =
 
 -- ---- the summary that is made
 
--- the number of stage instances is within its bound
-pub count_is_bounded : (seed size : ℕ) (tree : SyntaxTree) (numbers : List ℤ) (log : RunLog) → 1 ≤ size → size ≤ MOST_SIZE
-    → IsGenerated seed size tree numbers → log ≡ elision_log tree numbers → instances_in (node_columns log.columns) ≤ MOST_INSTANCES
-count_is_bounded seed size tree numbers log some few generated is =
-    rw (is, instances_of_log tree numbers) (elision_is_small size tree numbers some few generated.program)
+-- the columns of the elision have as many instances as it has
+pub counts_are_few : (tree : SyntaxTree) (numbers : List ℤ) (columns : List Column) → columns ≡ program_columns (whole_of tree numbers)
+    → instances_in (elision_columns tree numbers) ≤ MOST_INSTANCES → instances_in (node_columns columns) ≤ MOST_INSTANCES
+counts_are_few tree numbers columns is few = rw (given_columns tree numbers columns is) few
 
--- the summary of the counted instances, and of the workers and the last numbers of two runs
-pub summary_made : (seed size : ℕ) (tree : SyntaxTree) (numbers : List ℤ) (items instances : ℕ) (log : RunLog) (one eight : ℕ) (with_one with_eight : List ℤ)
+-- what is measured of columns and an output that are the elision's
+pub measures_the_elision : (tree : SyntaxTree) (numbers : List ℤ) (columns : List Column) (workers : ℕ) (output : List ℤ) (m : Measured)
+    → columns ≡ program_columns (whole_of tree numbers) → output ≡ elision_output tree numbers
+    → m ≡ record { workers = workers; instances = instances_in (node_columns columns); last = last_or_zero output }
+    → m ≡ record { workers = workers; instances = instances_in (elision_columns tree numbers); last = last_or_zero (elision_output tree numbers) }
+measures_the_elision tree numbers columns workers output m is same e =
+    e ∙ λ i. record { workers = workers; instances = instances_in (given_columns tree numbers columns is i); last = last_or_zero (same i) }
+
+-- the summary of two runs of which the elision was measured
+pub summary_made : (seed size : ℕ) (tree : SyntaxTree) (numbers : List ℤ) (items : ℕ) (one eight : Measured)
     (made : Result (List ℕ) NoMemory)
-    → IsGenerated seed size tree numbers → items ≡ length numbers → log ≡ elision_log tree numbers → instances ≡ instances_in (node_columns log.columns)
-    → one ≡ 1 → eight ≡ 8 → with_one ≡ elision_output tree numbers → with_eight ≡ elision_output tree numbers
-    → IfOk made (λ text. text ≡ summary_text items instances one (last_or_zero with_one) eight (last_or_zero with_eight))
+    → IsGenerated seed size tree numbers → items ≡ length numbers
+    → one ≡ record { workers = 1; instances = instances_in (elision_columns tree numbers); last = last_or_zero (elision_output tree numbers) }
+    → eight ≡ record { workers = 8; instances = instances_in (elision_columns tree numbers); last = last_or_zero (elision_output tree numbers) }
+    → IfOk made (λ text. text ≡ summary_text items one.instances one.workers one.last eight.workers eight.last)
     → IfOk made (λ text. (other : SyntaxTree) (others : List ℤ) → IsGenerated seed size other others → text ≡ elision_summary other others)
-summary_made seed size tree numbers items instances log one eight with_one with_eight (Ok text) generated i l n w v o e is = λ other others g.
+summary_made seed size tree numbers items one eight (Ok text) generated l w v is = λ other others g.
     same_summary seed size tree other numbers others text generated
-    (is ∙ λ k. summary_text (i k) (counted k) (w k) (last_or_zero (o k)) (v k) (last_or_zero (e k))) g
-  where
-    counted : instances ≡ instances_in (elision_columns tree numbers)
-    counted = n ∙ ap (λ x. instances_in (node_columns x.columns)) l ∙ instances_of_log tree numbers
-summary_made seed size tree numbers items instances log one eight with_one with_eight (Err m) generated i l n w v o e is = is
+    (is ∙ λ k. summary_text (l k) ((w k).instances) ((w k).workers) ((w k).last) ((v k).workers) ((v k).last)) g
+summary_made seed size tree numbers items one eight (Err m) generated l w v is = is
 
 -- ---- the result of a call
 

@@ -17,20 +17,19 @@ use Rattle.pipe_model.specs.Texts.{output_lines, trap_lines}
 use Rattle.pipe_model.specs.Language.ProgramsOfTrees.{whole_of}
 use Rattle.pipe_model.specs.Runs.Throttling.{IsThrottled}
 use Rattle.pipe_model.specs.Runs.WholeProgramRuns.{IsFinishedProgramRun}
-use Rattle.cilkp_program.proofs.DetectedRaces.{detectable}
 use Rattle.cilkp_program.proofs.GreaterLimits.{meets_more}
-use Rattle.cilkp_program.specs.RunReports.{run_reports}
 use Rattle.cilkp_program.specs.RunTexts.{IsPrintedAs, WithRaces, ToItsEnd, WithTrap}
 use Rattle.cilkp_program.proofs.OneCommand.{one_limit, runs_no_command, runs_nothing}
 use Rattle.cilkp_program.proofs.OneContent.{one_input, one_source, refused_no_input, refused_not_accepted_file}
-use Rattle.cilkp_program.proofs.SerialDags.{serial_log}
 use Rattle.cilkp_program.specs.CallResults.{IsCallResult, OfRow, SourceFault, InputFault, IsPrinted}
 use Rattle.cilkp_program.specs.Headline.{AgreesWithElision, IsToRun, MeetsHeadline}
 use Rattle.cilkp_program.specs.CommandFiles.{asks_record}
-use Rattle.cilkp_program.specs.RecordedRuns.{IsRecordedRun, ReturnsRun}
+use Rattle.cilkp_program.specs.declared.program_run.FinishedRun.{FinishedRun}
+use Rattle.cilkp_program.specs.RecordedRuns.{IsRecordedRun, ReturnsRun, recorded}
+use Rattle.cilkp_program.specs.RunResults.{HasRun, IsFinishedRunOf}
 use Rattle.cilkp_program.specs.ProgramFiles.{FileContents}
 use Rattle.cilkp_program.specs.Rows.{Row, NoCommand, SourceRefused, Formats, Benches, InputRefused, Runs, RunsSerially}
-use Rattle.cilkp_program.specs.SerialResults.{ElisionHasNoRace, elision_log, elision_output, elision_trap}
+use Rattle.cilkp_program.specs.SerialResults.{ElisionHasNoRace, elision_output, elision_trap}
 
 -- what is printed for the elision's output and trap, or for reports that are there exactly if the elision has a race, agrees with the elision
 printed_agrees : (tree : SyntaxTree) (numbers output : List ℤ) (trap : Option TrapAt) (reports : List Report) {status : ℕ} {text : List ℕ}
@@ -82,16 +81,20 @@ run_meets tree numbers limit log output trap reports form run throttled right o 
     let whole = runs_meet_the_headline tree numbers limit log reports [] form run right in
     record { run = run; reported = right; agrees = printed_agrees tree numbers output trap reports whole.silent o t printed; throttled = throttled }
 
--- the serial elision as a run, and what its histories report, meet the headline for every limit of at least 1
-pub elision_meets : (tree : SyntaxTree) (numbers : List ℤ) (limit : ℕ) (output : List ℤ) (trap : Option TrapAt) (reports : List Report)
-    {status : ℕ} {text : List ℕ} → BreaksNoRule tree → 1 ≤ limit → output ≡ elision_output tree numbers → trap ≡ elision_trap tree numbers
-    → reports ≡ run_reports (elision_log tree numbers) → IsPrintedAs tree.cells output trap reports status text
-    → MeetsHeadline tree numbers limit (elision_log tree numbers) reports status text
-elision_meets tree numbers limit output trap reports form room o t is printed =
-    let log = elision_log tree numbers in
-    let h = serial_log tree numbers limit form room in
-    let right : AreRight (columns_after log.events) (accesses_after log.events) reports = rw is (detectable tree numbers form).right in
-    run_meets tree numbers limit log output trap reports form h.run h.rules.throttled right (λ none. o) (λ none. t) printed
+-- the result of a call that makes a finished run of the program and prints it
+pub run_returned : (tree : SyntaxTree) (input : List ℤ) (throttle : ℕ) (recording : Bool) (run : FinishedRun) (status : ℕ) (printed text : List ℕ)
+    → BreaksNoRule tree → IsFinishedRunOf tree input throttle run
+    → IsPrintedAs tree.cells run.output run.trap run.reports status printed → text ≡ recorded recording tree.cells run.run_log printed
+    → HasRun tree input throttle recording run.run_log (record { status = status; text = text; run_log = Some run.run_log; reports = run.reports })
+run_returned tree input throttle recording run status printed text accepted h as_printed is = record {
+  logged = refl;
+  meets = record {
+    outcome = printed;
+    text_is = is;
+    meets = run_meets tree input throttle run.run_log run.output run.trap run.reports accepted h.run h.throttled h.right h.output h.trap as_printed;
+  };
+  found = h.found;
+}
 
 -- the result is that of a run of the program
 record IsRunOf (recording : Bool) (tree : SyntaxTree) (numbers : List ℤ) (limit status : ℕ) (text : List ℕ) (run_log : Option RunLog) (reports : List Report)

@@ -10,7 +10,6 @@ use Rattle.pipe_model.specs.declared.event.Event.{Event}
 use Rattle.pipe_model.specs.Language.ProgramsOfTrees.{whole_of}
 use Rattle.pipe_model.specs.Language.SourceRefusals.{IsAccepted}
 use Rattle.pipe_model.specs.Language.SyntaxTree.{SyntaxTree}
-use Rattle.pipe_model.specs.Pipelines.WholePrograms.{loop_traces}
 use Rattle.pipe_model.specs.Runs.RunLogs.{state_after}
 use Rattle.pipe_model.specs.Runs.State.{State, own_columns}
 use Rattle.pipe_model.specs.Runs.WholeProgramRuns.{ProgramRun, NoLoop, OfLoop}
@@ -18,7 +17,7 @@ use Rattle.program_laws.proofs.InstanceBounds.{program_instances_are_bounded}
 use Rattle.program_laws.specs.WorkBounds.{instances_in, most_instances}
 use Rattle.workload_laws.proofs.AcceptedSources.{accepted}
 use Rattle.workload_laws.specs.GeneratedPrograms.{generated_tree}
-use Rattle.cilkp_program.proofs.SerialDags.{ended_nodes, serial_log}
+use Rattle.cilkp_program.proofs.SerialDags.{serial_log}
 use Rattle.cilkp_program.specs.declared.program_run.TheConstants.{MOST_INSTANCES}
 use Rattle.cilkp_program.specs.SerialResults.{elision_columns, elision_log}
 
@@ -48,11 +47,6 @@ count_is_small columns k count column w at counted small =
     omega (arith, counted, more, within, small)
 
 -- ---- the elision
-
--- the columns of its log are its columns
-pub instances_of_log : (tree : SyntaxTree) (numbers : List ℤ)
-    → instances_in (node_columns (elision_log tree numbers).columns) ≡ instances_in (elision_columns tree numbers)
-instances_of_log tree numbers = ap instances_in (ended_nodes (loop_traces (whole_of tree numbers)))
 
 -- a run of a program has as many instances as its limits allow
 pub run_is_small : (tree : SyntaxTree) (numbers : List ℤ) (limit : ℕ) (events : List Event) (s : State) → BreaksNoRule tree

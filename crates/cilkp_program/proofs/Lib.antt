@@ -8,7 +8,6 @@ pub mod OneRow
 pub mod SerialDags
 pub mod RunTexts
 pub mod OneReports
-pub mod DetectedRaces
 pub mod HeadlineLaws
 pub mod BenchLaws
 pub mod InstanceCounts

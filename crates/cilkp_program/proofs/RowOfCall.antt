@@ -22,7 +22,7 @@ use Rattle.cilkp_program.specs.CallResults.{IsCallResult, OfRow, SourceFault, In
 use Rattle.cilkp_program.specs.CommandFiles.{NamesInput, NamesSource, asks_record, input_in, source_in}
 use Rattle.cilkp_program.specs.LoadedFiles.{IsInputResult, IsSourceResult}
 use Rattle.cilkp_program.specs.ProgramFiles.{AreHeldBy, FileContents}
-use Rattle.cilkp_program.specs.SerialResults.{ElisionResult, elision_log}
+use Rattle.cilkp_program.specs.SerialResults.{ElisionResult}
 use Rattle.cilkp_program.specs.Benchmarks.{IsGenerated, elision_summary}
 use Rattle.cilkp_program.specs.Rows.{IsLogOf, OfPlay, OfRun, NoCommand, SourceRefused, Formats, Benches, InputRefused, Runs, RunsSerially}
 use Rattle.cilkp_program.specs.PreparedFiles.{AreReady}
@@ -148,16 +148,15 @@ row_of_run holds before now source input asked throttle tree numbers log a n m r
   row = Runs throttle log tree numbers of ready.accepted meets found;
 }))
 
--- by `run`, under each throttling limit
-pub result_of_run : (holds : Option Content) (before now : ℕ) (source input : List ℕ) (workers : ℕ) (recording : Bool) (tree : SyntaxTree)
+-- by `run`
+pub result_of_run : (holds : Option Content) (before now : ℕ) (source input : List ℕ) (workers throttle : ℕ) (recording : Bool) (tree : SyntaxTree)
     (numbers : List ℤ) (r : Result CommandResult NoMemory) → AreReady holds before now source input tree numbers
-    → IfOk r (IsRunResult tree numbers recording)
-    → IfOk r (λ a. (throttle : ℕ) → 1 ≤ throttle
-    → IsCallResult (Some (Run source input workers throttle recording)) holds before now a.status a.text a.run_log a.reports)
-result_of_run holds before now source input workers recording tree numbers (Ok a) ready h = λ throttle room.
-    row_of_run holds before now source input (Some (Run source input workers throttle recording)) throttle tree numbers (elision_log tree numbers) a refl refl
-    ready (OfRun source input workers recording refl) h.logged (h.meets throttle room) h.found
-result_of_run holds before now source input workers recording tree numbers (Err m) ready h = h
+    → IfOk r (IsRunResult tree numbers throttle recording)
+    → IfOk r (λ a. IsCallResult (Some (Run source input workers throttle recording)) holds before now a.status a.text a.run_log a.reports)
+result_of_run holds before now source input workers throttle recording tree numbers (Ok a) ready h =
+    row_of_run holds before now source input (Some (Run source input workers throttle recording)) throttle tree numbers h.0 a refl refl
+    ready (OfRun source input workers recording refl) h.1.logged h.1.meets h.1.found
+result_of_run holds before now source input workers throttle recording tree numbers (Err m) ready h = h
 
 -- by `play`
 pub result_of_play : (holds : Option Content) (before now : ℕ) (source input : List ℕ) (workers throttle seed : ℕ) (recording : Bool) (tree : SyntaxTree)
@@ -166,7 +165,7 @@ pub result_of_play : (holds : Option Content) (before now : ℕ) (source input :
     → IfOk r (λ a. IsCallResult (Some (Play source input workers throttle seed recording)) holds before now a.status a.text a.run_log a.reports)
 result_of_play holds before now source input workers throttle seed recording tree numbers (Ok a) ready h =
     row_of_run holds before now source input (Some (Play source input workers throttle seed recording)) throttle tree numbers h.log a refl refl
-    ready (OfPlay source input workers seed recording refl h.events) h.logged h.meets h.found
+    ready (OfPlay source input workers seed recording refl h.events) h.run.logged h.run.meets h.run.found
 result_of_play holds before now source input workers throttle seed recording tree numbers (Err m) ready h = h
 
 -- by `serial`, without it

@@ -10,7 +10,7 @@ use Rattle.race_report.specs.CellNames.{race_lines}
 use Rattle.cilkp_program.specs.RunTexts.{IsPrintedAs, WithRaces, ToItsEnd, WithTrap}
 
 -- a list whose length is 0 is empty
-none_left : (reports : List Report) → (length reports == 0) ≡ true → reports ≡ []
+pub none_left : (reports : List Report) → (length reports == 0) ≡ true → reports ≡ []
 none_left reports e = nil_from_length reports (eqb-true (length reports) 0 e)
 
 -- a list whose length is not 0 is not empty

@@ -17,7 +17,7 @@ use Rattle.schedule_play.specs.declared.program_play.Played.{Played}
 use Rattle.schedule_play.specs.ProgramPlays.{HasElisionResults, enough_turns, played_events}
 use Rattle.schedule_play.specs.SeedChoices.{first_choices}
 use Rattle.cilkp_words.specs.Commands.{Command, Play, Run}
-use Rattle.cilkp_program.proofs.HeadlineLaws.{run_meets}
+use Rattle.cilkp_program.proofs.HeadlineLaws.{run_returned}
 use Rattle.cilkp_program.proofs.OneCommand.{one_command}
 use Rattle.cilkp_program.proofs.OneContent.{one_input, one_source}
 use Rattle.cilkp_program.specs.CommandFiles.{asks_record}
@@ -41,17 +41,19 @@ pub seeded_play : (tree : SyntaxTree) (input : List ℤ) (workers throttle seed 
     → AreRight (columns_after p.run_log.events) (accesses_after p.run_log.events) p.reports
     → (IsTrue p.finished → HasElisionResults (whole_of tree input) p) → (enough_turns tree ≤ turns → IsTrue p.finished)
     → IsSeededPlay tree input workers throttle seed
-    (record { workers = workers; output = p.output; trap = p.trap; run_log = p.run_log; reports = p.reports })
+    (record { output = p.output; trap = p.trap; run_log = p.run_log; reports = p.reports })
 seeded_play tree input workers throttle seed choices turns p chosen counted events run columns throttled finished found right elision enough =
     let over : IsTrue p.finished = enough (omega (arith, counted)) in
     record {
       events = events ∙ ap₂ (λ cs n. played_events tree input workers throttle cs n) chosen counted;
-      run = record { run = run; finished = finished.0 over; columns = columns };
-      throttled = throttled;
-      found = found;
-      right = right;
-      output = (elision over).output;
-      trap = (elision over).trap;
+      run = record {
+        run = record { run = run; finished = finished.0 over; columns = columns };
+        throttled = throttled;
+        found = found;
+        right = right;
+        output = (elision over).output;
+        trap = (elision over).trap;
+      };
     }
 
 -- its result
@@ -60,17 +62,12 @@ pub play_returned : (tree : SyntaxTree) (input : List ℤ) (workers throttle see
     → IsPrintedAs tree.cells run.output run.trap run.reports status printed → text ≡ recorded recording tree.cells run.run_log printed
     → IsPlayResult tree input workers throttle seed recording
     (record { status = status; text = text; run_log = Some run.run_log; reports = run.reports })
-play_returned tree input workers throttle seed recording run status printed text accepted h as_printed is = record {
-  log = run.run_log;
-  logged = refl;
-  events = h.events;
-  meets = record {
-    outcome = printed;
-    text_is = is;
-    meets = run_meets tree input throttle run.run_log run.output run.trap run.reports accepted h.run h.throttled h.right h.output h.trap as_printed;
-  };
-  found = h.found;
-}
+play_returned tree input workers throttle seed recording run status printed text accepted h as_printed is =
+    record {
+      log = run.run_log;
+      run = run_returned tree input throttle recording run status printed text accepted h.run as_printed is;
+      events = h.events;
+    }
 
 -- ---- the events of a `play` call
 

@@ -71,7 +71,7 @@ serial_log tree input limit form room =
 -- ---- the dag that is built from the elision's columns and accesses
 
 -- the columns that the elision returns have the program's instances
-given_columns : (tree : SyntaxTree) (input : List ℤ) (columns : List Column) → columns ≡ program_columns (whole_of tree input)
+pub given_columns : (tree : SyntaxTree) (input : List ℤ) (columns : List Column) → columns ≡ program_columns (whole_of tree input)
     → node_columns columns ≡ elision_columns tree input
 given_columns tree input columns e = ap node_columns e ∙ ended_nodes (loop_traces (whole_of tree input))
 
@@ -123,8 +123,3 @@ printed_result tree input output trap reports o t first (ToItsEnd none ends) =
     let free = (no_report_is_race_free _ _ reports first).0 none in rw (none, o) (Finishes free (sym t ∙ ends))
 printed_result tree input output trap reports o t first (WithTrap at none ends) =
     let free = (no_report_is_race_free _ _ reports first).0 none in rw (none, o) (Traps at free (sym t ∙ ends))
-
--- the elision's columns and events are the log of the program
-pub given_log : (tree : SyntaxTree) (input : List ℤ) (columns : List Column) (events : List Event) → columns ≡ program_columns (whole_of tree input)
-    → events ≡ (program_log (whole_of tree input)).events → (let l : RunLog = record { columns = columns; events = events } in l) ≡ elision_log tree input
-given_log tree input columns events e v = λ i. record { columns = e i; events = v i }

@@ -1,5 +1,5 @@
 -- The results of the commands that make a run.
-use Rattle.std.specs.Prelude.{◌≡◌, ◌≤◌, [], ℕ, ℤ, List, Bool, Some}
+use Rattle.std.specs.Prelude.{◌≡◌, [], ℕ, ℤ, List, Bool, Some}
 use Rattle.pipe_model.specs.declared.event.RunLog.{RunLog}
 use Rattle.pipe_model.specs.Language.ProgramsOfTrees.{whole_of}
 use Rattle.pipe_model.specs.Language.SyntaxTree.{SyntaxTree}
@@ -11,12 +11,11 @@ use Rattle.cilkp_program.specs.declared.call.CommandResult.{CommandResult}
 use Rattle.cilkp_program.specs.declared.program_run.FinishedRun.{FinishedRun}
 use Rattle.cilkp_program.specs.RecordedRuns.{IsRecordedRun, seeded_events}
 use Rattle.cilkp_program.specs.RunReports.{run_reports}
-use Rattle.cilkp_program.specs.SerialResults.{elision_log, elision_output, elision_trap}
+use Rattle.cilkp_program.specs.SerialResults.{elision_output, elision_trap}
 
--- the run has the events of the schedule that the seed chooses, and is finished; its reports are those that its histories find, and right; without a
--- report it has the output and the trap of the serial elision
-pub record IsSeededPlay (tree : SyntaxTree) (input : List ℤ) (workers throttle seed : ℕ) (r : FinishedRun) : Type 0 where
-  pub events : r.run_log.events ≡ seeded_events tree input workers throttle seed
+-- a finished run of the program under the throttling limit; its reports are those that its histories find, and right; without a report it has the output
+-- and the trap of the serial elision
+pub record IsFinishedRunOf (tree : SyntaxTree) (input : List ℤ) (throttle : ℕ) (r : FinishedRun) : Type 0 where
   pub run : IsFinishedProgramRun (whole_of tree input) throttle r.run_log
   pub throttled : IsThrottled throttle r.run_log.events
   pub found : r.reports ≡ run_reports r.run_log
@@ -24,16 +23,23 @@ pub record IsSeededPlay (tree : SyntaxTree) (input : List ℤ) (workers throttle
   pub output : r.reports ≡ [] → r.output ≡ elision_output tree input
   pub trap : r.reports ≡ [] → r.trap ≡ elision_trap tree input
 
--- the result of `run`: the serial elision as a run, which meets the headline under every limit
-pub record IsRunResult (tree : SyntaxTree) (input : List ℤ) (recording : Bool) (a : CommandResult) : Type 0 where
-  pub logged : a.run_log ≡ Some (elision_log tree input)
-  pub meets : (limit : ℕ) → 1 ≤ limit → IsRecordedRun recording tree input limit (elision_log tree input) a.reports a.status a.text
-  pub found : a.reports ≡ run_reports (elision_log tree input)
+-- the same, with the events of the schedule that the seed chooses
+pub record IsSeededPlay (tree : SyntaxTree) (input : List ℤ) (workers throttle seed : ℕ) (r : FinishedRun) : Type 0 where
+  pub events : r.run_log.events ≡ seeded_events tree input workers throttle seed
+  pub run : IsFinishedRunOf tree input throttle r
 
--- the result of `play`: a run with the events of the schedule, which meets the headline
-pub record IsPlayResult (tree : SyntaxTree) (input : List ℤ) (workers throttle seed : ℕ) (recording : Bool) (a : CommandResult) : Type 0 where
-  pub log : RunLog
+-- the result has this log, which is that of a run that meets the headline, and reports what the run's histories find
+pub record HasRun (tree : SyntaxTree) (input : List ℤ) (throttle : ℕ) (recording : Bool) (log : RunLog) (a : CommandResult) : Type 0 where
   pub logged : a.run_log ≡ Some log
-  pub events : log.events ≡ seeded_events tree input workers throttle seed
   pub meets : IsRecordedRun recording tree input throttle log a.reports a.status a.text
   pub found : a.reports ≡ run_reports log
+
+-- the result of `run`: that of some run
+abbrev pub IsRunResult : SyntaxTree → List ℤ → (throttle : ℕ) → (recording : Bool) → CommandResult → Type 0
+IsRunResult tree input throttle recording a = (log : RunLog) × HasRun tree input throttle recording log a
+
+-- the result of `play`: that of the run with the events of the schedule
+pub record IsPlayResult (tree : SyntaxTree) (input : List ℤ) (workers throttle seed : ℕ) (recording : Bool) (a : CommandResult) : Type 0 where
+  pub log : RunLog
+  pub run : HasRun tree input throttle recording log a
+  pub events : log.events ≡ seeded_events tree input workers throttle seed

@@ -18,13 +18,13 @@ ghost use Rattle.cilkp_program.specs.BenchCalls.{IsToBench, ReturnsSummary};
 ghost use Rattle.cilkp_program.specs.SerialResults.{ElisionResult};
 ghost use Rattle.cilkp_words.specs.CommandRanges.{IsInRange};
 ghost use Rattle.cilkp_words.specs.Commands.{Bench, Format, Play, Run, Serial, command_data};
+ghost use Rattle.cilkp_words.specs.declared.ranges.TheConstants as ranges;
 ghost use Rattle.pipe_gen.specs.declared.choices.TheConstants as seeds;
 ghost use Rattle.pipe_io.specs.Reads.{Content};
 ghost use Rattle.cilkp_words.specs.CommandWords.{command_of, words_of};
 ghost use Rattle.cilkp_program.specs.SerialCalls.{ReturnsElision, IsToRunSerially};
 
 use crate::bench::bench;
-use crate::gate::Gate;
 use crate::load::{Input, Source, load_input, load_source};
 use crate::program_play::play_program;
 use crate::program_run::{printed_run, recorded, run_elision, run_program};
@@ -41,7 +41,10 @@ use pipe_model::list::{Bytes, Numbers};
 use pipe_model::memory::NoMemory;
 use pipe_model::report::Reports;
 use pipe_model::tree::Program;
+use pipe_worker::gate::Gate;
 use std::alloc::Global;
+use std::sync::Wait;
+use std::thread::Threads;
 
 const FINISHED: u8 = 0;
 
@@ -86,17 +89,22 @@ enum Prepared {
 }
 
 // The status, text, log and reports of the program's run.
-fn run_result(
+fn run_result<R: Threads + Wait + Sync, G: Gate + Sync>(
+    rt: &R,
     alloc: Global,
     checked: &Checked,
     input: &Numbers,
     workers: u32,
+    throttle: u32,
     with_log: bool,
+    gate: &G,
 ) -> Result<CommandResult, NoMemory>
-    requires { BreaksNoRule (tree_of checked.now) }
-    ensures { IfOk result (IsRunResult (tree_of checked.now) input.now with_log) }
+    requires accepted { BreaksNoRule (tree_of checked.now) }
+    requires workers { 1 ≤ workers }
+    requires throttle { (1 ≤ throttle) × (throttle ≤ ranges.MOST_THROTTLE) }
+    ensures { IfOk result (IsRunResult (tree_of checked.now) input.now throttle with_log) }
 {
-    let run = run_program(alloc, checked, input, workers)?;
+    let run = run_program(rt, alloc, checked, input, workers, throttle, gate)?;
     let (status, text) = printed_run(alloc, checked, &run)?;
     Ok(CommandResult {
         status,
@@ -210,25 +218,27 @@ fn prepare<F: Files>(
     }
 }
 
-// The result of `run SOURCE INPUT` with this number of workers, which is the same for all throttling
-// limits, since the run is serial.
-fn execute_run<F: Files>(
+// The result of `run SOURCE INPUT` with these options.
+fn execute_run<R: Threads + Wait + Sync, F: Files, G: Gate + Sync>(
+    rt: &R,
     alloc: Global,
     files: &mut F,
     source: &str,
     input: &str,
     workers: u32,
+    throttle: u32,
     with_log: bool,
+    gate: &G,
 ) -> Result<CommandResult, NoMemory>
+    requires { IsInRange (Run source.now input.now workers throttle with_log) }
     ensures keeps { F.holds files.new ≡ F.holds files.old }
     ensures grows { OnErr result (F.faults files.old ≤ F.faults files.new) }
-    ensures outcome { IfOk result (λ a. (throttle : ℕ) → 1 ≤ throttle →
-        IsCallResult (Some (Run source.now input.now workers throttle with_log)) (F.holds files.old)
+    ensures outcome { IfOk result (λ a. IsCallResult (Some (Run source.now input.now workers throttle with_log)) (F.holds files.old)
         (F.faults files.old) (F.faults files.new) a.status a.text a.run_log a.reports) }
 {
     match prepare(alloc, files, source, input)? {
         Prepared::Ready(program, numbers) => run_result(
-            alloc, &program, &numbers, workers, with_log,
+            rt, alloc, &program, &numbers, workers, throttle, with_log, gate,
         ),
         Prepared::Decided(outcome) => Ok(outcome),
     }
@@ -296,23 +306,31 @@ fn execute_format<F: Files>(
 }
 
 // The result of `bench`, which keeps no run log.
-fn execute_bench(alloc: Global, seed: u32, size: u32) -> Result<CommandResult, NoMemory>
+fn execute_bench<R: Threads + Wait + Sync, G: Gate + Sync>(
+    rt: &R,
+    alloc: Global,
+    seed: u32,
+    size: u32,
+    gate: &G,
+) -> Result<CommandResult, NoMemory>
     requires { IsInRange (Bench seed size) }
     ensures { IfOk result (λ a. (holds : Option Content) (faults : ℕ) →
         IsCallResult (Some (Bench seed size)) holds faults faults a.status a.text a.run_log a.reports) }
 {
     Ok(CommandResult {
         status: FINISHED,
-        text: bench(alloc, seed, size)?,
+        text: bench(rt, alloc, seed, size, gate)?,
         run_log: None,
         reports: Reports::new(alloc),
     })
 }
 
-fn execute_command<F: Files>(
+fn execute_command<R: Threads + Wait + Sync, F: Files, G: Gate + Sync>(
+    rt: &R,
     alloc: Global,
     command: Command<'_>,
     files: &mut F,
+    gate: &G,
 ) -> Result<CommandResult, NoMemory>
     requires { IsInRange (command_data command) }
     ensures keeps { F.holds files.new ≡ F.holds files.old }
@@ -325,9 +343,11 @@ fn execute_command<F: Files>(
             source,
             input,
             workers,
+            throttle,
             record,
-            ..
-        } => execute_run(alloc, files, source, input, workers, record),
+        } => execute_run(
+            rt, alloc, files, source, input, workers, throttle, record, gate,
+        ),
         Command::Play {
             source,
             input,
@@ -338,14 +358,16 @@ fn execute_command<F: Files>(
         } => execute_play(alloc, files, source, input, workers, throttle, seed, record),
         Command::Serial { source, input } => execute_serial(alloc, files, source, input),
         Command::Format { source } => execute_format(alloc, files, source),
-        Command::Bench { seed, size } => execute_bench(alloc, seed, size),
+        Command::Bench { seed, size } => execute_bench(rt, alloc, seed, size, gate),
     }
 }
 
-fn execute<F: Files>(
+fn execute<R: Threads + Wait + Sync, F: Files, G: Gate + Sync>(
+    rt: &R,
     alloc: Global,
     words: &[String],
     files: &mut F,
+    gate: &G,
 ) -> Result<CommandResult, NoMemory>
     ensures keeps { F.holds files.new ≡ F.holds files.old }
     ensures grows { OnErr result (F.faults files.old ≤ F.faults files.new) }
@@ -353,7 +375,7 @@ fn execute<F: Files>(
         (F.faults files.old) (F.faults files.new) a.status a.text a.run_log a.reports) }
 {
     match read_words(alloc, words)? {
-        Some(command) => execute_command(alloc, command, files),
+        Some(command) => execute_command(rt, alloc, command, files, gate),
         None => Ok(refused(alloc, line(alloc, "refused usage\n")?)),
     }
 }
@@ -362,21 +384,21 @@ fn execute<F: Files>(
 /// `play SOURCE INPUT [--workers P] [--throttle K] [--seed N] [--record]`, `serial SOURCE INPUT`,
 /// `format SOURCE` or `bench [--seed N] [--size M]`. Writes all text to `out`, and returns the
 /// status, the log of the run, the reports of races, and how many bytes `out` took. `run` runs the
-/// program of an accepted source on the numbers of an input. The run is serial today, which is a run
-/// for every number of workers and every throttling limit. `play` plays the program on one thread by
-/// the schedule that the choices of the seed make. With `--record` the lines of the run log follow the
-/// text. `serial` runs the serial elision alone: it
-/// has the status, the text and the reports of that, and no run log. `format` prints the canonical
-/// text of an accepted source's program. `bench` runs a generated program on a generated input twice,
-/// as with 1 and with 8 workers, and prints a summary. The runtime value and the gate are not used
-/// yet. Returns an error only if memory runs out.
-pub fn cilkp<R: Drop, F: Files, S: Sink, G: Gate + Sync>(
-    _rt: R,
+/// program of an accepted source on the numbers of an input with `P` workers, each on a thread of its
+/// own, while at most `K` iterations are alive. `play` plays the program on one thread by the schedule
+/// that the choices of the seed make. With `--record` the lines of the run log follow the text. `serial`
+/// runs the serial elision alone: it has the status, the text and the reports of that, and no run log.
+/// `format` prints the canonical text of an accepted source's program. `bench` runs a generated program
+/// on a generated input twice, with 1 and with 8 workers, and prints a summary. A worker of `run` or
+/// `bench` asks the gate before each stage instance. Returns an error only if memory runs out; a run
+/// that was stopped for want of memory ends so too.
+pub fn cilkp<R: Threads + Wait + Sync, F: Files, S: Sink, G: Gate + Sync>(
+    rt: &R,
     alloc: Global,
     words: &[String],
     files: &mut F,
     out: &mut S,
-    _gate: &G,
+    gate: &G,
 ) -> Result<Ended, NoMemory>
     // The headline, for `run` and `play`: for every accepted program, input, number of workers, seed and
     // limit from the throttling limit of the command on, if the files' content is known and neither count of faults rises, a call that returns `Ok` reports a
@@ -448,7 +470,7 @@ pub fn cilkp<R: Drop, F: Files, S: Sink, G: Gate + Sync>(
     ensures counts { (F.faults files.old ≤ F.faults files.new) × (S.faults out.old ≤ S.faults out.new) }
     ensures keeps { F.holds files.new ≡ F.holds files.old }
 {
-    let outcome = execute(alloc, words, files)?;
+    let outcome = execute(rt, alloc, words, files, gate)?;
     let written = write_text(out, outcome.text.as_slice());
     let status = match written.end {
         WriteEnd::Whole => outcome.status,

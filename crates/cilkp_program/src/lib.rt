@@ -3,7 +3,6 @@
 
 pub mod bench;
 pub mod call;
-pub mod gate;
 pub mod law;
 pub mod load;
 pub mod program_play;

@@ -51,7 +51,6 @@ pub fn play_program(
         enough_turns(&code),
     )?;
     Ok(FinishedRun {
-        workers,
         output,
         trap,
         run_log,

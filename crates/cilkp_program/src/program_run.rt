@@ -1,6 +1,6 @@
 //! Runs an accepted program: its output, its trap, its log and its races.
 
-ghost use Rattle.std.specs.Prelude.{◌≡◌, ◌≤◌, ℕ, List, IfOk, None};
+ghost use Rattle.std.specs.Prelude.{◌≡◌, ◌≤◌, [], IfOk};
 ghost use Rattle.dag_build.specs.NodeColumns.{node_columns};
 ghost use Rattle.pipe_model.specs.Language.CheckingRules.{BreaksNoRule};
 ghost use Rattle.pipe_model.specs.Language.SyntaxTree.{tree_of};
@@ -11,8 +11,10 @@ ghost use Rattle.cilkp_program.specs.RecordedRuns.{recorded};
 ghost use Rattle.cilkp_program.specs.RunTexts.{IsPrintedAs};
 ghost use Rattle.serial_elision.specs.Elisions.{IsElision};
 ghost use Rattle.pipe_model.specs.Language.ProgramsOfTrees.{whole_of};
-ghost use Rattle.cilkp_program.specs.RunReports.{run_reports};
-ghost use Rattle.cilkp_program.specs.SerialResults.{elision_accesses, elision_columns, elision_log, elision_output, elision_trap};
+ghost use Rattle.cilkp_program.specs.RunResults.{IsFinishedRunOf};
+ghost use Rattle.cilkp_words.specs.declared.ranges.TheConstants as ranges;
+ghost use Rattle.pipe_model.specs.Pipelines.WholePrograms.{program_columns};
+ghost use Rattle.cilkp_program.specs.SerialResults.{elision_accesses, elision_columns, elision_output, elision_trap};
 
 use dag_build::dag::Dag;
 use pipe_check::checked::Checked;
@@ -21,14 +23,17 @@ use pipe_model::event::RunLog;
 use pipe_model::list::{Bytes, Numbers};
 use pipe_model::memory::NoMemory;
 use pipe_model::report::Reports;
+use pipe_engine::run::{EngineRun, run};
 use pipe_model::trap::TrapAt;
-use race_detection::detect::detect;
+use pipe_worker::gate::Gate;
 use race_report::outcome::outcome_text;
 use race_report::race_text::text;
 use run_record::log_text;
 use serial_elision::elision::{SerialRun, run_serial};
 use stage_code::lower::lower;
 use std::alloc::Global;
+use std::sync::Wait;
+use std::thread::Threads;
 
 const FINISHED: u8 = 0;
 
@@ -42,8 +47,6 @@ pub const MOST_INSTANCES: u64 = 1_000_000;
 /// A finished run of a program.
 #[derive(Drop)]
 pub struct FinishedRun {
-    /// The number of workers that were asked for.
-    pub workers: u32,
     /// The emitted numbers, in order.
     pub output: Numbers,
     /// The trap, if the program trapped.
@@ -54,8 +57,8 @@ pub struct FinishedRun {
     pub reports: Reports,
 }
 
-// Runs the serial elision of a program.
-fn elide(alloc: Global, checked: &Checked, input: &Numbers) -> Result<SerialRun, NoMemory>
+/// Runs the serial elision of a program. Returns an error only if memory runs out.
+pub fn elide(alloc: Global, checked: &Checked, input: &Numbers) -> Result<SerialRun, NoMemory>
     requires { BreaksNoRule (tree_of checked.now) }
     ensures { IfOk result (λ r. IsElision (whole_of (tree_of checked.now) input.now) r) }
 {
@@ -63,33 +66,32 @@ fn elide(alloc: Global, checked: &Checked, input: &Numbers) -> Result<SerialRun,
     run_serial(alloc, checked, &code, input)
 }
 
-/// Runs a program on an input, and finds the races of the run by the access histories of its cells.
-/// The run is serial, one iteration after the other, which is a run for every number of workers and
-/// every throttling limit. Returns an error only if memory runs out.
-pub fn run_program(
+/// Runs a program on an input with `workers` threads, which steal work from each other; at most
+/// `throttle` iterations are alive. Finds the races of the run by the access histories of its cells.
+/// The gate is asked before each stage instance. Returns an error only if memory runs out.
+pub fn run_program<R: Threads + Wait + Sync, G: Gate + Sync>(
+    rt: &R,
     alloc: Global,
     checked: &Checked,
     input: &Numbers,
     workers: u32,
+    throttle: u32,
+    gate: &G,
 ) -> Result<FinishedRun, NoMemory>
-    requires { BreaksNoRule (tree_of checked.now) }
-    ensures workers { IfOk result (λ r. r.workers ≡ workers) }
-    ensures output { IfOk result (λ r. r.output ≡ elision_output (tree_of checked.now) input.now) }
-    ensures trap { IfOk result (λ r. r.trap ≡ elision_trap (tree_of checked.now) input.now) }
-    ensures log { IfOk result (λ r. r.run_log ≡ elision_log (tree_of checked.now) input.now) }
-    ensures reports { IfOk result (λ r. r.reports ≡ run_reports (elision_log (tree_of checked.now) input.now)) }
+    requires accepted { BreaksNoRule (tree_of checked.now) }
+    requires workers { 1 ≤ workers }
+    requires throttle { (1 ≤ throttle) × (throttle ≤ ranges.MOST_THROTTLE) }
+    ensures run { IfOk result (IsFinishedRunOf (tree_of checked.now) input.now throttle) }
+    ensures columns { IfOk result (λ r. r.reports ≡ [] → r.run_log.columns ≡ program_columns (whole_of (tree_of checked.now) input.now)) }
 {
-    let SerialRun {
+    let code = lower(alloc, checked)?;
+    let EngineRun {
+        run_log,
+        reports,
         output,
         trap,
-        columns,
-        accesses,
-        events,
-    } = elide(alloc, checked, input)?;
-    let run_log = RunLog { columns, events };
-    let reports = detect(alloc, &run_log, &accesses)?;
+    } = run(rt, alloc, checked, &code, input, workers, throttle, gate)?;
     Ok(FinishedRun {
-        workers,
         output,
         trap,
         run_log,
@@ -119,7 +121,6 @@ pub fn run_elision(
     } = elide(alloc, checked, input)?;
     let races = Dag::of(alloc, &columns)?.races(alloc, &accesses)?;
     Ok(FinishedRun {
-        workers: 1,
         output,
         trap,
         run_log: RunLog { columns, events },

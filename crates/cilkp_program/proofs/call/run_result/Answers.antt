@@ -1,17 +1,10 @@
-use Rattle.std.proofs.Common.{◌∙◌, ap, Some}
 use Rattle.pipe_model.specs.Language.SyntaxTree.{tree_of}
-use Rattle.cilkp_program.specs.RecordedRuns.{recorded}
-use Rattle.cilkp_program.proofs.HeadlineLaws.{elision_meets}
+use Rattle.cilkp_program.proofs.HeadlineLaws.{run_returned}
 use Rattle.cilkp_program.proofs.call.run_result.Goals as goal
 
 pub returns : goal.returns
-returns c = record {
-  logged = ap Some c.in_ok-run.ensures.log;
-  meets = λ limit room. record {
-    outcome = c.in_ok-status.text;
-    text_is = c.in_ok-recorded.ensures ∙ ap (λ log. recorded c.args.with_log c.args.checked.now.cells log c.in_ok-status.text) c.in_ok-run.ensures.log;
-    meets = elision_meets (tree_of c.args.checked.now) c.args.input.now limit _ _ _ c.requires room c.in_ok-run.ensures.output c.in_ok-run.ensures.trap c.in_ok-run.ensures.reports
-        c.in_ok-status.ensures;
-  };
-  found = c.in_ok-run.ensures.reports;
-}
+returns g c =
+    let accepted = c.requires.accepted in
+    (c.in_ok-run.run'.run_log,
+    run_returned (tree_of c.args.checked.now) c.args.input.now c.args.throttle c.args.with_log c.in_ok-run.run'
+    c.in_ok-status.status c.in_ok-status.text c.in_ok-recorded.field-0 accepted c.in_ok-run.ensures.run c.in_ok-status.ensures c.in_ok-recorded.ensures)

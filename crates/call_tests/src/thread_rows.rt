@@ -1,0 +1,83 @@
+// Runs by several workers, and instances that overlap.
+
+use crate::cases::{Case, source};
+use pipe_model::event::{ColumnEnd, Event, RunLog};
+use pipe_model::node::NodeId;
+use pipe_worker::gate::HoldGate;
+use std::test::Fail;
+
+// Prefix sums: the last stage runs in the order of the iterations.
+const PREFIX_SUMS: &str =
+    "cell n = 0; cell s = 0; pipe_while (n < 3) { n = n + 1; let t = n; pipe_wait(1); s = s + t; emit s; }";
+
+// Two iterations whose last stages wait for nothing.
+const TWO_ITERATIONS: &str =
+    "cell n = 0; pipe_while (n < 2) { n = n + 1; let t = n; pipe_continue(1); t = t + 1; }";
+
+const TURNS: u64 = 10_000_000;
+
+// The last stage of an iteration of `TWO_ITERATIONS`.
+fn last_stage(iteration: u32) -> NodeId {
+    NodeId {
+        iteration,
+        index: 1,
+    }
+}
+
+// The place of an event in a log, or how many events there are.
+fn place_of(log: &RunLog, event: Event) -> usize {
+    for (place, other) in log.events.iter().enumerate() {
+        if *other == event {
+            return place;
+        }
+    }
+    log.events.len()
+}
+
+// Four workers, one iteration alive or eight.
+fn prefix_sums(rt: &HostRuntime) -> Result<(), Fail> {
+    let source = source(rt.alloc(), [8, 4, 100, 8], PREFIX_SUMS)?;
+    for throttle in ["1", "8"] {
+        let words = [
+            "run", "a.pipe", "a.in", "--workers", "4", "--throttle", throttle,
+        ];
+        let case = Case {
+            words: &words,
+            ..Case::of(source.as_bytes())
+        };
+        case.check(rt, "prefix sums", 0, "1\n3\n6\n")?;
+    }
+    Ok(())
+}
+
+// Runs the two iterations with a gate that holds one last stage until the other is at it. Fails the
+// test unless the two met. Returns the log.
+fn held_run(rt: &HostRuntime, held: NodeId, until: NodeId) -> Result<RunLog, Fail> {
+    let source = source(rt.alloc(), [2, 2, 50, 2], TWO_ITERATIONS)?;
+    let case = Case {
+        words: &["run", "a.pipe", "a.in", "--workers", "2", "--throttle", "2"],
+        ..Case::of(source.as_bytes())
+    };
+    let gate = HoldGate::new(held, until, TURNS);
+    let ended = case.set_up(rt.alloc())?.make_at(rt, &gate)?;
+    let Some(log) = ended.run_log else {
+        return Err(Fail::new(format_args!("no run log")));
+    };
+    if ended.status != 0 || !gate.met() {
+        return Err(Fail::new(format_args!("status {}, met {}", ended.status, gate.met())));
+    }
+    Ok(log)
+}
+
+#[test]
+fn workers_overlap(rt: HostRuntime) -> Result<(), Fail> {
+    prefix_sums(&rt)?;
+    // Iteration 1 is in its last stage before iteration 0 ends. One thread could not pass both gates.
+    let log = held_run(&rt, last_stage(0), last_stage(1))?;
+    let enters = place_of(&log, Event::Enter(1));
+    let finishes = place_of(&log, Event::Finish(0, ColumnEnd::End));
+    assert!(rt; enters < finishes);
+    let other = held_run(&rt, last_stage(1), last_stage(0))?;
+    assert!(rt; place_of(&other, Event::Enter(0)) < other.events.len());
+    Ok(())
+}
