@@ -1,3 +1,7 @@
 pub mod LaneLists
 pub mod OverRuns
 pub mod JoinedSeats
+pub mod EventLogs
+pub mod LoopEnds
+pub mod EngineRuns
+pub mod Openings

@@ -1,3 +1,7 @@
 pub mod TaskNumbers
 pub mod Lanes
 pub mod SeenRuns
+pub mod OpenedHalls
+pub mod LoopEnds
+pub mod EventAccesses
+pub mod EngineRuns

@@ -4,7 +4,5 @@ pub mod TurnCandidates
 pub mod ChangedEntries
 pub mod ScheduleEvents
 pub mod Playing
-pub mod PlayedColumns
 pub mod PlayedRuns
-pub mod ProgramEnds
 pub mod PlayedPrograms

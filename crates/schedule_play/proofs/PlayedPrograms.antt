@@ -13,36 +13,33 @@ use Rattle.pipe_model.specs.Language.CheckingRules.{BreaksNoRule}
 use Rattle.pipe_model.specs.Language.SyntaxTree.{SyntaxTree}
 use Rattle.pipe_model.specs.Orders.Starts.{starts_of}
 use Rattle.pipe_model.specs.Pipelines.SerialElision.{unless}
-use Rattle.pipe_model.specs.Pipelines.Store.{output_of}
 use Rattle.pipe_model.specs.Pipelines.WholePrograms.{WholeProgram, init_accesses, init_trap}
 use Rattle.pipe_model.specs.Pipelines.Pipeline.{Pipeline}
-use Rattle.pipe_model.specs.Races.DeterminacyRaces.{IsRaceFree}
 use Rattle.pipe_model.specs.Runs.Run.{EmptyRun, IsFinished, Run, state_from}
 use Rattle.pipe_model.specs.Runs.RunLogs.{accesses_after, columns_after, state_after}
 use Rattle.pipe_model.specs.Runs.Schedules.{candidates, played, running_instances}
 use Rattle.pipe_model.specs.Runs.State.{State, initial_state, next_state}
 use Rattle.pipe_model.specs.Runs.WholeProgramRuns.{IsFinishedProgramRun, NoLoop, OfLoop, ProgramIsFinished, WithLoop, WithoutLoop, played_output, played_trap}
 use Rattle.language_laws.proofs.WellFormed.{accepted_is_well_formed}
+use Rattle.program_ends.specs.declared.ends.ProgramResults.{ProgramResults}
+use Rattle.program_ends.specs.ProgramEnds.{HasResults, reaches_final}
+use Rattle.program_ends.proofs.ElidedRuns.{finished_runs_agree_with_elisions}
 use Rattle.program_laws.proofs.BoundedWork.{program_runs_are_bounded}
 use Rattle.program_laws.proofs.Candidates.{played_runs_are_runs}
-use Rattle.program_laws.proofs.Headlines.{runs_meet_the_headline}
 use Rattle.program_laws.proofs.InstanceBounds.{program_instances_are_bounded, starts_are_counted}
 use Rattle.program_laws.proofs.PlayedSchedules.{finished_runs_have_no_candidate, schedules_finish, schedules_play_runs}
-use Rattle.program_laws.proofs.ProgramElisions.{accepted_programs_meet_the_elision}
-use Rattle.program_laws.proofs.ProgramRuns.{played_where_final_ran, well_formed_after}
+use Rattle.program_laws.proofs.ProgramRuns.{well_formed_after}
 use Rattle.program_laws.specs.ScheduleLaws.{IsPlayed as IsPlayedRun}
 use Rattle.program_laws.specs.WorkBounds.{most_instances}
 use Rattle.race_detection.specs.FoundReports.{found_reports}
 use Rattle.run_laws.proofs.RunStates.FrontAndBack.{front_is_run}
 use Rattle.run_laws.proofs.RunStates.IterationCounts.{runs_keep_rules}
-use Rattle.serial_elision.proofs.Elisions.{first_or_none}
 use Rattle.schedule_play.specs.declared.loop_play.LoopPlay.{LoopPlay}
 use Rattle.schedule_play.specs.declared.loop_play.PlayLimits.{PlayLimits}
 use Rattle.schedule_play.specs.declared.program_play.Played.{Played}
 use Rattle.schedule_play.specs.LoopPlays.{IsLoopPlay}
-use Rattle.schedule_play.specs.ProgramPlays.{HasElisionResults, IsEndOfLoop, IsPlayed, MeetsPlayedHeadline, enough_turns, reaches_final}
+use Rattle.schedule_play.specs.ProgramPlays.{HasElisionResults, IsEndOfLoop, IsPlayed, MeetsPlayedHeadline, enough_turns}
 use Rattle.schedule_play.proofs.PlayedRuns.{reports_right}
-use Rattle.schedule_play.proofs.ProgramEnds.{trapped_before}
 
 -- ---- `init` trapped
 
@@ -51,15 +48,12 @@ nothing_before [] after e = refl
 nothing_before (x ∷ before) after e = absurd (cc)
 
 -- the play of a program whose `init` trapped
-pub trapped_in_init : (tree : SyntaxTree) (input : List ℤ) (limits : PlayLimits) (choices : List ℕ) (output : List ℤ) (trap : Option TrapAt)
-    → trap ≡ init_trap (whole_of tree input) → is_some trap ≡ true → output ≡ output_of (store_of tree) (init_accesses (whole_of tree input))
-    → IsPlayed tree input limits choices (record { run_log = record { columns = []; events = [] }; reports = []; output = output; trap = trap; finished = true })
-trapped_in_init tree input limits choices output trap is some all =
-    let w = whole_of tree input in
+pub trapped_in_init : (tree : SyntaxTree) (input : List ℤ) (limits : PlayLimits) (choices : List ℕ) (r : ProgramResults)
+    → is_some (init_trap (whole_of tree input)) ≡ true → HasResults (whole_of tree input) true initial_state r
+    → IsPlayed tree input limits choices
+    (record { run_log = record { columns = []; events = [] }; reports = []; output = r.output; trap = r.trap; finished = true })
+trapped_in_init tree input limits choices r trapped results =
     let p = pipeline_after_init tree input in
-    let trapped : is_some (init_trap w) ≡ true = ap is_some (sym is) ∙ some in
-    let results = trapped_before w true initial_state output trap some (is ∙ sym (first_or_none (init_trap w)))
-    (all ∙ ap (output_of (store_of tree)) (sym (append-nil (init_accesses w)))) in
     record {
       log = record {
         events = sym (ap (λ b. unless b (played p limits.throttle limits.workers choices limits.turns)) trapped);
@@ -71,7 +65,7 @@ trapped_in_init tree input limits choices output trap is some all =
         turns = λ no. absurd (no refl);
       };
       reports = record { found = refl; right = reports_right p limits.throttle [] EmptyRun };
-      results = record { output = results.output_is; trap = results.trap_is };
+      results = record { output = results.output; trap = results.trap };
     }
 
 -- ---- the loop was played
@@ -124,19 +118,11 @@ agrees : (tree : SyntaxTree) (input : List ℤ) (limits : PlayLimits) (choices :
 agrees tree input limits choices r accepted h over =
     let w = whole_of tree input in
     let s = state_after r.run_log.events in
-    let run : IsFinishedProgramRun w limits.throttle r.run_log = record { run = h.log.run; finished = h.log.finished.0 over; columns = h.log.columns } in
-    let meets = accepted_programs_meet_the_elision tree input limits.throttle r.run_log accepted run in
-    let headline = runs_meet_the_headline tree input limits.throttle r.run_log r.reports [] accepted run h.reports.right in
-    let free : r.reports ≡ [] → IsRaceFree (columns_after r.run_log.events) (accesses_after r.run_log.events) =
-    λ none. meets.races.1 (headline.silent.0 none) in
-    let ran : r.reports ≡ [] → reaches_final r.finished r.reports ≡ true =
-    λ none. ap (reaches_final r.finished) none ∙ ap (λ b. b && true) over in
-    record {
-      silent = headline.silent;
-      columns = λ none. meets.columns (free none);
-      output = λ none. h.results.output ∙ ap (λ b. played_output w b s) (ran none) ∙ (played_where_final_ran w s).0 ∙ meets.output (free none);
-      trap = λ none. h.results.trap ∙ ap (λ b. played_trap w b s) (ran none) ∙ (played_where_final_ran w s).1 ∙ meets.trap (free none);
-    }
+    let ran : reaches_final r.finished r.reports ≡ reaches_final true r.reports = ap (λ f. reaches_final f r.reports) over in
+    let a = finished_runs_agree_with_elisions tree input limits.throttle r.run_log r.reports (record { output = r.output; trap = r.trap }) accepted
+    (record { run = h.log.run; finished = h.log.finished.0 over; columns = h.log.columns }) h.reports.right
+    (record { output = h.results.output ∙ ap (λ b. played_output w b s) ran; trap = h.results.trap ∙ ap (λ b. played_trap w b s) ran }) in
+    record { silent = a.silent; columns = a.columns; output = a.output; trap = a.trap }
 
 -- a stop is not undone
 was_going : (s : State) (e : Event) → (next_state s e).stopped ≡ false → s.stopped ≡ false

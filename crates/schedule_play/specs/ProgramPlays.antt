@@ -1,5 +1,5 @@
 -- Programs that were played by a schedule: `init`, the loop, `final`.
-use Rattle.std.specs.Prelude.{◌≡◌, ◌≢◌, ◌↔◌, ◌+◌, ◌*◌, ◌≤◌, ◌++◌, ◌==◌, ◌&&◌, [], ℕ, ℤ, List, Bool, IsTrue, length, is_some}
+use Rattle.std.specs.Prelude.{◌≡◌, ◌≢◌, ◌↔◌, ◌+◌, ◌*◌, ◌≤◌, ◌++◌, [], ℕ, ℤ, List, IsTrue, length, is_some}
 use Rattle.pipe_model.specs.declared.event.Event.{Event}
 use Rattle.pipe_model.specs.declared.report.Report.{Report}
 use Rattle.pipe_model.specs.Language.Programs.{natural}
@@ -14,16 +14,13 @@ use Rattle.pipe_model.specs.Runs.Schedules.{candidates, played, running_instance
 use Rattle.pipe_model.specs.Runs.State.{State}
 use Rattle.pipe_model.specs.Runs.Throttling.{IsThrottled}
 use Rattle.pipe_model.specs.Runs.WholeProgramRuns.{ProgramIsFinished, ProgramRun, played_output, played_trap}
+use Rattle.program_ends.specs.ProgramEnds.{reaches_final}
 use Rattle.program_laws.specs.ProgramHeadline.{HasNoProgramRace}
 use Rattle.program_laws.specs.WorkBounds.{most_instances}
 use Rattle.race_detection.specs.FoundReports.{found_reports}
 use Rattle.schedule_play.specs.declared.loop_play.LoopPlay.{LoopPlay}
 use Rattle.schedule_play.specs.declared.loop_play.PlayLimits.{PlayLimits}
 use Rattle.schedule_play.specs.declared.program_play.Played.{Played}
-
--- `final` runs exactly after a finished run without a report and, as `played_output` and `played_trap` say, without a trap
-abbrev pub reaches_final : Bool → List Report → Bool
-reaches_final finished reports = finished && (length reports == 0)
 
 -- the events of the loop are those that the choices make; there are none if `init` trapped
 abbrev pub played_events : SyntaxTree → List ℤ → ℕ → ℕ → List ℕ → ℕ → List Event

@@ -1,6 +1,6 @@
 //! A program, played on one thread by a schedule: `init`, the loop, `final`.
 
-ghost use Rattle.std.specs.Prelude.{◌≡◌, ◌≢◌, ◌↔◌, ◌<◌, ◌≤◌, ◌++◌, ◌&&◌, ◌+◌, ◌*◌, [], ℕ, List, IfOk, None, IsTrue, false, is_some, length, not};
+ghost use Rattle.std.specs.Prelude.{◌≡◌, ◌≢◌, ◌↔◌, ◌<◌, ◌≤◌, ◌++◌, ◌+◌, ◌*◌, [], ℕ, List, IfOk, None, IsTrue, false, is_some, length};
 ghost use Rattle.cell_store.specs.ShardState.{IsStateAfter};
 ghost use Rattle.pipe_model.specs.declared.event.Event.{Event as EventOf};
 ghost use Rattle.pipe_model.specs.Language.Programs.{natural, store_of};
@@ -17,9 +17,10 @@ ghost use Rattle.pipe_model.specs.Runs.Schedules.{candidates, running_instances}
 ghost use Rattle.pipe_model.specs.Runs.State.{accesses_of};
 ghost use Rattle.pipe_model.specs.Runs.Throttling.{IsThrottled};
 ghost use Rattle.pipe_model.specs.Runs.WholeProgramRuns.{ProgramIsFinished, ProgramRun, played_output, played_trap};
+ghost use Rattle.program_ends.specs.ProgramEnds.{reaches_final};
 ghost use Rattle.program_laws.specs.WorkBounds.{most_instances};
 ghost use Rattle.race_detection.specs.FoundReports.{found_reports};
-ghost use Rattle.schedule_play.specs.ProgramPlays.{HasElisionResults, IsEndOfLoop, IsPlayed, MeetsPlayedHeadline, enough_turns, played_events, reaches_final};
+ghost use Rattle.schedule_play.specs.ProgramPlays.{HasElisionResults, IsEndOfLoop, IsPlayed, MeetsPlayedHeadline, enough_turns, played_events};
 ghost use Rattle.serial_elision.specs.PartRuns.{Serves};
 ghost use Rattle.stage_code.specs.LimitRanges.{HasRangesOfLimits};
 ghost use Rattle.stage_interp.specs.MachineState.{IsMadeFor};
@@ -35,9 +36,10 @@ use pipe_model::memory::NoMemory;
 use pipe_model::report::Reports;
 use pipe_model::trap::{TrapAt, TrapPlace};
 use pipe_model::tree::Limits;
+use program_ends::ends;
+use program_ends::ends::ProgramResults;
 use serial_elision::outer_parts::{first_cells, run_alone};
 use serial_elision::prepared::Prepared;
-use serial_elision::traps::least_trap;
 use stage_code::code::Code;
 use stage_code::instr::Part;
 use stage_interp::machine::Machine;
@@ -75,24 +77,17 @@ fn end_after_init(
         (init_accesses (whole_of (tree_of prepared.now.checked.now) prepared.now.input.now)) cells }
     ensures { IsPlayed (tree_of prepared.now.checked.now) prepared.now.input.now limits choices.now result }
 {
+    let ProgramResults { output, trap } = ends::end_after_init(prepared, trap, cells);
     Played {
         run_log: RunLog {
             columns: Columns::new(alloc),
             events: Events::new(alloc),
         },
         reports: Reports::new(alloc),
-        output: cells.into_output(),
+        output,
         trap,
         finished: true,
     }
-}
-
-// Returns whether `final` runs after a loop that was played: the run is finished, and there is
-// neither a race nor a trap.
-fn runs_final(finished: bool, reports: &Reports, trap: Option<TrapAt>) -> bool
-    ensures { result ≡ (reaches_final finished reports.now && not (is_some trap)) }
-{
-    finished && reports.is_empty() && trap.is_none()
 }
 
 // Runs `final` after a loop that was played, if the run is finished and there is neither a race nor a
@@ -121,22 +116,13 @@ fn end_after_loop(
         finished,
         cells,
     } = play;
-    let trap = least_trap(run_log.columns.as_slice());
-    if !runs_final(finished, &reports, trap) {
-        return Ok(Played {
-            run_log,
-            reports,
-            output: cells.into_output(),
-            trap,
-            finished,
-        });
-    }
-    let last = run_alone(alloc, machine, prepared, Part::Last, TrapPlace::Last, cells)?;
+    let ProgramResults { output, trap } =
+        ends::end_after_loop(alloc, machine, prepared, &run_log, &reports, finished, cells)?;
     Ok(Played {
         run_log,
         reports,
-        output: last.cells.into_output(),
-        trap: last.trap,
+        output,
+        trap,
         finished,
     })
 }

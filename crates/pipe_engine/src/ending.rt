@@ -1,0 +1,100 @@
+//! The end of a loop: the hall is closed, the logs are merged, and the races are reported.
+
+ghost use Rattle.std.specs.Prelude.{◌≡◌, ℕ, ℤ, List, IfOk, map};
+ghost use Rattle.frame_book.specs.BookStates.{state_of};
+ghost use Rattle.hall_headline.specs.HallEnds.{found_by};
+ghost use Rattle.hall_headline.specs.HallEnds as ends;
+ghost use Rattle.hall_laws.specs.ClosedHalls.{IsSoundBook};
+ghost use Rattle.pipe_engine.specs.LoopEnds.{IsLoopEnd};
+ghost use Rattle.pipe_engine.specs.OpenedHalls.{IsOpenedAfterInit};
+ghost use Rattle.pipe_hall.specs.WorkerSeats.{IsSameHall};
+ghost use Rattle.pipe_model.specs.Language.SyntaxTree.{tree_of};
+ghost use Rattle.pipe_model.specs.Runs.Run.{IsFinished};
+
+use crate::carried::{Carried, RunCode};
+use access_history::history::Found;
+use frame_book::book::Book;
+use om_shared::writer::OmWriter;
+use pipe_frame::results::Rescue;
+use pipe_hall::close::{HallEnd, close};
+use pipe_hall::hall::{HallKey, HallOf};
+use pipe_hall::shard::Shard;
+use pipe_model::access::CellId;
+use pipe_model::event::RunLog;
+use pipe_model::memory::NoMemory;
+use pipe_model::report::Reports;
+use pipe_model::ticket::{BookLog, ShardLog};
+use race_report::gather::gather;
+use run_record::merge::merge;
+use serial_elision::prepared::Prepared;
+use std::alloc::Global;
+use std::sync::Wait;
+
+/// A loop that a hall has run to its end.
+#[derive(Drop)]
+pub(crate) struct LoopEnd {
+    /// The events, by their tickets, and their columns.
+    pub run_log: RunLog,
+    /// A race of each cell for which its access history found one, rising by cell.
+    pub reports: Reports,
+}
+
+// Returns the log of a book whose run is finished. A run ends otherwise only if memory ran out.
+fn finished_log<B: RunCode>(mut book: Book<Carried<B>, OmWriter>) -> Result<BookLog, NoMemory>
+    ensures log { IfOk result (λ log. log ≡ book.log) }
+    ensures sound { IfOk result (λ _. IsSoundBook book) }
+    ensures finished { IfOk result (λ _. IsFinished (state_of book)) }
+{
+    match book.rescue() {
+        Rescue::Finished => Ok(book.into_log()),
+        Rescue::Token(_) | Rescue::MayBegin | Rescue::Nothing | Rescue::Stopped => Err(NoMemory),
+    }
+}
+
+// Returns the races that the shards have found, one shard after the other.
+fn found_in(alloc: Global, shards: &[Shard]) -> Result<Vec<(CellId, Found)>, NoMemory>
+    ensures { IfOk result (λ found. found.items ≡ found_by shards.now) }
+{
+    let mut found = Vec::new(alloc);
+    for shard in shards {
+        found.extend_from_slice(shard.found()?.as_slice())?;
+    }
+    Ok(found)
+}
+
+// Returns the logs of the shards.
+fn logs_of(alloc: Global, shards: Vec<Shard>) -> Result<Vec<ShardLog>, NoMemory>
+    ensures { IfOk result (λ logs. logs.items ≡ ends.logs_of shards.items) }
+{
+    let mut logs = Vec::with_capacity(alloc, shards.len())?;
+    for shard in shards {
+        logs.push(shard.into_log())?;
+    }
+    Ok(logs)
+}
+
+/// Closes a hall of which the key is, merges its logs, and gathers the reports of its shards. The hall
+/// must be of this program and limit, and opened with the cells after `init`. Returns an error if
+/// memory runs out, or if the run was not finished because memory ran out.
+pub(crate) fn end_loop<R: Wait, B: RunCode>(
+    rt: &R,
+    alloc: Global,
+    prepared: &Prepared,
+    throttle: u32,
+    hall: HallOf<Carried<B>>,
+    key: HallKey<Carried<B>>,
+) -> Result<LoopEnd, NoMemory>
+    requires opened { IsOpenedAfterInit (tree_of prepared.now.checked.now) prepared.now.input.now throttle hall }
+    requires same { IsSameHall key.hall hall.hall }
+    ensures { IfOk result (IsLoopEnd (tree_of prepared.now.checked.now) prepared.now.input.now throttle) }
+{
+    let _ = prepared;
+    let _ = throttle;
+    let HallEnd { book, shards } = close(rt, alloc, hall, key)?;
+    let book_log = finished_log(book)?;
+    let found = found_in(alloc, shards.as_slice())?;
+    let shard_logs = logs_of(alloc, shards)?;
+    let run_log = merge(alloc, book_log, shard_logs)?;
+    let reports = gather(alloc, found.as_slice(), &run_log.columns)?;
+    Ok(LoopEnd { run_log, reports })
+}

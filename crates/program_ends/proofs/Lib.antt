@@ -1,0 +1,3 @@
+pub mod RunColumns
+pub mod RunResults
+pub mod ElidedRuns

@@ -1,0 +1,38 @@
+-- How programs end: after `init` if it trapped, and otherwise after the loop or after `final`.
+use Rattle.std.specs.Prelude.{◌≡◌, ◌↔◌, ◌==◌, ◌&&◌, ℕ, ℤ, [], List, Bool, true, length}
+use Rattle.pipe_model.specs.declared.event.RunLog.{RunLog}
+use Rattle.pipe_model.specs.declared.report.Report.{Report}
+use Rattle.pipe_model.specs.Language.CheckingRules.{BreaksNoRule}
+use Rattle.pipe_model.specs.Language.ProgramsOfTrees.{whole_of}
+use Rattle.pipe_model.specs.Language.SyntaxTree.{SyntaxTree}
+use Rattle.pipe_model.specs.Pipelines.WholePrograms.{WholeProgram, program_columns, program_output, program_trap}
+use Rattle.pipe_model.specs.Races.Reports.{AreRight}
+use Rattle.pipe_model.specs.Runs.RunLogs.{accesses_after, columns_after, state_after}
+use Rattle.pipe_model.specs.Runs.State.{State}
+use Rattle.pipe_model.specs.Runs.WholeProgramRuns.{IsFinishedProgramRun, played_output, played_trap}
+use Rattle.program_laws.specs.ProgramHeadline.{HasNoProgramRace}
+use Rattle.program_ends.specs.declared.ends.ProgramResults.{ProgramResults}
+
+-- `final` runs exactly after a finished run without a report and, as `played_output` and `played_trap` say, without a trap
+abbrev pub reaches_final : Bool → List Report → Bool
+reaches_final finished reports = finished && (length reports == 0)
+
+-- the output and the trap are those of `init`, of a run with this state and, if it ran, of `final`
+pub record HasResults (w : WholeProgram) (ran : Bool) (s : State) (r : ProgramResults) : Type 0 where
+  pub output : r.output ≡ played_output w ran s
+  pub trap : r.trap ≡ played_trap w ran s
+
+-- a finished run with these reports and results has a report exactly if the program's serial elision has a race, and otherwise the elision's
+-- columns, output and trap
+pub record AgreesWithElision (w : WholeProgram) (log : RunLog) (reports : List Report) (r : ProgramResults) : Type 0 where
+  pub silent : (reports ≡ []) ↔ HasNoProgramRace w
+  pub columns : reports ≡ [] → log.columns ≡ program_columns w
+  pub output : reports ≡ [] → r.output ≡ program_output w
+  pub trap : reports ≡ [] → r.trap ≡ program_trap w
+
+-- so does each finished run of an accepted program, if its reports are right
+abbrev pub FinishedRunsAgreeWithElisions : Type 0
+FinishedRunsAgreeWithElisions =
+    (tree : SyntaxTree) (input : List ℤ) (limit : ℕ) (log : RunLog) (reports : List Report) (r : ProgramResults) → BreaksNoRule tree
+    → IsFinishedProgramRun (whole_of tree input) limit log → AreRight (columns_after log.events) (accesses_after log.events) reports
+    → HasResults (whole_of tree input) (reaches_final true reports) (state_after log.events) r → AgreesWithElision (whole_of tree input) log reports r
