@@ -8,6 +8,8 @@ use pipe_model::memory::NoMemory;
 use pipe_worker::gate::{Gate, OpenGate};
 use std::alloc::Global;
 use std::test::Fail;
+use std::sync::Wait;
+use std::thread::Threads;
 
 // The files of a call: the source `a.pipe` and the input `a.in`.
 fn files(alloc: Global, source: &[u8], input: &[u8]) -> Result<Vec<(String, Bytes)>, NoMemory> {
@@ -92,15 +94,17 @@ impl<'a> Case<'a> {
     }
 
     // Makes the call, and returns its result and what the sink took.
-    pub fn run(self, rt: &HostRuntime) -> Result<(Ended, Vec<u8>), NoMemory> {
-        let mut call = self.set_up(rt.alloc())?;
-        let ended = call.make(rt)?;
-        Ok((ended, call.sink.taken().as_slice().to_vec(rt.alloc())?))
+    pub fn run(self, rt: &(impl Threads + Wait + Sync),
+    alloc: Global) -> Result<(Ended, Vec<u8>), NoMemory> {
+        let mut call = self.set_up(alloc)?;
+        let ended = call.make(rt, alloc)?;
+        Ok((ended, call.sink.taken().as_slice().to_vec(alloc)?))
     }
 
     // Fails the test if the status or the text differs.
-    pub fn check(self, rt: &HostRuntime, name: &str, status: u8, text: &str) -> Result<(), Fail> {
-        let (ended, taken) = self.run(rt)?;
+    pub fn check(self, rt: &(impl Threads + Wait + Sync),
+    alloc: Global, name: &str, status: u8, text: &str) -> Result<(), Fail> {
+        let (ended, taken) = self.run(rt, alloc)?;
         if ended.status != status
             || ended.written != text.len() as u64
             || taken.as_slice() != text.as_bytes()
@@ -123,19 +127,21 @@ pub struct Call {
 }
 
 impl Call {
-    pub fn make(&mut self, rt: &HostRuntime) -> Result<Ended, NoMemory> {
-        self.make_at(rt, &OpenGate)
+    pub fn make(&mut self, rt: &(impl Threads + Wait + Sync),
+    alloc: Global) -> Result<Ended, NoMemory> {
+        self.make_at(rt, alloc, &OpenGate)
     }
 
     // Makes the call, with a gate for its workers.
     pub fn make_at<G: Gate + Sync>(
         &mut self,
-        rt: &HostRuntime,
+        rt: &(impl Threads + Wait + Sync),
+    alloc: Global,
         gate: &G,
     ) -> Result<Ended, NoMemory> {
         cilkp(
             rt,
-            rt.alloc(),
+            alloc,
             self.words.as_slice(),
             &mut self.files,
             &mut self.sink,

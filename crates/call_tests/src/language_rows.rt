@@ -4,6 +4,9 @@
 use crate::cases::{Case, source};
 use crate::row_tests::Row;
 use std::test::Fail;
+use std::alloc::Global;
+use std::sync::Wait;
+use std::thread::Threads;
 
 // The limit on emits, what is inserted into `init`, the loop and `final` of the program of `traps`,
 // and its text. Each part emits its number before that.
@@ -69,12 +72,13 @@ const TRAPS: [(u32, [&str; 3], &str); 18] = [
 ];
 
 // A trap in `init` leaves out the loop and `final`, and a trap in the loop leaves out `final`.
-fn traps(rt: &HostRuntime) -> Result<(), Fail> {
+fn traps(rt: &(impl Threads + Wait + Sync),
+    alloc: Global) -> Result<(), Fail> {
     for (emits, [init, body, last], text) in TRAPS {
-        let source = format!(in rt.alloc();
+        let source = format!(in alloc;
             "limits iterations 1, stages 1, steps 50, emits {emits}; cell a[2] = 0; cell n = 0; init {{ emit 1; {init} }} pipe_while (n < 1) {{ n = 1; emit 2; {body} }} final {{ emit 3; {last} }}"
         )?;
-        Case::of(source.as_bytes()).check(rt, text, 3, text)?;
+        Case::of(source.as_bytes()).check(rt, alloc, text, 3, text)?;
     }
     Ok(())
 }
@@ -107,15 +111,16 @@ const COSTS: [(&str, u32, &str); 20] = [
 ];
 
 // Each statement with a budget that is exact, and with one step too few.
-fn costs(rt: &HostRuntime) -> Result<(), Fail> {
+fn costs(rt: &(impl Threads + Wait + Sync),
+    alloc: Global) -> Result<(), Fail> {
     for (statement, cost, text) in COSTS {
-        let rest = format!(in rt.alloc();
+        let rest = format!(in alloc;
             "cell a[2] = 7; cell n = 0; init {{ {statement} }} pipe_while (0) {{ }}"
         )?;
-        let exact = source(rt.alloc(), [1, 1, cost, 1], rest.as_str())?;
-        Case::of(exact.as_bytes()).check(rt, statement, 0, text)?;
-        let less = source(rt.alloc(), [1, 1, cost.saturating_sub(1), 1], rest.as_str())?;
-        Case::of(less.as_bytes()).check(rt, statement, 3, "trap Budget in init\n")?;
+        let exact = source(alloc, [1, 1, cost, 1], rest.as_str())?;
+        Case::of(exact.as_bytes()).check(rt, alloc, statement, 0, text)?;
+        let less = source(alloc, [1, 1, cost.saturating_sub(1), 1], rest.as_str())?;
+        Case::of(less.as_bytes()).check(rt, alloc, statement, 3, "trap Budget in init\n")?;
     }
     Ok(())
 }
@@ -198,16 +203,17 @@ const EDGES: &str =
     "cell h = 9223372036854775807; cell l = 0; cell a[3] = 0; init { l = -h - 1; a[0] = 4; a[1] = 2; a[2] = 6;";
 
 // Evaluates all expressions of `VALUES` in one program.
-fn values(rt: &HostRuntime) -> Result<(), Fail> {
-    let mut program = String::from_str(rt.alloc(), EDGES)?;
-    let mut wanted = String::new(rt.alloc());
+fn values(rt: &(impl Threads + Wait + Sync),
+    alloc: Global) -> Result<(), Fail> {
+    let mut program = String::from_str(alloc, EDGES)?;
+    let mut wanted = String::new(alloc);
     for (expression, value) in VALUES {
         write!(program, " emit {expression};")?;
         write!(wanted, "{value}\n")?;
     }
     program.push_str(" } pipe_while (0) { }")?;
-    let source = source(rt.alloc(), [1, 1, 1000, 100], program.as_str())?;
-    Case::of(source.as_bytes()).check(rt, "values", 0, wanted.as_str())
+    let source = source(alloc, [1, 1, 1000, 100], program.as_str())?;
+    Case::of(source.as_bytes()).check(rt, alloc, "values", 0, wanted.as_str())
 }
 
 // Expressions over `h` and `l` that trap, and their traps.
@@ -226,19 +232,21 @@ const EDGE_TRAPS: [(&str, &str); 12] = [
     ("1 && 0 / 0", "DivZero"),
 ];
 
-fn edge_traps(rt: &HostRuntime) -> Result<(), Fail> {
+fn edge_traps(rt: &(impl Threads + Wait + Sync),
+    alloc: Global) -> Result<(), Fail> {
     for (expression, trap) in EDGE_TRAPS {
-        let rest = format!(in rt.alloc(); "{EDGES} emit {expression}; }} pipe_while (0) {{ }}")?;
-        let source = source(rt.alloc(), [1, 1, 50, 1], rest.as_str())?;
-        let text = format!(in rt.alloc(); "trap {trap} in init\n")?;
-        Case::of(source.as_bytes()).check(rt, expression, 3, text.as_str())?;
+        let rest = format!(in alloc; "{EDGES} emit {expression}; }} pipe_while (0) {{ }}")?;
+        let source = source(alloc, [1, 1, 50, 1], rest.as_str())?;
+        let text = format!(in alloc; "trap {trap} in init\n")?;
+        Case::of(source.as_bytes()).check(rt, alloc, expression, 3, text.as_str())?;
     }
     Ok(())
 }
 
 // An expression of 251 symbols that keeps 100 operands while the last one is evaluated.
-fn deepest(rt: &HostRuntime) -> Result<(), Fail> {
-    let mut expression = String::new(rt.alloc());
+fn deepest(rt: &(impl Threads + Wait + Sync),
+    alloc: Global) -> Result<(), Fail> {
+    let mut expression = String::new(alloc);
     for _ in 0..25 {
         expression.push_str("0 == 3 < 2 + 1 * (")?;
     }
@@ -246,9 +254,9 @@ fn deepest(rt: &HostRuntime) -> Result<(), Fail> {
     for _ in 0..25 {
         expression.push_str(")")?;
     }
-    let rest = format!(in rt.alloc(); "init {{ emit {expression}; }} pipe_while (0) {{ }}")?;
-    let source = source(rt.alloc(), [1, 1, 202, 1], rest.as_str())?;
-    Case::of(source.as_bytes()).check(rt, "an expression", 0, "1\n")
+    let rest = format!(in alloc; "init {{ emit {expression}; }} pipe_while (0) {{ }}")?;
+    let source = source(alloc, [1, 1, 202, 1], rest.as_str())?;
+    Case::of(source.as_bytes()).check(rt, alloc, "an expression", 0, "1\n")
 }
 
 const ROWS: [Row; 45] = [
@@ -648,11 +656,12 @@ const PIPELINES: [Row; 17] = [
     ),
 ];
 
-fn pipelines(rt: &HostRuntime) -> Result<(), Fail> {
+fn pipelines(rt: &(impl Threads + Wait + Sync),
+    alloc: Global) -> Result<(), Fail> {
     for (limits, rest, status, text) in PIPELINES {
-        let source = source(rt.alloc(), limits, rest)?;
-        Case::of(source.as_bytes()).check(rt, rest, status, text)?;
-        Case::serial(source.as_bytes()).check(rt, rest, status, text)?;
+        let source = source(alloc, limits, rest)?;
+        Case::of(source.as_bytes()).check(rt, alloc, rest, status, text)?;
+        Case::serial(source.as_bytes()).check(rt, alloc, rest, status, text)?;
     }
     Ok(())
 }
@@ -661,12 +670,12 @@ fn pipelines(rt: &HostRuntime) -> Result<(), Fail> {
 fn rows_of_the_language(rt: HostRuntime) -> Result<(), Fail> {
     for (limits, rest, status, text) in ROWS {
         let source = source(rt.alloc(), limits, rest)?;
-        Case::of(source.as_bytes()).check(&rt, rest, status, text)?;
+        Case::of(source.as_bytes()).check(&rt, rt.alloc(), rest, status, text)?;
     }
-    pipelines(&rt)?;
-    traps(&rt)?;
-    costs(&rt)?;
-    values(&rt)?;
-    edge_traps(&rt)?;
-    deepest(&rt)
+    pipelines(&rt, rt.alloc())?;
+    traps(&rt, rt.alloc())?;
+    costs(&rt, rt.alloc())?;
+    values(&rt, rt.alloc())?;
+    edge_traps(&rt, rt.alloc())?;
+    deepest(&rt, rt.alloc())
 }

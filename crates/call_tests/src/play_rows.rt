@@ -2,6 +2,9 @@
 
 use crate::cases::{Case, source};
 use std::test::Fail;
+use std::alloc::Global;
+use std::sync::Wait;
+use std::thread::Threads;
 
 // Iterations 0 and 1 wait for no one, and both use `f`; the second reads it in stage 0.
 const RACING: &str = "cell n = 0; cell f = 0; cell c = 0; pipe_while (n < 2) { n = n + 1; \
@@ -16,16 +19,17 @@ const RECORDED: &str = "1\nbegin 0\nread 0 n 0\nwrite 0 n 1\nwait 0 1\nenter 0\n
 
 // Each seed plays another schedule, and each has one race, of `f`. Which access is the earlier one
 // depends on the schedule.
-fn seeds(rt: &HostRuntime) -> Result<(), Fail> {
-    let source = source(rt.alloc(), [2, 3, 50, 2], RACING)?;
+fn seeds(rt: &(impl Threads + Wait + Sync),
+    alloc: Global) -> Result<(), Fail> {
+    let source = source(alloc, [2, 3, 50, 2], RACING)?;
     for seed in 0..100 {
-        let number = format!(in rt.alloc(); "{seed}")?;
+        let number = format!(in alloc; "{seed}")?;
         let words = ["play", "a.pipe", "a.in", "--seed", number.as_str()];
         let case = Case {
             words: &words,
             ..Case::of(source.as_bytes())
         };
-        let (ended, taken) = case.run(rt)?;
+        let (ended, taken) = case.run(rt, alloc)?;
         let lines = taken.iter().filter(|byte| **byte == b'\n').count();
         if ended.status != 2 || lines != 1 || !taken.starts_with(b"race f ") {
             return Err(Fail::new(format_args!(
@@ -38,14 +42,15 @@ fn seeds(rt: &HostRuntime) -> Result<(), Fail> {
 }
 
 // With one iteration alive at a time there is one schedule, for `run` and for `play`.
-fn records(rt: &HostRuntime) -> Result<(), Fail> {
-    let closed = source(rt.alloc(), [1, 1, 2, 0], "pipe_while (0) { }")?;
+fn records(rt: &(impl Threads + Wait + Sync),
+    alloc: Global) -> Result<(), Fail> {
+    let closed = source(alloc, [1, 1, 2, 0], "pipe_while (0) { }")?;
     let case = Case {
         words: &["run", "a.pipe", "a.in", "--record"],
         ..Case::of(closed.as_bytes())
     };
-    case.check(rt, "closed", 0, "begin 0\nclosed 0\n")?;
-    let counting = source(rt.alloc(), [1, 2, 50, 1], COUNTING)?;
+    case.check(rt, alloc, "closed", 0, "begin 0\nclosed 0\n")?;
+    let counting = source(alloc, [1, 2, 50, 1], COUNTING)?;
     for words in [
         ["run", "a.pipe", "a.in", "--throttle=1", "--record"],
         ["play", "a.pipe", "a.in", "--throttle=1", "--record"],
@@ -54,13 +59,14 @@ fn records(rt: &HostRuntime) -> Result<(), Fail> {
             words: &words,
             ..Case::of(counting.as_bytes())
         };
-        case.check(rt, "counting", 0, RECORDED)?;
+        case.check(rt, alloc, "counting", 0, RECORDED)?;
     }
     Ok(())
 }
 
 // A trap of `init`, and one of an iteration, after what was emitted before.
-fn traps(rt: &HostRuntime) -> Result<(), Fail> {
+fn traps(rt: &(impl Threads + Wait + Sync),
+    alloc: Global) -> Result<(), Fail> {
     for (rest, text) in [
         (
             "init { emit 1; emit 1 / 0; } pipe_while (0) { }",
@@ -71,19 +77,19 @@ fn traps(rt: &HostRuntime) -> Result<(), Fail> {
             "6\ntrap DivZero at 1/1\n",
         ),
     ] {
-        let source = source(rt.alloc(), [4, 2, 50, 4], rest)?;
+        let source = source(alloc, [4, 2, 50, 4], rest)?;
         let case = Case {
             words: &["play", "a.pipe", "a.in", "--throttle", "1"],
             ..Case::of(source.as_bytes())
         };
-        case.check(rt, rest, 3, text)?;
+        case.check(rt, alloc, rest, 3, text)?;
     }
     Ok(())
 }
 
 #[test]
 fn plays_and_logs(rt: HostRuntime) -> Result<(), Fail> {
-    seeds(&rt)?;
-    records(&rt)?;
-    traps(&rt)
+    seeds(&rt, rt.alloc())?;
+    records(&rt, rt.alloc())?;
+    traps(&rt, rt.alloc())
 }

@@ -5,6 +5,8 @@
 use crate::cases::Case;
 use std::alloc::Global;
 use std::test::Fail;
+use std::sync::Wait;
+use std::thread::Threads;
 
 const LIMITS: &str = "limits iterations 1, stages 1, steps 1, emits 1; ";
 
@@ -37,20 +39,22 @@ const REFUSED: [(&str, &str); 12] = [
 ];
 
 // Fails the test unless `format` and `run` refuse the source with this line.
-fn expect_line(rt: &HostRuntime, source: &str, line: &str) -> Result<(), Fail> {
-    Case::format(source.as_bytes()).check(rt, line, 1, line)?;
-    Case::of(source.as_bytes()).check(rt, line, 1, line)
+fn expect_line(rt: &(impl Threads + Wait + Sync),
+    alloc: Global, source: &str, line: &str) -> Result<(), Fail> {
+    Case::format(source.as_bytes()).check(rt, alloc, line, 1, line)?;
+    Case::of(source.as_bytes()).check(rt, alloc, line, 1, line)
 }
 
 // Fails the test unless the source after its limits is refused at the offset of the `@`.
-fn expect_refusal(rt: &HostRuntime, kind: &str, rest: &str) -> Result<(), Fail> {
+fn expect_refusal(rt: &(impl Threads + Wait + Sync),
+    alloc: Global, kind: &str, rest: &str) -> Result<(), Fail> {
     let Some((before, after)) = rest.split_once('@') else {
         return Err(Fail::new(format_args!("{rest}: no offset")));
     };
-    let source = format!(in rt.alloc(); "{LIMITS}{before}{after}")?;
+    let source = format!(in alloc; "{LIMITS}{before}{after}")?;
     let offset = LIMITS.len() + before.len();
-    let line = format!(in rt.alloc(); "refused {kind} at {offset}\n")?;
-    expect_line(rt, source.as_str(), line.as_str())
+    let line = format!(in alloc; "refused {kind} at {offset}\n")?;
+    expect_line(rt, alloc, source.as_str(), line.as_str())
 }
 
 // Limits, and the number of the one that is out of range; the fault precedes that of the unknown
@@ -64,13 +68,14 @@ const RANGES: [([i64; 4], u32); 6] = [
     ([1, 1, 1, 1_048_577], 5),
 ];
 
-fn limits_refused(rt: &HostRuntime) -> Result<(), Fail> {
+fn limits_refused(rt: &(impl Threads + Wait + Sync),
+    alloc: Global) -> Result<(), Fail> {
     for ([iterations, stages, steps, emits], which) in RANGES {
-        let source = format!(in rt.alloc();
+        let source = format!(in alloc;
             "limits iterations {iterations}, stages {stages}, steps {steps}, emits {emits}; pipe_while (x) {{ }}"
         )?;
-        let line = format!(in rt.alloc(); "refused check LimitOut {which}\n")?;
-        expect_line(rt, source.as_str(), line.as_str())?;
+        let line = format!(in alloc; "refused check LimitOut {which}\n")?;
+        expect_line(rt, alloc, source.as_str(), line.as_str())?;
     }
     Ok(())
 }
@@ -85,35 +90,36 @@ fn repeated(alloc: Global, text: &str, n: usize) -> Result<String, Fail> {
 
 // At most 64 brackets are open at once, an expression has at most 256 symbols, a part 64 locals,
 // and a source 1,048,576 bytes.
-fn bounds(rt: &HostRuntime) -> Result<(), Fail> {
-    let brackets = repeated(rt.alloc(), "(", 64)?;
-    let deep = format!(in rt.alloc(); "pipe_while {brackets}@(")?;
-    expect_refusal(rt, "source TooDeep", deep.as_str())?;
-    let sum = repeated(rt.alloc(), "1+", 128)?;
-    let long = format!(in rt.alloc(); "pipe_while ({sum}@1) {{ }}")?;
-    expect_refusal(rt, "source TooLong", long.as_str())?;
-    let mut locals = String::new(rt.alloc());
+fn bounds(rt: &(impl Threads + Wait + Sync),
+    alloc: Global) -> Result<(), Fail> {
+    let brackets = repeated(alloc, "(", 64)?;
+    let deep = format!(in alloc; "pipe_while {brackets}@(")?;
+    expect_refusal(rt, alloc, "source TooDeep", deep.as_str())?;
+    let sum = repeated(alloc, "1+", 128)?;
+    let long = format!(in alloc; "pipe_while ({sum}@1) {{ }}")?;
+    expect_refusal(rt, alloc, "source TooLong", long.as_str())?;
+    let mut locals = String::new(alloc);
     for k in 0..64 {
         write!(locals, "let a{k} = 1; ")?;
     }
-    let many = format!(in rt.alloc(); "pipe_while (0) {{ {locals}let @b = 1; }}")?;
-    expect_refusal(rt, "check TooManyLocals", many.as_str())?;
-    let blank = repeated(rt.alloc(), " ", 1_048_576)?;
+    let many = format!(in alloc; "pipe_while (0) {{ {locals}let @b = 1; }}")?;
+    expect_refusal(rt, alloc, "check TooManyLocals", many.as_str())?;
+    let blank = repeated(alloc, " ", 1_048_576)?;
     expect_line(
-        rt,
+        rt, alloc,
         blank.as_str(),
         "refused source Unexpected at 1048576\n",
     )?;
-    let longer = format!(in rt.alloc(); "{blank} ")?;
-    expect_line(rt, longer.as_str(), "refused source SourceTooLong\n")
+    let longer = format!(in alloc; "{blank} ")?;
+    expect_line(rt, alloc, longer.as_str(), "refused source SourceTooLong\n")
 }
 
 #[test]
 fn sources_are_refused(rt: HostRuntime) -> Result<(), Fail> {
     for (kind, rest) in REFUSED {
-        expect_refusal(&rt, kind, rest)?;
+        expect_refusal(&rt, rt.alloc(), kind, rest)?;
     }
-    expect_line(&rt, "", "refused source Unexpected at 0\n")?;
-    limits_refused(&rt)?;
-    bounds(&rt)
+    expect_line(&rt, rt.alloc(), "", "refused source Unexpected at 0\n")?;
+    limits_refused(&rt, rt.alloc())?;
+    bounds(&rt, rt.alloc())
 }

@@ -10,6 +10,8 @@ use pipe_model::node::Kind;
 use pipe_model::trap::Trap;
 use std::alloc::Global;
 use std::test::Fail;
+use std::sync::Wait;
+use std::thread::Threads;
 
 const COUNT_TO_TWO: &str =
     "limits iterations 2, stages 1, steps 50, emits 2; cell n = 0; pipe_while (n < 2) { n = n + 1; emit n; }";
@@ -242,22 +244,24 @@ const PROGRAMS: [Row; 39] = [
 ];
 
 // The rows, and a program with the most locals.
-fn runs(rt: &HostRuntime) -> Result<(), Fail> {
+fn runs(rt: &(impl Threads + Wait + Sync),
+    alloc: Global) -> Result<(), Fail> {
     for (limits, rest, status, text) in PROGRAMS {
-        let source = source(rt.alloc(), limits, rest)?;
+        let source = source(alloc, limits, rest)?;
         let case = Case::of(source.as_bytes());
-        case.check(rt, rest, status, text)?;
+        case.check(rt, alloc, rest, status, text)?;
         // The schedule decides which of two races of a cell is reported.
         if status != 2 {
-            case.with_four_workers().check(rt, rest, status, text)?;
+            case.with_four_workers().check(rt, alloc, rest, status, text)?;
         }
     }
-    let most = source(rt.alloc(), [1, 1, 2, 0], &many_locals(rt.alloc(), 64)?)?;
-    Case::of(most.as_bytes()).check(rt, "64 locals", 0, "")
+    let most = source(alloc, [1, 1, 2, 0], &many_locals(alloc, 64)?)?;
+    Case::of(most.as_bytes()).check(rt, alloc, "64 locals", 0, "")
 }
 
 // Small programs of each form, and one with a comment. Only one takes more than two steps.
-fn forms(rt: &HostRuntime) -> Result<(), Fail> {
+fn forms(rt: &(impl Threads + Wait + Sync),
+    alloc: Global) -> Result<(), Fail> {
     let rows = [
         "pipe_while ((0)) { }",
         "cell n[2] = 0; pipe_while (0) { }",
@@ -274,23 +278,24 @@ fn forms(rt: &HostRuntime) -> Result<(), Fail> {
         "pipe_while (0) { } // a comment",
     ];
     for rest in rows {
-        let source = source(rt.alloc(), [1, 1, 2, 0], rest)?;
-        Case::of(source.as_bytes()).check(rt, rest, 0, "")?;
+        let source = source(alloc, [1, 1, 2, 0], rest)?;
+        Case::of(source.as_bytes()).check(rt, alloc, rest, 0, "")?;
     }
-    let costly = source(rt.alloc(), [1, 1, 2, 0], "cell n = 1; pipe_while (n - 1) { }")?;
-    Case::of(costly.as_bytes()).check(rt, "n - 1", 3, "trap Budget at 0/0\n")
+    let costly = source(alloc, [1, 1, 2, 0], "cell n = 1; pipe_while (n - 1) { }")?;
+    Case::of(costly.as_bytes()).check(rt, alloc, "n - 1", 3, "trap Budget at 0/0\n")
 }
 
 // Fails the test unless `run` and `serial` of the program have this status and text and the same
 // number of reports, `run` has a run log, and `serial` has none.
-fn expect_both(rt: &HostRuntime, rest: &str, status: u8, text: &str) -> Result<(), Fail> {
-    let source = source(rt.alloc(), [8, 4, 100, 8], rest)?;
+fn expect_both(rt: &(impl Threads + Wait + Sync),
+    alloc: Global, rest: &str, status: u8, text: &str) -> Result<(), Fail> {
+    let source = source(alloc, [8, 4, 100, 8], rest)?;
     let run = Case::of(source.as_bytes());
     let serial = Case::serial(source.as_bytes());
-    run.check(rt, rest, status, text)?;
-    serial.check(rt, rest, status, text)?;
-    let (ran, _) = run.run(rt)?;
-    let (elided, _) = serial.run(rt)?;
+    run.check(rt, alloc, rest, status, text)?;
+    serial.check(rt, alloc, rest, status, text)?;
+    let (ran, _) = run.run(rt, alloc)?;
+    let (elided, _) = serial.run(rt, alloc)?;
     if ran.run_log.is_none() || elided.run_log.is_some() {
         return Err(Fail::new(format_args!("{rest}: run logs")));
     }
@@ -301,11 +306,12 @@ fn expect_both(rt: &HostRuntime, rest: &str, status: u8, text: &str) -> Result<(
 }
 
 // `run` and `serial` of programs that finish, race and trap.
-fn serial_agrees(rt: &HostRuntime) -> Result<(), Fail> {
-    expect_both(rt, PREFIX_SUMS, 0, "1\n3\n6\n")?;
-    expect_both(rt, RACING_SUMS, 2, RACING_LINES)?;
+fn serial_agrees(rt: &(impl Threads + Wait + Sync),
+    alloc: Global) -> Result<(), Fail> {
+    expect_both(rt, alloc, PREFIX_SUMS, 0, "1\n3\n6\n")?;
+    expect_both(rt, alloc, RACING_SUMS, 2, RACING_LINES)?;
     expect_both(
-        rt,
+        rt, alloc,
         "init { emit 1; } pipe_while (0) { } final { emit 1 / 0; }",
         3,
         "1\ntrap DivZero in final\n",
@@ -322,20 +328,22 @@ const ARRAY_TEXT: &str =
     "limits iterations 1, stages 1, steps 1, emits 1;\ncell d[2] = -7;\ninit {\n  d[0] = 1;\n}\npipe_while (d[1]) {\n  if (1) {\n  } else {\n    emit -(2 * (d[0] + 1));\n  }\n}\n";
 
 // Programs are printed, and a canonical text is printed unchanged.
-fn formats(rt: &HostRuntime) -> Result<(), Fail> {
-    let sums = source(rt.alloc(), [8, 4, 100, 8], PREFIX_SUMS)?;
+fn formats(rt: &(impl Threads + Wait + Sync),
+    alloc: Global) -> Result<(), Fail> {
+    let sums = source(alloc, [8, 4, 100, 8], PREFIX_SUMS)?;
     for (source, text) in [
         (sums.as_str(), SUMS_TEXT),
         (ARRAY, ARRAY_TEXT),
         (ARRAY_TEXT, ARRAY_TEXT),
     ] {
-        Case::format(source.as_bytes()).check(rt, source, 0, text)?;
+        Case::format(source.as_bytes()).check(rt, alloc, source, 0, text)?;
     }
     Ok(())
 }
 
 // Wrong words, missing files, and inputs with a fault, in the order of the refusals.
-fn calls_refused(rt: &HostRuntime) -> Result<(), Fail> {
+fn calls_refused(rt: &(impl Threads + Wait + Sync),
+    alloc: Global) -> Result<(), Fail> {
     let good = Case::of(COUNT_TO_TWO.as_bytes());
     let rows: [(&[&str], &str); 23] = [
         (&[], "refused usage\n"),
@@ -375,13 +383,14 @@ fn calls_refused(rt: &HostRuntime) -> Result<(), Fail> {
         ),
     ];
     for (words, text) in rows {
-        Case { words, ..good }.check(rt, text, 1, text)?;
+        Case { words, ..good }.check(rt, alloc, text, 1, text)?;
     }
     Ok(())
 }
 
 // Inputs with a fault, for `run` and for `serial`.
-fn inputs_refused(rt: &HostRuntime) -> Result<(), Fail> {
+fn inputs_refused(rt: &(impl Threads + Wait + Sync),
+    alloc: Global) -> Result<(), Fail> {
     let rows: [(&[u8], &str); 4] = [
         (b"1 2 x", "refused input BadByte at 4\n"),
         (b"-", "refused input BadByte at 1\n"),
@@ -393,17 +402,18 @@ fn inputs_refused(rt: &HostRuntime) -> Result<(), Fail> {
             Case::of(COUNT_TO_TWO.as_bytes()),
             Case::serial(COUNT_TO_TWO.as_bytes()),
         ] {
-            Case { input, ..case }.check(rt, text, 1, text)?;
+            Case { input, ..case }.check(rt, alloc, text, 1, text)?;
         }
     }
     Ok(())
 }
 
 // Programs that read their input, for `run` and for `serial`.
-fn inputs_read(rt: &HostRuntime) -> Result<(), Fail> {
-    let two = source(rt.alloc(), [4, 1, 50, 4], TAKE_TWO)?;
-    let all = source(rt.alloc(), [9, 2, 50, 9], TAKE_ALL)?;
-    let racing = source(rt.alloc(), [9, 2, 50, 9], RACING_TAKES)?;
+fn inputs_read(rt: &(impl Threads + Wait + Sync),
+    alloc: Global) -> Result<(), Fail> {
+    let two = source(alloc, [4, 1, 50, 4], TAKE_TWO)?;
+    let all = source(alloc, [9, 2, 50, 9], TAKE_ALL)?;
+    let racing = source(alloc, [9, 2, 50, 9], RACING_TAKES)?;
     let rows: [(&str, &[u8], u8, &str); 5] = [
         (two.as_str(), b"5", 3, "5\ntrap InputEnd at 1/0\n"),
         (two.as_str(), b" \t\r\n", 3, "trap InputEnd at 0/0\n"),
@@ -418,14 +428,15 @@ fn inputs_read(rt: &HostRuntime) -> Result<(), Fail> {
     ];
     for (source, input, status, text) in rows {
         for case in [Case::of(source.as_bytes()), Case::serial(source.as_bytes())] {
-            Case { input, ..case }.check(rt, text, status, text)?;
+            Case { input, ..case }.check(rt, alloc, text, status, text)?;
         }
     }
     Ok(())
 }
 
 // The options of `run`, which do not change the result.
-fn options(rt: &HostRuntime) -> Result<(), Fail> {
+fn options(rt: &(impl Threads + Wait + Sync),
+    alloc: Global) -> Result<(), Fail> {
     let words: [&[&str]; 3] = [
         &["run", "a.pipe", "a.in", "--workers", "64"],
         &["run", "--throttle=1", "a.pipe", "a.in"],
@@ -433,13 +444,14 @@ fn options(rt: &HostRuntime) -> Result<(), Fail> {
     ];
     for words in words {
         let case = Case::of(COUNT_TO_TWO.as_bytes());
-        Case { words, ..case }.check(rt, "options", 0, "1\n2\n")?;
+        Case { words, ..case }.check(rt, alloc, "options", 0, "1\n2\n")?;
     }
     Ok(())
 }
 
 // Each read in turn fails, and then each write.
-fn faults(rt: &HostRuntime) -> Result<(), Fail> {
+fn faults(rt: &(impl Threads + Wait + Sync),
+    alloc: Global) -> Result<(), Fail> {
     let good = Case::of(COUNT_TO_TWO.as_bytes());
     // The last read of a file finds its end.
     let source_reads = COUNT_TO_TWO.len().div_ceil(7) as u32 + 1;
@@ -452,13 +464,13 @@ fn faults(rt: &HostRuntime) -> Result<(), Fail> {
             (0, "1\n2\n")
         };
         let read_fails = Some(k);
-        Case { read_fails, ..good }.check(rt, "a read of run fails", status, text)?;
+        Case { read_fails, ..good }.check(rt, alloc, "a read of run fails", status, text)?;
         let serial = Case::serial(COUNT_TO_TWO.as_bytes());
         Case {
             read_fails,
             ..serial
         }
-        .check(rt, "a read of serial fails", status, text)?;
+        .check(rt, alloc, "a read of serial fails", status, text)?;
     }
     let rows = [(0, 5, ""), (1, 5, "1\n"), (2, 0, "1\n2\n")];
     for (k, status, taken) in rows {
@@ -466,43 +478,45 @@ fn faults(rt: &HostRuntime) -> Result<(), Fail> {
             write_fails: Some(k),
             ..good
         }
-        .check(rt, "a write fails", status, taken)?;
+        .check(rt, alloc, "a write fails", status, taken)?;
     }
     Ok(())
 }
 
 // Reads of other commands and of a missing file, and a read and a write that both fail.
-fn more_faults(rt: &HostRuntime) -> Result<(), Fail> {
+fn more_faults(rt: &(impl Threads + Wait + Sync),
+    alloc: Global) -> Result<(), Fail> {
     let good = Case::of(COUNT_TO_TWO.as_bytes());
     Case {
         read_fails: Some(1),
         ..Case::format(COUNT_TO_TWO.as_bytes())
     }
-    .check(rt, "a read fails", 4, "fault read a.pipe\n")?;
+    .check(rt, alloc, "a read fails", 4, "fault read a.pipe\n")?;
     let missing = Case {
         words: &["run", "b.pipe", "a.in"],
         read_fails: Some(0),
         ..good
     };
-    missing.check(rt, "a missing file", 4, "fault read b.pipe\n")?;
+    missing.check(rt, alloc, "a missing file", 4, "fault read b.pipe\n")?;
     let both = Case {
         read_fails: Some(0),
         write_fails: Some(1),
         ..good
     };
-    both.check(rt, "a read and a write fail", 5, "fa")?;
+    both.check(rt, alloc, "a read and a write fail", 5, "fa")?;
     Ok(())
 }
 
 // Fails the test unless these are the events of the program's run, and its log has two columns.
 fn expect_events(
-    rt: &HostRuntime,
+    rt: &(impl Threads + Wait + Sync),
+    alloc: Global,
     limits: [u32; 4],
     rest: &str,
     expected: &[Event],
 ) -> Result<(), Fail> {
-    let source = source(rt.alloc(), limits, rest)?;
-    let (ended, _) = Case::of(source.as_bytes()).run(rt)?;
+    let source = source(alloc, limits, rest)?;
+    let (ended, _) = Case::of(source.as_bytes()).run(rt, alloc)?;
     let Some(log) = &ended.run_log else {
         return Err(Fail::new(format_args!("{rest}: no run log")));
     };
@@ -513,9 +527,10 @@ fn expect_events(
 }
 
 // The events of a pipeline that finishes, in their order.
-fn events_of_a_run(rt: &HostRuntime) -> Result<(), Fail> {
+fn events_of_a_run(rt: &(impl Threads + Wait + Sync),
+    alloc: Global) -> Result<(), Fail> {
     expect_events(
-        rt,
+        rt, alloc,
         [1, 2, 50, 1],
         "cell n = 0; pipe_while (n < 1) { n = 1; pipe_wait(1); emit n; }",
         &[
@@ -536,9 +551,10 @@ fn events_of_a_run(rt: &HostRuntime) -> Result<(), Fail> {
 }
 
 // The events of a pipeline that traps in its second stage.
-fn events_of_a_trap(rt: &HostRuntime) -> Result<(), Fail> {
+fn events_of_a_trap(rt: &(impl Threads + Wait + Sync),
+    alloc: Global) -> Result<(), Fail> {
     expect_events(
-        rt,
+        rt, alloc,
         [1, 3, 50, 1],
         "cell n = 0; pipe_while (n < 1) { n = 1; pipe_wait(1); pipe_wait(1); }",
         &[
@@ -557,9 +573,10 @@ fn events_of_a_trap(rt: &HostRuntime) -> Result<(), Fail> {
 
 // The events of an assignment to an element: the index is read before the value. Neither `init` nor
 // `final` has events.
-fn events_of_an_element(rt: &HostRuntime) -> Result<(), Fail> {
+fn events_of_an_element(rt: &(impl Threads + Wait + Sync),
+    alloc: Global) -> Result<(), Fail> {
     expect_events(
-        rt,
+        rt, alloc,
         [1, 1, 50, 1],
         "cell a[2] = 0; cell n = 0; init { a[0] = 7; } pipe_while (n < 1) { n = 1; a[n] = a[0]; } final { emit a[1]; }",
         &[
@@ -587,14 +604,15 @@ fn access(cell: u32, kind: AccessKind, value: i64) -> Access {
 
 // Fails the test unless the call has the usual result, or runs out of memory after a prefix of its
 // text. Out of memory before the call is not a failure.
-fn prefix_or_all(rt: &HostRuntime, rest: &str, status: u8, text: &str) -> Result<(), Fail> {
-    let Ok(source) = source(rt.alloc(), [8, 4, 100, 8], rest) else {
+fn prefix_or_all(rt: &(impl Threads + Wait + Sync),
+    alloc: Global, rest: &str, status: u8, text: &str) -> Result<(), Fail> {
+    let Ok(source) = source(alloc, [8, 4, 100, 8], rest) else {
         return Ok(());
     };
-    let Ok(mut call) = Case::of(source.as_bytes()).set_up(rt.alloc()) else {
+    let Ok(mut call) = Case::of(source.as_bytes()).set_up(alloc) else {
         return Ok(());
     };
-    let as_usual = match call.make(rt) {
+    let as_usual = match call.make(rt, alloc) {
         Ok(ended) => ended.status == status && call.sink.taken().as_slice() == text.as_bytes(),
         Err(NoMemory) => text.as_bytes().starts_with(call.sink.taken().as_slice()),
     };
@@ -607,23 +625,23 @@ fn prefix_or_all(rt: &HostRuntime, rest: &str, status: u8, text: &str) -> Result
 // Two calls for `checks/refused_memory`, which makes one allocation after the other fail.
 #[test]
 fn an_allocation_may_fail(rt: HostRuntime) -> Result<(), Fail> {
-    prefix_or_all(&rt, PREFIX_SUMS, 0, "1\n3\n6\n")?;
-    prefix_or_all(&rt, RACING_SUMS, 2, RACING_LINES)
+    prefix_or_all(&rt, rt.alloc(), PREFIX_SUMS, 0, "1\n3\n6\n")?;
+    prefix_or_all(&rt, rt.alloc(), RACING_SUMS, 2, RACING_LINES)
 }
 
 #[test]
 fn rows_of_the_call(rt: HostRuntime) -> Result<(), Fail> {
-    runs(&rt)?;
-    events_of_a_run(&rt)?;
-    events_of_a_trap(&rt)?;
-    events_of_an_element(&rt)?;
-    serial_agrees(&rt)?;
-    forms(&rt)?;
-    formats(&rt)?;
-    calls_refused(&rt)?;
-    inputs_refused(&rt)?;
-    inputs_read(&rt)?;
-    options(&rt)?;
-    faults(&rt)?;
-    more_faults(&rt)
+    runs(&rt, rt.alloc())?;
+    events_of_a_run(&rt, rt.alloc())?;
+    events_of_a_trap(&rt, rt.alloc())?;
+    events_of_an_element(&rt, rt.alloc())?;
+    serial_agrees(&rt, rt.alloc())?;
+    forms(&rt, rt.alloc())?;
+    formats(&rt, rt.alloc())?;
+    calls_refused(&rt, rt.alloc())?;
+    inputs_refused(&rt, rt.alloc())?;
+    inputs_read(&rt, rt.alloc())?;
+    options(&rt, rt.alloc())?;
+    faults(&rt, rt.alloc())?;
+    more_faults(&rt, rt.alloc())
 }

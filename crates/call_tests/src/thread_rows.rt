@@ -1,10 +1,14 @@
 // Runs by several workers, and instances that overlap.
 
 use crate::cases::{Case, source};
-use pipe_model::event::{ColumnEnd, Event, RunLog};
+use pipe_model::column::ColumnEnd;
+use pipe_model::event::{Event, RunLog};
 use pipe_model::node::NodeId;
-use pipe_worker::gate::HoldGate;
+use pipe_worker::hold::HoldGate;
 use std::test::Fail;
+use std::alloc::Global;
+use std::sync::Wait;
+use std::thread::Threads;
 
 // Prefix sums: the last stage runs in the order of the iterations.
 const PREFIX_SUMS: &str =
@@ -26,7 +30,7 @@ fn last_stage(iteration: u32) -> NodeId {
 
 // The place of an event in a log, or how many events there are.
 fn place_of(log: &RunLog, event: Event) -> usize {
-    for (place, other) in log.events.iter().enumerate() {
+    for (place, other) in log.events.as_slice().iter().enumerate() {
         if *other == event {
             return place;
         }
@@ -35,8 +39,9 @@ fn place_of(log: &RunLog, event: Event) -> usize {
 }
 
 // Four workers, one iteration alive or eight.
-fn prefix_sums(rt: &HostRuntime) -> Result<(), Fail> {
-    let source = source(rt.alloc(), [8, 4, 100, 8], PREFIX_SUMS)?;
+fn prefix_sums(rt: &(impl Threads + Wait + Sync),
+    alloc: Global) -> Result<(), Fail> {
+    let source = source(alloc, [8, 4, 100, 8], PREFIX_SUMS)?;
     for throttle in ["1", "8"] {
         let words = [
             "run", "a.pipe", "a.in", "--workers", "4", "--throttle", throttle,
@@ -45,21 +50,22 @@ fn prefix_sums(rt: &HostRuntime) -> Result<(), Fail> {
             words: &words,
             ..Case::of(source.as_bytes())
         };
-        case.check(rt, "prefix sums", 0, "1\n3\n6\n")?;
+        case.check(rt, alloc, "prefix sums", 0, "1\n3\n6\n")?;
     }
     Ok(())
 }
 
 // Runs the two iterations with a gate that holds one last stage until the other is at it. Fails the
 // test unless the two met. Returns the log.
-fn held_run(rt: &HostRuntime, held: NodeId, until: NodeId) -> Result<RunLog, Fail> {
-    let source = source(rt.alloc(), [2, 2, 50, 2], TWO_ITERATIONS)?;
+fn held_run(rt: &(impl Threads + Wait + Sync),
+    alloc: Global, held: NodeId, until: NodeId) -> Result<RunLog, Fail> {
+    let source = source(alloc, [2, 2, 50, 2], TWO_ITERATIONS)?;
     let case = Case {
         words: &["run", "a.pipe", "a.in", "--workers", "2", "--throttle", "2"],
         ..Case::of(source.as_bytes())
     };
     let gate = HoldGate::new(held, until, TURNS);
-    let ended = case.set_up(rt.alloc())?.make_at(rt, &gate)?;
+    let ended = case.set_up(alloc)?.make_at(rt, alloc, &gate)?;
     let Some(log) = ended.run_log else {
         return Err(Fail::new(format_args!("no run log")));
     };
@@ -71,13 +77,13 @@ fn held_run(rt: &HostRuntime, held: NodeId, until: NodeId) -> Result<RunLog, Fai
 
 #[test]
 fn workers_overlap(rt: HostRuntime) -> Result<(), Fail> {
-    prefix_sums(&rt)?;
+    prefix_sums(&rt, rt.alloc())?;
     // Iteration 1 is in its last stage before iteration 0 ends. One thread could not pass both gates.
-    let log = held_run(&rt, last_stage(0), last_stage(1))?;
+    let log = held_run(&rt, rt.alloc(), last_stage(0), last_stage(1))?;
     let enters = place_of(&log, Event::Enter(1));
     let finishes = place_of(&log, Event::Finish(0, ColumnEnd::End));
     assert!(rt; enters < finishes);
-    let other = held_run(&rt, last_stage(1), last_stage(0))?;
+    let other = held_run(&rt, rt.alloc(), last_stage(1), last_stage(0))?;
     assert!(rt; place_of(&other, Event::Enter(0)) < other.events.len());
     Ok(())
 }
