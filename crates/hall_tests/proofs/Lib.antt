@@ -1,2 +1,1 @@
-pub mod InstanceEnds
 pub mod NamedStages

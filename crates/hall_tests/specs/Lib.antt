@@ -1,4 +1,3 @@
 pub mod GivenTokens
-pub mod HeldInstances
 pub mod PreparedPrograms
 pub mod Workers

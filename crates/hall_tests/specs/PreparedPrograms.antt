@@ -1,6 +1,5 @@
 -- Programs that halls are opened for.
-use Rattle.std.specs.Prelude.{◌≡◌, ◌≤◌, ℤ, List}
-use Rattle.pipe_engine.specs.CarriedMachines.{cells_of}
+use Rattle.std.specs.Prelude.{◌≡◌, ℤ, List}
 use Rattle.pipe_frame.specs.Ties.{HallName}
 use Rattle.pipe_model.specs.Language.CheckingRules.{BreaksNoRule}
 use Rattle.pipe_model.specs.Language.SyntaxTree.{SyntaxTree}
@@ -16,9 +15,3 @@ pub record IsPrepared (tree : SyntaxTree) (code : FlatCode) : Type 0 where
 pub record IsHallOf (h : HallName) (tree : SyntaxTree) (input : List ℤ) : Type 0 where
   pub tree_is : h.tree ≡ tree
   pub input_is : h.input ≡ input
-
--- machines for code `own` run the hall's program with this code and input
-pub record CanDrive (own : FlatCode) (h : HallName) (code : FlatCode) (input : List ℤ) : Type 0 where
-  pub code_is : code ≡ own
-  pub input_is : input ≡ h.input
-  pub few : cells_of h.tree ≤ 4294967296

@@ -1,13 +1,12 @@
 //! Accesses of the first instance of a program.
 
 ghost use Rattle.std.specs.Prelude.{◌≡◌};
-ghost use Rattle.hall_tests.specs.GivenTokens.{IsGivenIn, token_tie};
-ghost use Rattle.hall_tests.specs.HeldInstances.{IsOutWith};
+ghost use Rattle.hall_tests.specs.GivenTokens.{IsGivenIn, IsOutWith, token_tie};
 ghost use Rattle.hall_tests.specs.PreparedPrograms.{IsPrepared};
-ghost use Rattle.pipe_engine.specs.CarriedMachines.{cells_of};
 ghost use Rattle.pipe_frame.specs.TokenFields.{fields_of};
 ghost use Rattle.pipe_hall.specs.WorkerSeats.{hall_name};
 ghost use Rattle.pipe_model.specs.Language.SyntaxTree.{tree_of};
+ghost use Rattle.pipe_worker.specs.Machines.{cells_of};
 
 use crate::closing::{Logs, close_logs};
 use crate::opening::open;

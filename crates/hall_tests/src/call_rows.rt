@@ -1,7 +1,8 @@
 //! Calls of two workers of one hall. Each row of a script has the worker, its call and the result.
 
 ghost use Rattle.std.specs.Prelude.{◌≡◌, ◌<◌, IfOk};
-ghost use Rattle.hall_tests.specs.PreparedPrograms.{CanDrive, IsPrepared};
+ghost use Rattle.hall_tests.specs.PreparedPrograms.{IsPrepared};
+ghost use Rattle.pipe_worker.specs.Machines.{CanDrive};
 ghost use Rattle.hall_tests.specs.Workers.{IsWorkerOf};
 ghost use Rattle.pipe_hall.specs.WorkerSeats.{hall_name};
 ghost use Rattle.pipe_model.specs.Language.SyntaxTree.{tree_of};

@@ -13,9 +13,7 @@ mod checker_rows;
 #[cfg(test)]
 mod closing;
 #[cfg(test)]
-mod instance;
-#[cfg(test)]
-mod memory;
+mod hold_rows;
 #[cfg(test)]
 mod opening;
 #[cfg(test)]

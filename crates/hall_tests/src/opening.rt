@@ -1,8 +1,8 @@
 //! Halls of programs.
 
 ghost use Rattle.std.specs.Prelude.{◌≡◌, ◌<◌, [], All, IfOk, None, length};
-ghost use Rattle.hall_tests.specs.PreparedPrograms.{CanDrive, IsHallOf, IsPrepared};
-ghost use Rattle.pipe_engine.specs.CarriedMachines.{HasMachine};
+ghost use Rattle.hall_tests.specs.PreparedPrograms.{IsHallOf, IsPrepared};
+ghost use Rattle.pipe_worker.specs.Machines.{CanDrive, HasMachine};
 ghost use Rattle.pipe_hall.specs.ShardParts.{HaveIdentities};
 ghost use Rattle.pipe_hall.specs.WorkerSeats.{hall_name};
 ghost use Rattle.pipe_model.specs.Language.SyntaxTree.{tree_of};

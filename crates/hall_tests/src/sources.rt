@@ -2,7 +2,7 @@
 
 ghost use Rattle.std.specs.Prelude.{◌≡◌, ◌≤◌, ◌+◌, IfOk};
 ghost use Rattle.hall_tests.specs.PreparedPrograms.{IsPrepared};
-ghost use Rattle.pipe_engine.specs.CarriedMachines.{cells_of};
+ghost use Rattle.pipe_worker.specs.Machines.{cells_of};
 ghost use Rattle.pipe_model.specs.Language.CheckingRules.{BreaksNoRule, cell_total};
 ghost use Rattle.pipe_model.specs.Language.SyntaxTree.{tree_of};
 

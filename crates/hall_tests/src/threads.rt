@@ -1,7 +1,7 @@
 //! Workers on threads of their own.
 
 ghost use Rattle.std.specs.Prelude.{◌≡◌};
-ghost use Rattle.hall_tests.specs.PreparedPrograms.{CanDrive};
+ghost use Rattle.pipe_worker.specs.Machines.{CanDrive};
 ghost use Rattle.pipe_hall.specs.WorkerSeats.{hall_name};
 
 use crate::worker::work;

@@ -2,11 +2,10 @@
 
 ghost use Rattle.std.specs.Prelude.{◌≡◌};
 ghost use Rattle.hall_tests.specs.GivenTokens.{IsGivenIn};
-ghost use Rattle.hall_tests.specs.PreparedPrograms.{CanDrive};
+ghost use Rattle.pipe_worker.specs.Machines.{CanDrive};
 ghost use Rattle.hall_tests.specs.Workers.{IsWorkerOf};
 ghost use Rattle.pipe_hall.specs.WorkerSeats.{hall_name};
 
-use crate::instance::run_and_advance;
 use book_tests::play::Seen;
 use pipe_engine::carried::{Carried, RunCode};
 use pipe_frame::hall::Hall;
@@ -14,6 +13,7 @@ use pipe_frame::results::{Begun, Next, Rescue};
 use pipe_frame::token::FrameToken;
 use pipe_hall::seat::HallSeat;
 use pipe_model::list::Numbers;
+use pipe_worker::advance::run_and_advance;
 use stage_code::code::Code;
 use std::alloc::Global;
 use std::sync::Wait;
@@ -103,11 +103,11 @@ impl<'a, B: RunCode> Worker<'a, B> {
         requires given { IsWorkerOf B.code (hall_name self.seat.hall) self.seat self.token }
         ensures { IsWorkerOf B.code (hall_name self.entry.seat.hall) result.0.seat result.0.token }
     {
-        let Worker { seat, token } = self;
+        let Worker { mut seat, token } = self;
         let Some(token) = token else {
             return (Worker { seat, token: None }, Seen::Refused);
         };
-        let (seat, next) = run_and_advance(alloc, rt, code, input, seat, token);
+        let (next, _end) = run_and_advance(alloc, rt, code, input, &mut seat, token);
         match next {
             Next::Go(token) => {
                 let seen = Seen::Token(token.iteration, token.index);

@@ -1,6 +1,6 @@
 //! What the tokens of a run carry.
 
-ghost use Rattle.std.specs.Prelude.{◌≡◌, IfOk, Some, None, is_some, true};
+ghost use Rattle.std.specs.Prelude.{◌≡◌, IfOk, None};
 
 use frame_book::payload::Payload;
 use om_shared::writer::OmWriter;
@@ -10,6 +10,7 @@ use pipe_frame::stands::Stands;
 use pipe_hall::carrier::Carrier;
 use pipe_hall::run_seat::RunSeat;
 use pipe_model::memory::NoMemory;
+use pipe_worker::runs::Runs;
 use stage_code::code::Code;
 use stage_code::instr::Part;
 use stage_interp::machine::Machine;
@@ -51,7 +52,7 @@ pub struct Carried<B: RunCode> {
 }
 
 impl<B: RunCode> Carried<B> {
-    ghost use Rattle.pipe_engine.specs.CarriedMachines.{HasMachine};
+    ghost use Rattle.pipe_worker.specs.Machines.{HasMachine};
     ghost use Rattle.stage_interp.specs.MachineState.{IsMadeFor};
 
     /// Returns a payload with a machine for this code. Returns an error only if memory runs out.
@@ -68,29 +69,10 @@ impl<B: RunCode> Carried<B> {
             of: PhantomData,
         })
     }
-
-    /// Takes the machine out, which must be there.
-    pub fn take_machine(&mut self) -> Machine
-        requires there { is_some self.old.machine ≡ true }
-        ensures machine { self.old.machine ≡ Some result }
-        ensures payload { self.new ≡ record self.old { machine = None } }
-    {
-        match self.machine.take() {
-            Some(machine) => machine,
-            None => unreachable!(),
-        }
-    }
-
-    /// Puts a machine in. One that was there is dropped.
-    pub fn put_machine(&mut self, machine: Machine)
-        ensures { self.new ≡ record self.old { machine = Some machine } }
-    {
-        self.machine = Some(machine);
-    }
 }
 
 impl<B: RunCode> Stands for Carried<B> {
-    ghost use Rattle.pipe_engine.specs.CarriedMachines.{CanRun, HasMachine, IsAtInstance, stands_whole};
+    ghost use Rattle.pipe_worker.specs.Machines.{CanRun, HasMachine, IsAtInstance, stands_whole};
     ghost use Rattle.pipe_hall.specs.Lending.{tie_of};
 
     ghost whole = { λ tree x. HasMachine x.machine (CanRun B.code tree) };
@@ -100,6 +82,29 @@ impl<B: RunCode> Stands for Carried<B> {
     ghost tie = { λ x. tie_of x.passes x.seat };
 
     ghost stands_whole = { λ tree input x i replies h. stands_whole B.code tree input x.machine i replies h };
+}
+
+impl<B: RunCode> Runs for Carried<B> {
+    ghost code = { B.code };
+
+    ghost held = { λ x. x.machine };
+
+    fn take_machine(&mut self) -> Machine {
+        match self.machine.take() {
+            Some(machine) => machine,
+            None => unreachable!(),
+        }
+    }
+
+    fn put_machine(&mut self, machine: Machine) {
+        self.machine = Some(machine);
+    }
+
+    ghost stands_by = { λ tree input x i replies h. h };
+
+    ghost by_stands = { λ tree input x i replies h. h };
+
+    ghost by_machine = { λ tree x h. h };
 }
 
 impl<B: RunCode> Payload<OmWriter> for Carried<B> {

@@ -1,6 +1,5 @@
 use Rattle.std.proofs.Common.{◌≡◌}
-use Rattle.hall_tests.specs.GivenTokens.{token_tie}
-use Rattle.hall_tests.specs.HeldInstances.{IsOutWith}
+use Rattle.hall_tests.specs.GivenTokens.{IsOutWith, token_tie}
 use Rattle.pipe_frame.specs.TokenFields.{fields_of}
 use Rattle.pipe_hall.specs.WorkerSeats.{hall_name}
 use Rattle.hall_tests.proofs.access_rows.replies.Given as goal

@@ -1,7 +1,7 @@
 use Rattle.std.proofs.Common.{◌≡◌, ◌∙◌, ◌+◌, All, arith, length, subst, sym}
 use Rattle.std.proofs.lemmas.List.{length_push}
 use Rattle.std.proofs.lemmas.List.Elements.{All-push}
-use Rattle.pipe_engine.specs.CarriedMachines.{HasMachine}
+use Rattle.pipe_worker.specs.Machines.{HasMachine}
 use Rattle.stage_interp.specs.MachineState.{IsMadeFor}
 use Rattle.hall_tests.proofs.opening.payloads.Goals as goal
 

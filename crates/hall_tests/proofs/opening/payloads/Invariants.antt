@@ -1,5 +1,5 @@
 use Rattle.std.proofs.Common.{◌≡◌, All, length}
-use Rattle.pipe_engine.specs.CarriedMachines.{HasMachine}
+use Rattle.pipe_worker.specs.Machines.{HasMachine}
 use Rattle.stage_interp.specs.MachineState.{IsMadeFor}
 use Rattle.hall_tests.proofs.opening.payloads.Given as goal
 

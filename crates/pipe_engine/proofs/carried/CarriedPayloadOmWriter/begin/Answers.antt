@@ -2,7 +2,7 @@ use Rattle.std.proofs.Common.{◌≤◌, ◌+◌, arith, subst}
 use Rattle.cell_store.proofs.DeclaredCells.{values_length}
 use Rattle.pipe_model.specs.Language.CheckingRules.{cell_total}
 use Rattle.pipe_model.specs.Language.SyntaxTree.{SyntaxTree}
-use Rattle.pipe_engine.specs.CarriedMachines.{CanRun, HasMachine, cells_of}
+use Rattle.pipe_worker.specs.Machines.{CanRun, HasMachine, cells_of}
 use Rattle.pipe_engine.proofs.carried.CarriedPayloadOmWriter.begin.Goals as goal
 
 all_cells : (tree : SyntaxTree) → cell_total tree.cells + 2 ≤ cells_of tree
