@@ -13,6 +13,8 @@ mod checker_rows;
 #[cfg(test)]
 mod closing;
 #[cfg(test)]
+mod hold_rows;
+#[cfg(test)]
 mod opening;
 #[cfg(test)]
 mod run_rows;

@@ -1,0 +1,37 @@
+//! A gate that holds an instance.
+
+use pipe_model::node::NodeId;
+use pipe_worker::gate::Gate;
+use pipe_worker::hold::HoldGate;
+use std::test::Fail;
+use std::thread::join;
+
+const HELD: NodeId = NodeId {
+    iteration: 0,
+    index: 1,
+};
+
+const UNTIL: NodeId = NodeId {
+    iteration: 1,
+    index: 0,
+};
+
+#[test]
+fn an_instance_is_held_until_another_comes(rt: HostRuntime) -> Result<(), Fail> {
+    let gate = HoldGate::new(HELD, UNTIL, u64::MAX);
+    join(&rt, || gate.at(&rt, 0, HELD), || gate.at(&rt, 1, UNTIL));
+    assert!(rt; gate.met());
+    Ok(())
+}
+
+#[test]
+fn an_instance_is_let_go_after_its_turns(rt: HostRuntime) -> Result<(), Fail> {
+    let gate = HoldGate::new(HELD, UNTIL, 3);
+    gate.at(&rt, 0, HELD);
+    assert!(rt; !gate.met());
+    gate.at(&rt, 1, UNTIL);
+    assert!(rt; !gate.met());
+    gate.at(&rt, 0, HELD);
+    assert!(rt; gate.met());
+    Ok(())
+}
