@@ -7,8 +7,8 @@ use pipe_model::list::Bytes;
 use pipe_model::memory::NoMemory;
 use pipe_worker::gate::{Gate, OpenGate};
 use std::alloc::Global;
-use std::test::Fail;
 use std::sync::Wait;
+use std::test::Fail;
 use std::thread::Threads;
 
 // The files of a call: the source `a.pipe` and the input `a.in`.
@@ -94,16 +94,25 @@ impl<'a> Case<'a> {
     }
 
     // Makes the call, and returns its result and what the sink took.
-    pub fn run(self, rt: &(impl Threads + Wait + Sync),
-    alloc: Global) -> Result<(Ended, Vec<u8>), NoMemory> {
+    pub fn run(
+        self,
+        rt: &(impl Threads + Wait + Sync),
+        alloc: Global,
+    ) -> Result<(Ended, Vec<u8>), NoMemory> {
         let mut call = self.set_up(alloc)?;
         let ended = call.make(rt, alloc)?;
         Ok((ended, call.sink.taken().as_slice().to_vec(alloc)?))
     }
 
     // Fails the test if the status or the text differs.
-    pub fn check(self, rt: &(impl Threads + Wait + Sync),
-    alloc: Global, name: &str, status: u8, text: &str) -> Result<(), Fail> {
+    pub fn check(
+        self,
+        rt: &(impl Threads + Wait + Sync),
+        alloc: Global,
+        name: &str,
+        status: u8,
+        text: &str,
+    ) -> Result<(), Fail> {
         let (ended, taken) = self.run(rt, alloc)?;
         if ended.status != status
             || ended.written != text.len() as u64
@@ -127,8 +136,11 @@ pub struct Call {
 }
 
 impl Call {
-    pub fn make(&mut self, rt: &(impl Threads + Wait + Sync),
-    alloc: Global) -> Result<Ended, NoMemory> {
+    pub fn make(
+        &mut self,
+        rt: &(impl Threads + Wait + Sync),
+        alloc: Global,
+    ) -> Result<Ended, NoMemory> {
         self.make_at(rt, alloc, &OpenGate)
     }
 
@@ -136,7 +148,7 @@ impl Call {
     pub fn make_at<G: Gate + Sync>(
         &mut self,
         rt: &(impl Threads + Wait + Sync),
-    alloc: Global,
+        alloc: Global,
         gate: &G,
     ) -> Result<Ended, NoMemory> {
         cilkp(

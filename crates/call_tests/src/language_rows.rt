@@ -3,9 +3,9 @@
 
 use crate::cases::{Case, source};
 use crate::row_tests::Row;
-use std::test::Fail;
 use std::alloc::Global;
 use std::sync::Wait;
+use std::test::Fail;
 use std::thread::Threads;
 
 // The limit on emits, what is inserted into `init`, the loop and `final` of the program of `traps`,
@@ -72,8 +72,7 @@ const TRAPS: [(u32, [&str; 3], &str); 18] = [
 ];
 
 // A trap in `init` leaves out the loop and `final`, and a trap in the loop leaves out `final`.
-fn traps(rt: &(impl Threads + Wait + Sync),
-    alloc: Global) -> Result<(), Fail> {
+fn traps(rt: &(impl Threads + Wait + Sync), alloc: Global) -> Result<(), Fail> {
     for (emits, [init, body, last], text) in TRAPS {
         let source = format!(in alloc;
             "limits iterations 1, stages 1, steps 50, emits {emits}; cell a[2] = 0; cell n = 0; init {{ emit 1; {init} }} pipe_while (n < 1) {{ n = 1; emit 2; {body} }} final {{ emit 3; {last} }}"
@@ -111,8 +110,7 @@ const COSTS: [(&str, u32, &str); 20] = [
 ];
 
 // Each statement with a budget that is exact, and with one step too few.
-fn costs(rt: &(impl Threads + Wait + Sync),
-    alloc: Global) -> Result<(), Fail> {
+fn costs(rt: &(impl Threads + Wait + Sync), alloc: Global) -> Result<(), Fail> {
     for (statement, cost, text) in COSTS {
         let rest = format!(in alloc;
             "cell a[2] = 7; cell n = 0; init {{ {statement} }} pipe_while (0) {{ }}"
@@ -203,8 +201,7 @@ const EDGES: &str =
     "cell h = 9223372036854775807; cell l = 0; cell a[3] = 0; init { l = -h - 1; a[0] = 4; a[1] = 2; a[2] = 6;";
 
 // Evaluates all expressions of `VALUES` in one program.
-fn values(rt: &(impl Threads + Wait + Sync),
-    alloc: Global) -> Result<(), Fail> {
+fn values(rt: &(impl Threads + Wait + Sync), alloc: Global) -> Result<(), Fail> {
     let mut program = String::from_str(alloc, EDGES)?;
     let mut wanted = String::new(alloc);
     for (expression, value) in VALUES {
@@ -232,8 +229,7 @@ const EDGE_TRAPS: [(&str, &str); 12] = [
     ("1 && 0 / 0", "DivZero"),
 ];
 
-fn edge_traps(rt: &(impl Threads + Wait + Sync),
-    alloc: Global) -> Result<(), Fail> {
+fn edge_traps(rt: &(impl Threads + Wait + Sync), alloc: Global) -> Result<(), Fail> {
     for (expression, trap) in EDGE_TRAPS {
         let rest = format!(in alloc; "{EDGES} emit {expression}; }} pipe_while (0) {{ }}")?;
         let source = source(alloc, [1, 1, 50, 1], rest.as_str())?;
@@ -244,8 +240,7 @@ fn edge_traps(rt: &(impl Threads + Wait + Sync),
 }
 
 // An expression of 251 symbols that keeps 100 operands while the last one is evaluated.
-fn deepest(rt: &(impl Threads + Wait + Sync),
-    alloc: Global) -> Result<(), Fail> {
+fn deepest(rt: &(impl Threads + Wait + Sync), alloc: Global) -> Result<(), Fail> {
     let mut expression = String::new(alloc);
     for _ in 0..25 {
         expression.push_str("0 == 3 < 2 + 1 * (")?;
@@ -656,8 +651,7 @@ const PIPELINES: [Row; 17] = [
     ),
 ];
 
-fn pipelines(rt: &(impl Threads + Wait + Sync),
-    alloc: Global) -> Result<(), Fail> {
+fn pipelines(rt: &(impl Threads + Wait + Sync), alloc: Global) -> Result<(), Fail> {
     for (limits, rest, status, text) in PIPELINES {
         let source = source(alloc, limits, rest)?;
         Case::of(source.as_bytes()).check(rt, alloc, rest, status, text)?;

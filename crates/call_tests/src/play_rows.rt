@@ -1,9 +1,9 @@
 // Plays by seeds, and the lines of run logs.
 
 use crate::cases::{Case, source};
-use std::test::Fail;
 use std::alloc::Global;
 use std::sync::Wait;
+use std::test::Fail;
 use std::thread::Threads;
 
 // Iterations 0 and 1 wait for no one, and both use `f`; the second reads it in stage 0.
@@ -19,8 +19,7 @@ const RECORDED: &str = "1\nbegin 0\nread 0 n 0\nwrite 0 n 1\nwait 0 1\nenter 0\n
 
 // Each seed plays another schedule, and each has one race, of `f`. Which access is the earlier one
 // depends on the schedule.
-fn seeds(rt: &(impl Threads + Wait + Sync),
-    alloc: Global) -> Result<(), Fail> {
+fn seeds(rt: &(impl Threads + Wait + Sync), alloc: Global) -> Result<(), Fail> {
     let source = source(alloc, [2, 3, 50, 2], RACING)?;
     for seed in 0..100 {
         let number = format!(in alloc; "{seed}")?;
@@ -42,8 +41,7 @@ fn seeds(rt: &(impl Threads + Wait + Sync),
 }
 
 // With one iteration alive at a time there is one schedule, for `run` and for `play`.
-fn records(rt: &(impl Threads + Wait + Sync),
-    alloc: Global) -> Result<(), Fail> {
+fn records(rt: &(impl Threads + Wait + Sync), alloc: Global) -> Result<(), Fail> {
     let closed = source(alloc, [1, 1, 2, 0], "pipe_while (0) { }")?;
     let case = Case {
         words: &["run", "a.pipe", "a.in", "--record"],
@@ -65,8 +63,7 @@ fn records(rt: &(impl Threads + Wait + Sync),
 }
 
 // A trap of `init`, and one of an iteration, after what was emitted before.
-fn traps(rt: &(impl Threads + Wait + Sync),
-    alloc: Global) -> Result<(), Fail> {
+fn traps(rt: &(impl Threads + Wait + Sync), alloc: Global) -> Result<(), Fail> {
     for (rest, text) in [
         (
             "init { emit 1; emit 1 / 0; } pipe_while (0) { }",

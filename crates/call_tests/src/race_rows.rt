@@ -3,9 +3,9 @@
 use crate::cases::{Case, source};
 use pipe_model::access::CellId;
 use pipe_model::memory::NoMemory;
-use std::test::Fail;
 use std::alloc::Global;
 use std::sync::Wait;
+use std::test::Fail;
 use std::thread::Threads;
 
 // What iterations do in stage 0, and then in later stages.
@@ -35,8 +35,11 @@ const PIPELINE: &str =
 const REPORTS: usize = (1 + 5) + (3 + 5) + (5 + 7) + (3 + 6) + (5 + 6);
 
 // The cells that a call reports.
-fn reported_cells(rt: &(impl Threads + Wait + Sync),
-    alloc: Global, case: Case<'_>) -> Result<Vec<CellId>, NoMemory> {
+fn reported_cells(
+    rt: &(impl Threads + Wait + Sync),
+    alloc: Global,
+    case: Case<'_>,
+) -> Result<Vec<CellId>, NoMemory> {
     let (ended, _) = case.run(rt, alloc)?;
     let mut cells = Vec::new(alloc);
     for report in ended.reports.as_slice() {
@@ -46,8 +49,11 @@ fn reported_cells(rt: &(impl Threads + Wait + Sync),
 }
 
 // Fails the test unless `run` and `serial` report the same cells. Returns how many there are.
-fn check_cells(rt: &(impl Threads + Wait + Sync),
-    alloc: Global, body: &str) -> Result<usize, Fail> {
+fn check_cells(
+    rt: &(impl Threads + Wait + Sync),
+    alloc: Global,
+    body: &str,
+) -> Result<usize, Fail> {
     let source = source(alloc, [4, 3, 50, 4], body)?;
     let by_run = reported_cells(rt, alloc, Case::of(source.as_bytes()).with_four_workers())?;
     let by_serial = reported_cells(rt, alloc, Case::serial(source.as_bytes()))?;
@@ -58,8 +64,7 @@ fn check_cells(rt: &(impl Threads + Wait + Sync),
 }
 
 // Fifty programs: each first stage, each stage statement, and each end.
-fn same_cells(rt: &(impl Threads + Wait + Sync),
-    alloc: Global) -> Result<(), Fail> {
+fn same_cells(rt: &(impl Threads + Wait + Sync), alloc: Global) -> Result<(), Fail> {
     let mut reports = 0;
     for first in FIRST_STAGES {
         for stage in STAGE_STATEMENTS {
@@ -79,8 +84,7 @@ fn same_cells(rt: &(impl Threads + Wait + Sync),
 
 // A cell that is written twice before it is read: the histories name the last write, and the
 // explicit search the first.
-fn other_accesses(rt: &(impl Threads + Wait + Sync),
-    alloc: Global) -> Result<(), Fail> {
+fn other_accesses(rt: &(impl Threads + Wait + Sync), alloc: Global) -> Result<(), Fail> {
     let source = source(
         alloc,
         [2, 3, 50, 0],
@@ -93,8 +97,7 @@ fn other_accesses(rt: &(impl Threads + Wait + Sync),
 
 // Prefix sums without their wait. Throttling is no dependency: the race is there for one worker and one
 // iteration at a time too.
-fn throttled_races(rt: &(impl Threads + Wait + Sync),
-    alloc: Global) -> Result<(), Fail> {
+fn throttled_races(rt: &(impl Threads + Wait + Sync), alloc: Global) -> Result<(), Fail> {
     let source = source(
         alloc,
         [8, 4, 100, 8],
@@ -109,8 +112,7 @@ fn throttled_races(rt: &(impl Threads + Wait + Sync),
 }
 
 // A thousand items through six stages, and the greatest generated workload.
-fn long_runs(rt: &(impl Threads + Wait + Sync),
-    alloc: Global) -> Result<(), Fail> {
+fn long_runs(rt: &(impl Threads + Wait + Sync), alloc: Global) -> Result<(), Fail> {
     let source = source(alloc, [1000, 6, 100, 1], PIPELINE)?;
     let mut input = String::new(alloc);
     for number in 1..1001 {

@@ -4,8 +4,8 @@
 
 use crate::cases::Case;
 use std::alloc::Global;
-use std::test::Fail;
 use std::sync::Wait;
+use std::test::Fail;
 use std::thread::Threads;
 
 const LIMITS: &str = "limits iterations 1, stages 1, steps 1, emits 1; ";
@@ -39,15 +39,23 @@ const REFUSED: [(&str, &str); 12] = [
 ];
 
 // Fails the test unless `format` and `run` refuse the source with this line.
-fn expect_line(rt: &(impl Threads + Wait + Sync),
-    alloc: Global, source: &str, line: &str) -> Result<(), Fail> {
+fn expect_line(
+    rt: &(impl Threads + Wait + Sync),
+    alloc: Global,
+    source: &str,
+    line: &str,
+) -> Result<(), Fail> {
     Case::format(source.as_bytes()).check(rt, alloc, line, 1, line)?;
     Case::of(source.as_bytes()).check(rt, alloc, line, 1, line)
 }
 
 // Fails the test unless the source after its limits is refused at the offset of the `@`.
-fn expect_refusal(rt: &(impl Threads + Wait + Sync),
-    alloc: Global, kind: &str, rest: &str) -> Result<(), Fail> {
+fn expect_refusal(
+    rt: &(impl Threads + Wait + Sync),
+    alloc: Global,
+    kind: &str,
+    rest: &str,
+) -> Result<(), Fail> {
     let Some((before, after)) = rest.split_once('@') else {
         return Err(Fail::new(format_args!("{rest}: no offset")));
     };
@@ -68,8 +76,7 @@ const RANGES: [([i64; 4], u32); 6] = [
     ([1, 1, 1, 1_048_577], 5),
 ];
 
-fn limits_refused(rt: &(impl Threads + Wait + Sync),
-    alloc: Global) -> Result<(), Fail> {
+fn limits_refused(rt: &(impl Threads + Wait + Sync), alloc: Global) -> Result<(), Fail> {
     for ([iterations, stages, steps, emits], which) in RANGES {
         let source = format!(in alloc;
             "limits iterations {iterations}, stages {stages}, steps {steps}, emits {emits}; pipe_while (x) {{ }}"
@@ -90,8 +97,7 @@ fn repeated(alloc: Global, text: &str, n: usize) -> Result<String, Fail> {
 
 // At most 64 brackets are open at once, an expression has at most 256 symbols, a part 64 locals,
 // and a source 1,048,576 bytes.
-fn bounds(rt: &(impl Threads + Wait + Sync),
-    alloc: Global) -> Result<(), Fail> {
+fn bounds(rt: &(impl Threads + Wait + Sync), alloc: Global) -> Result<(), Fail> {
     let brackets = repeated(alloc, "(", 64)?;
     let deep = format!(in alloc; "pipe_while {brackets}@(")?;
     expect_refusal(rt, alloc, "source TooDeep", deep.as_str())?;
@@ -106,7 +112,8 @@ fn bounds(rt: &(impl Threads + Wait + Sync),
     expect_refusal(rt, alloc, "check TooManyLocals", many.as_str())?;
     let blank = repeated(alloc, " ", 1_048_576)?;
     expect_line(
-        rt, alloc,
+        rt,
+        alloc,
         blank.as_str(),
         "refused source Unexpected at 1048576\n",
     )?;

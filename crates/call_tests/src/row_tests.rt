@@ -9,8 +9,8 @@ use pipe_model::memory::NoMemory;
 use pipe_model::node::Kind;
 use pipe_model::trap::Trap;
 use std::alloc::Global;
-use std::test::Fail;
 use std::sync::Wait;
+use std::test::Fail;
 use std::thread::Threads;
 
 const COUNT_TO_TWO: &str =
@@ -244,15 +244,15 @@ const PROGRAMS: [Row; 39] = [
 ];
 
 // The rows, and a program with the most locals.
-fn runs(rt: &(impl Threads + Wait + Sync),
-    alloc: Global) -> Result<(), Fail> {
+fn runs(rt: &(impl Threads + Wait + Sync), alloc: Global) -> Result<(), Fail> {
     for (limits, rest, status, text) in PROGRAMS {
         let source = source(alloc, limits, rest)?;
         let case = Case::of(source.as_bytes());
         case.check(rt, alloc, rest, status, text)?;
         // The schedule decides which of two races of a cell is reported.
         if status != 2 {
-            case.with_four_workers().check(rt, alloc, rest, status, text)?;
+            case.with_four_workers()
+                .check(rt, alloc, rest, status, text)?;
         }
     }
     let most = source(alloc, [1, 1, 2, 0], &many_locals(alloc, 64)?)?;
@@ -260,8 +260,7 @@ fn runs(rt: &(impl Threads + Wait + Sync),
 }
 
 // Small programs of each form, and one with a comment. Only one takes more than two steps.
-fn forms(rt: &(impl Threads + Wait + Sync),
-    alloc: Global) -> Result<(), Fail> {
+fn forms(rt: &(impl Threads + Wait + Sync), alloc: Global) -> Result<(), Fail> {
     let rows = [
         "pipe_while ((0)) { }",
         "cell n[2] = 0; pipe_while (0) { }",
@@ -287,8 +286,13 @@ fn forms(rt: &(impl Threads + Wait + Sync),
 
 // Fails the test unless `run` and `serial` of the program have this status and text and the same
 // number of reports, `run` has a run log, and `serial` has none.
-fn expect_both(rt: &(impl Threads + Wait + Sync),
-    alloc: Global, rest: &str, status: u8, text: &str) -> Result<(), Fail> {
+fn expect_both(
+    rt: &(impl Threads + Wait + Sync),
+    alloc: Global,
+    rest: &str,
+    status: u8,
+    text: &str,
+) -> Result<(), Fail> {
     let source = source(alloc, [8, 4, 100, 8], rest)?;
     let run = Case::of(source.as_bytes());
     let serial = Case::serial(source.as_bytes());
@@ -306,12 +310,12 @@ fn expect_both(rt: &(impl Threads + Wait + Sync),
 }
 
 // `run` and `serial` of programs that finish, race and trap.
-fn serial_agrees(rt: &(impl Threads + Wait + Sync),
-    alloc: Global) -> Result<(), Fail> {
+fn serial_agrees(rt: &(impl Threads + Wait + Sync), alloc: Global) -> Result<(), Fail> {
     expect_both(rt, alloc, PREFIX_SUMS, 0, "1\n3\n6\n")?;
     expect_both(rt, alloc, RACING_SUMS, 2, RACING_LINES)?;
     expect_both(
-        rt, alloc,
+        rt,
+        alloc,
         "init { emit 1; } pipe_while (0) { } final { emit 1 / 0; }",
         3,
         "1\ntrap DivZero in final\n",
@@ -328,8 +332,7 @@ const ARRAY_TEXT: &str =
     "limits iterations 1, stages 1, steps 1, emits 1;\ncell d[2] = -7;\ninit {\n  d[0] = 1;\n}\npipe_while (d[1]) {\n  if (1) {\n  } else {\n    emit -(2 * (d[0] + 1));\n  }\n}\n";
 
 // Programs are printed, and a canonical text is printed unchanged.
-fn formats(rt: &(impl Threads + Wait + Sync),
-    alloc: Global) -> Result<(), Fail> {
+fn formats(rt: &(impl Threads + Wait + Sync), alloc: Global) -> Result<(), Fail> {
     let sums = source(alloc, [8, 4, 100, 8], PREFIX_SUMS)?;
     for (source, text) in [
         (sums.as_str(), SUMS_TEXT),
@@ -342,8 +345,7 @@ fn formats(rt: &(impl Threads + Wait + Sync),
 }
 
 // Wrong words, missing files, and inputs with a fault, in the order of the refusals.
-fn calls_refused(rt: &(impl Threads + Wait + Sync),
-    alloc: Global) -> Result<(), Fail> {
+fn calls_refused(rt: &(impl Threads + Wait + Sync), alloc: Global) -> Result<(), Fail> {
     let good = Case::of(COUNT_TO_TWO.as_bytes());
     let rows: [(&[&str], &str); 23] = [
         (&[], "refused usage\n"),
@@ -389,8 +391,7 @@ fn calls_refused(rt: &(impl Threads + Wait + Sync),
 }
 
 // Inputs with a fault, for `run` and for `serial`.
-fn inputs_refused(rt: &(impl Threads + Wait + Sync),
-    alloc: Global) -> Result<(), Fail> {
+fn inputs_refused(rt: &(impl Threads + Wait + Sync), alloc: Global) -> Result<(), Fail> {
     let rows: [(&[u8], &str); 4] = [
         (b"1 2 x", "refused input BadByte at 4\n"),
         (b"-", "refused input BadByte at 1\n"),
@@ -409,8 +410,7 @@ fn inputs_refused(rt: &(impl Threads + Wait + Sync),
 }
 
 // Programs that read their input, for `run` and for `serial`.
-fn inputs_read(rt: &(impl Threads + Wait + Sync),
-    alloc: Global) -> Result<(), Fail> {
+fn inputs_read(rt: &(impl Threads + Wait + Sync), alloc: Global) -> Result<(), Fail> {
     let two = source(alloc, [4, 1, 50, 4], TAKE_TWO)?;
     let all = source(alloc, [9, 2, 50, 9], TAKE_ALL)?;
     let racing = source(alloc, [9, 2, 50, 9], RACING_TAKES)?;
@@ -435,8 +435,7 @@ fn inputs_read(rt: &(impl Threads + Wait + Sync),
 }
 
 // The options of `run`, which do not change the result.
-fn options(rt: &(impl Threads + Wait + Sync),
-    alloc: Global) -> Result<(), Fail> {
+fn options(rt: &(impl Threads + Wait + Sync), alloc: Global) -> Result<(), Fail> {
     let words: [&[&str]; 3] = [
         &["run", "a.pipe", "a.in", "--workers", "64"],
         &["run", "--throttle=1", "a.pipe", "a.in"],
@@ -450,8 +449,7 @@ fn options(rt: &(impl Threads + Wait + Sync),
 }
 
 // Each read in turn fails, and then each write.
-fn faults(rt: &(impl Threads + Wait + Sync),
-    alloc: Global) -> Result<(), Fail> {
+fn faults(rt: &(impl Threads + Wait + Sync), alloc: Global) -> Result<(), Fail> {
     let good = Case::of(COUNT_TO_TWO.as_bytes());
     // The last read of a file finds its end.
     let source_reads = COUNT_TO_TWO.len().div_ceil(7) as u32 + 1;
@@ -484,8 +482,7 @@ fn faults(rt: &(impl Threads + Wait + Sync),
 }
 
 // Reads of other commands and of a missing file, and a read and a write that both fail.
-fn more_faults(rt: &(impl Threads + Wait + Sync),
-    alloc: Global) -> Result<(), Fail> {
+fn more_faults(rt: &(impl Threads + Wait + Sync), alloc: Global) -> Result<(), Fail> {
     let good = Case::of(COUNT_TO_TWO.as_bytes());
     Case {
         read_fails: Some(1),
@@ -527,10 +524,10 @@ fn expect_events(
 }
 
 // The events of a pipeline that finishes, in their order.
-fn events_of_a_run(rt: &(impl Threads + Wait + Sync),
-    alloc: Global) -> Result<(), Fail> {
+fn events_of_a_run(rt: &(impl Threads + Wait + Sync), alloc: Global) -> Result<(), Fail> {
     expect_events(
-        rt, alloc,
+        rt,
+        alloc,
         [1, 2, 50, 1],
         "cell n = 0; pipe_while (n < 1) { n = 1; pipe_wait(1); emit n; }",
         &[
@@ -551,10 +548,10 @@ fn events_of_a_run(rt: &(impl Threads + Wait + Sync),
 }
 
 // The events of a pipeline that traps in its second stage.
-fn events_of_a_trap(rt: &(impl Threads + Wait + Sync),
-    alloc: Global) -> Result<(), Fail> {
+fn events_of_a_trap(rt: &(impl Threads + Wait + Sync), alloc: Global) -> Result<(), Fail> {
     expect_events(
-        rt, alloc,
+        rt,
+        alloc,
         [1, 3, 50, 1],
         "cell n = 0; pipe_while (n < 1) { n = 1; pipe_wait(1); pipe_wait(1); }",
         &[
@@ -573,10 +570,10 @@ fn events_of_a_trap(rt: &(impl Threads + Wait + Sync),
 
 // The events of an assignment to an element: the index is read before the value. Neither `init` nor
 // `final` has events.
-fn events_of_an_element(rt: &(impl Threads + Wait + Sync),
-    alloc: Global) -> Result<(), Fail> {
+fn events_of_an_element(rt: &(impl Threads + Wait + Sync), alloc: Global) -> Result<(), Fail> {
     expect_events(
-        rt, alloc,
+        rt,
+        alloc,
         [1, 1, 50, 1],
         "cell a[2] = 0; cell n = 0; init { a[0] = 7; } pipe_while (n < 1) { n = 1; a[n] = a[0]; } final { emit a[1]; }",
         &[
@@ -604,8 +601,13 @@ fn access(cell: u32, kind: AccessKind, value: i64) -> Access {
 
 // Fails the test unless the call has the usual result, or runs out of memory after a prefix of its
 // text. Out of memory before the call is not a failure.
-fn prefix_or_all(rt: &(impl Threads + Wait + Sync),
-    alloc: Global, rest: &str, status: u8, text: &str) -> Result<(), Fail> {
+fn prefix_or_all(
+    rt: &(impl Threads + Wait + Sync),
+    alloc: Global,
+    rest: &str,
+    status: u8,
+    text: &str,
+) -> Result<(), Fail> {
     let Ok(source) = source(alloc, [8, 4, 100, 8], rest) else {
         return Ok(());
     };

@@ -5,9 +5,9 @@ use pipe_model::column::ColumnEnd;
 use pipe_model::event::{Event, RunLog};
 use pipe_model::node::NodeId;
 use pipe_worker::hold::HoldGate;
-use std::test::Fail;
 use std::alloc::Global;
 use std::sync::Wait;
+use std::test::Fail;
 use std::thread::Threads;
 
 // Prefix sums: the last stage runs in the order of the iterations.
@@ -39,12 +39,17 @@ fn place_of(log: &RunLog, event: Event) -> usize {
 }
 
 // Four workers, one iteration alive or eight.
-fn prefix_sums(rt: &(impl Threads + Wait + Sync),
-    alloc: Global) -> Result<(), Fail> {
+fn prefix_sums(rt: &(impl Threads + Wait + Sync), alloc: Global) -> Result<(), Fail> {
     let source = source(alloc, [8, 4, 100, 8], PREFIX_SUMS)?;
     for throttle in ["1", "8"] {
         let words = [
-            "run", "a.pipe", "a.in", "--workers", "4", "--throttle", throttle,
+            "run",
+            "a.pipe",
+            "a.in",
+            "--workers",
+            "4",
+            "--throttle",
+            throttle,
         ];
         let case = Case {
             words: &words,
@@ -57,8 +62,12 @@ fn prefix_sums(rt: &(impl Threads + Wait + Sync),
 
 // Runs the two iterations with a gate that holds one last stage until the other is at it. Fails the
 // test unless the two met. Returns the log.
-fn held_run(rt: &(impl Threads + Wait + Sync),
-    alloc: Global, held: NodeId, until: NodeId) -> Result<RunLog, Fail> {
+fn held_run(
+    rt: &(impl Threads + Wait + Sync),
+    alloc: Global,
+    held: NodeId,
+    until: NodeId,
+) -> Result<RunLog, Fail> {
     let source = source(alloc, [2, 2, 50, 2], TWO_ITERATIONS)?;
     let case = Case {
         words: &["run", "a.pipe", "a.in", "--workers", "2", "--throttle", "2"],

@@ -89,9 +89,9 @@ fn measured_run<R: Threads + Wait + Sync, G: Gate + Sync>(
     requires workers { 1 ≤ workers }
     requires throttle { (1 ≤ throttle) × (throttle ≤ ranges.MOST_THROTTLE) }
     ensures { IfOk result (λ m. m ≡ record {
-        workers = workers;
-        instances = instances_in (elision_columns (tree_of checked.now) input.now);
-        last = last_or_zero (elision_output (tree_of checked.now) input.now);
+      workers = workers;
+      instances = instances_in (elision_columns (tree_of checked.now) input.now);
+      last = last_or_zero (elision_output (tree_of checked.now) input.now);
     }) }
 {
     let run = run_program(rt, alloc, checked, input, workers, throttle, gate)?;

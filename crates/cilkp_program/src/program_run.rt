@@ -18,12 +18,12 @@ ghost use Rattle.cilkp_program.specs.SerialResults.{elision_accesses, elision_co
 
 use dag_build::dag::Dag;
 use pipe_check::checked::Checked;
+use pipe_engine::run::{EngineRun, run};
 use pipe_model::column::Columns;
 use pipe_model::event::RunLog;
 use pipe_model::list::{Bytes, Numbers};
 use pipe_model::memory::NoMemory;
 use pipe_model::report::Reports;
-use pipe_engine::run::{EngineRun, run};
 use pipe_model::trap::TrapAt;
 use pipe_worker::gate::Gate;
 use race_report::outcome::outcome_text;
