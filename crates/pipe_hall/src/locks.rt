@@ -24,6 +24,7 @@ use crate::shard::Shard;
 use crate::slot::Slot;
 use crate::view::View;
 use atomic_table::Seat;
+use crossbeam_utils::Backoff;
 use frame_book::book::Book;
 use om_shared::writer::OmWriter;
 use pipe_frame::token::FrameToken;
@@ -59,10 +60,12 @@ impl<M: Carrier> Locks<M> {
         ensures own { (seat.new.table_id ≡ seat.old.table_id) × (seat.new.id ≡ seat.old.id) }
         ensures taken { (x : SlotValue) × (result ≡ slot_of x) × (seat.new.me ≡ (view_of (holding seat.old.me.0.it slot x), (slot, Slot.Out) ∷ seat.old.me.1)) × IsSnapshot seat.old.me.0.it slot x }
     {
+        let backoff = Backoff::new();
         for _ in rt.forever() {
             if let Some(value) = self.try_take(seat, slot) {
                 return value;
             }
+            backoff.snooze();
         }
         unreachable!()
     }

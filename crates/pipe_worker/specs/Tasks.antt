@@ -1,5 +1,5 @@
 -- Tasks that may be in the deques, and the end of a run as a worker sees it.
-use Rattle.std.specs.Prelude.{◌≡◌, ◌⊎◌, ◌+◌, ℕ, List, true}
+use Rattle.std.specs.Prelude.{◌≡◌, ◌⊎◌, List, true}
 use Rattle.pipe_frame.specs.declared.token.FrameToken.{FrameToken}
 use Rattle.pipe_frame.specs.declared.token.Task.{Task}
 use Rattle.pipe_frame.specs.declared.token.Task.TheVariants.{Begin, Resume}
@@ -11,11 +11,6 @@ use Rattle.pipe_model.specs.Runs.RunLogs.{state_after}
 abbrev pub IsTask : {M : Type 0} → (FrameToken M → Type 0) → Task M → Type 0
 IsTask Given Begin = Unit {0}
 IsTask Given (Resume t) = Given t
-
--- a number for a task, by which tasks are counted in a deque: 0, or 1 plus the iteration
-abbrev pub task_number : {M : Type 0} → Task M → ℕ
-task_number Begin = 0
-task_number (Resume t) = t.iteration + 1
 
 -- the run was seen stopped
 abbrev pub IsStopSeen : List Event → Type 0

@@ -6,6 +6,7 @@
 pub mod advance;
 pub mod gate;
 pub mod hold;
+mod idle;
 pub mod instance;
 pub mod lent;
 pub mod memory;

@@ -8,9 +8,9 @@ ghost use Rattle.pipe_worker.specs.Workers.{IsSameWorker, ends_of, number_of};
 
 use crate::advance::run_and_advance;
 use crate::gate::Gate;
+use crate::idle::Idle;
 use crate::runs::Runs;
 use crate::work_test::WorkTest;
-use crossbeam_utils::Backoff;
 use lazy_enable::look::{Look, StageOutcome, after};
 use pipe_frame::hall::Hall;
 use pipe_frame::results::{Begun, Next, Rescue};
@@ -285,19 +285,19 @@ impl<M: Runs + Drop, Q: WorkTest<M>> Worker<M, Q> {
         ensures over { IsOver (H.seen hall.new) }
         ensures worker { IsSameWorker self.old self.new }
     {
-        let backoff = Backoff::new();
+        let mut idle = Idle::new();
         let mut looks = 0u32;
         for _ in rt.forever() {
             if let Some(task) = self.take_task(rt) {
-                backoff.reset();
+                idle.reset();
                 looks = 0;
                 self.perform(rt, code, input, hall, gate, task);
             } else if looks > 0 {
                 looks -= 1;
-                backoff.snooze();
+                idle.pause(rt);
             } else {
                 match self.rescue(rt, code, input, hall, gate) {
-                    Rescued::Worked => backoff.reset(),
+                    Rescued::Worked => idle.reset(),
                     Rescued::Nothing => looks = LOOKS_BEFORE_RESCUE,
                     Rescued::Over => return,
                 }
