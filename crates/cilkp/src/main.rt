@@ -2,7 +2,7 @@
 //! top call, and exits with the status that the call returns.
 #![tactic(auto)]
 
-use cilkp_program::call::{Ended, cilkp};
+use cilkp_program::call::cilkp;
 use pipe_io::real::{RealFiles, RealSink};
 use pipe_model::memory::NoMemory;
 use pipe_worker::gate::OpenGate;
@@ -29,23 +29,21 @@ fn words(rt: &HostRuntime) -> Result<Vec<String>, NoMemory> {
     Ok(words)
 }
 
-// Makes the top call with the real files and the real sink.
-fn run(rt: &HostRuntime) -> Result<Ended, NoMemory> {
-    let words = words(rt)?;
-    let mut files = RealFiles::new(rt);
-    let mut out = RealSink::new(rt);
-    cilkp(
-        rt,
+// Makes the top call with the real files and the real sink. Only `main` may lend threads.
+fn main(rt: HostRuntime) -> ExitCode {
+    let Ok(words) = words(&rt) else {
+        return ExitCode::from(NO_MEMORY);
+    };
+    let mut files = RealFiles::new(&rt);
+    let mut out = RealSink::new(&rt);
+    match cilkp(
+        &rt,
         rt.alloc(),
         words.as_slice(),
         &mut files,
         &mut out,
         &OpenGate,
-    )
-}
-
-fn main(rt: HostRuntime) -> ExitCode {
-    match run(&rt) {
+    ) {
         Ok(ended) => ExitCode::from(ended.status),
         Err(NoMemory) => ExitCode::from(NO_MEMORY),
     }
