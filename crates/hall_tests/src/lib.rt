@@ -13,7 +13,11 @@ mod checker_rows;
 #[cfg(test)]
 mod closing;
 #[cfg(test)]
+<<<<<<< ours
 mod hold_rows;
+=======
+mod engine_rows;
+>>>>>>> theirs
 #[cfg(test)]
 mod opening;
 #[cfg(test)]

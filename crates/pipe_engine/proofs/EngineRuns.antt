@@ -1,5 +1,5 @@
 -- Finished runs of programs, from their ends.
-use Rattle.std.proofs.Common.{◌≡◌, refl, sym, ◌∙◌, ap, subst, ℕ, ℤ, List, [], ◌++◌, All, true, false, Ok, Err, Result}
+use Rattle.std.proofs.Common.{◌≡◌, refl, sym, ◌∙◌, subst, ℕ, ℤ, List, [], All, true, false, Ok, Err, Result}
 use Rattle.std.specs.Prelude.{is_some}
 use Rattle.std.specs.Result.{IfOk}
 use Rattle.std.proofs.lemmas.Bool.{false≢true}
@@ -20,7 +20,7 @@ use Rattle.pipe_model.specs.Runs.WholeProgramRuns.{IsFinishedProgramRun, NoLoop,
 use Rattle.program_ends.specs.declared.ends.ProgramResults.{ProgramResults}
 use Rattle.program_ends.specs.ProgramEnds.{HasResults, reaches_final}
 use Rattle.program_ends.proofs.ElidedRuns.{finished_runs_agree_with_elisions}
-use Rattle.program_laws.specs.DeclaredCells.{IsInside, cell_count}
+use Rattle.program_laws.specs.DeclaredCells.{IsInside}
 use Rattle.race_detection.proofs.RunReports.{runs_are_detected}
 use Rattle.run_laws.proofs.RunStates.IterationCounts.{runs_keep_rules}
 use Rattle.serial_elision.specs.PartRuns.{Serves}

@@ -1,5 +1,5 @@
 -- The accesses of a run are those of its events.
-use Rattle.std.proofs.Common.{◌≡◌, ◌∙◌, ap, sym, List, [], ◌∷◌, ◌++◌, append-nil}
+use Rattle.std.proofs.Common.{◌≡◌, sym, List, [], ◌∷◌, ◌++◌, append-nil}
 use Rattle.std.proofs.lemmas.List.{map-append}
 use Rattle.pipe_engine.specs.EventAccesses.{one_access}
 use Rattle.pipe_model.specs.declared.access.NodeAccess.{NodeAccess}

@@ -1,5 +1,5 @@
 -- From the end of a hall to the end of its loop.
-use Rattle.std.proofs.Common.{◌≡◌, ◌∙◌, ap, sym, subst, ℕ, ℤ, List, [], All, false, Option, Some}
+use Rattle.std.proofs.Common.{◌≡◌, ◌∙◌, ap, sym, subst, ℕ, ℤ, List, All, false, Option, Some}
 use Rattle.std.specs.Prelude.{is_some, length}
 use Rattle.frame_book.specs.BookStates.{BookState, state_of}
 use Rattle.hall_headline.specs.EndedPrograms.{AreGathered, AreRacesOfLog, IsProgramEnd}
@@ -11,7 +11,6 @@ use Rattle.hall_laws.specs.ClosedHalls.{IsSoundBook}
 use Rattle.hall_laws.specs.HallPrograms.{whole_in}
 use Rattle.hall_laws.proofs.HallPrograms.{merged_halls_are_program_runs}
 use Rattle.hall_laws.proofs.HallRuns.{finished_books_have_no_token_out}
-use Rattle.pipe_engine.specs.declared.ending.LoopEnd.{LoopEnd}
 use Rattle.pipe_engine.specs.LoopEnds.{IsLoopEnd}
 use Rattle.pipe_engine.specs.OpenedHalls.{IsOpenedAfterInit}
 use Rattle.pipe_hall.specs.Closing.{EndedHall, StopIsLast, shard_in}
@@ -76,7 +75,6 @@ of_book tree input limit hall b h closed =
 module _ (tree : SyntaxTree) (input : List ℤ) (limit : ℕ) (hall : HallState) (b : BookState) (shards : List ShardValue) (log : RunLog)
     (opened : IsOpenedAfterInit tree input limit hall) (constants : hall.hall.constants ≡ Some (constants_of b))
     (h : IsFinishedEnd hall.before b shards) (events : AreMerged b.log (logs_of shards) log.events) (columns : log.columns ≡ made_columns log.events) where
-
   of : IsOfBook tree input limit hall.before b
   of = of_book tree input limit hall b opened constants
 

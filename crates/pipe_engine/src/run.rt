@@ -68,12 +68,7 @@ struct EngineLimits {
 }
 
 // Ends the run of a program whose `init` trapped.
-fn run_of_init(
-    alloc: Global,
-    prepared: &Prepared,
-    trap: Option<TrapAt>,
-    cells: Cells,
-) -> EngineRun
+fn run_of_init(alloc: Global, prepared: &Prepared, trap: Option<TrapAt>, cells: Cells) -> EngineRun
     requires accepted { BreaksNoRule (tree_of prepared.now.checked.now) }
     requires trap { trap ≡ init_trap (whole_of (tree_of prepared.now.checked.now) prepared.now.input.now) }
     requires trapped { IsTrue (is_some trap) }
@@ -116,8 +111,9 @@ fn run_of_loop(
     let _ = throttle;
     let LoopEnd { run_log, reports } = end;
     replay(&mut cells, run_log.events.as_slice());
-    let ProgramResults { output, trap } =
-        end_after_loop(alloc, machine, prepared, &run_log, &reports, true, cells)?;
+    let ProgramResults { output, trap } = end_after_loop(
+        alloc, machine, prepared, &run_log, &reports, true, cells,
+    )?;
     Ok(EngineRun {
         run_log,
         reports,

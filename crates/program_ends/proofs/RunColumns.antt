@@ -1,5 +1,5 @@
 -- The columns of a run of an accepted program have instances, and not too many.
-use Rattle.std.proofs.Common.{None, ◌≡◌, refl, arith, ℕ, ℤ, zero, suc, ◌<◌, ◌≤◌, ◌-◌, All, List, [], ◌∷◌, Some, length, map}
+use Rattle.std.proofs.Common.{◌≡◌, refl, arith, ℕ, ℤ, zero, suc, ◌<◌, ◌≤◌, ◌-◌, All, List, [], ◌∷◌, Some, length, map}
 use Rattle.pipe_model.specs.declared.column.Column.{Column}
 use Rattle.pipe_model.specs.Language.ProgramsOfTrees.{pipeline_after_init}
 use Rattle.pipe_model.specs.Language.CheckingRules.{BreaksNoRule}

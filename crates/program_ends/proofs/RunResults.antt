@@ -16,7 +16,7 @@ use Rattle.pipe_model.specs.Pipelines.SerialElision.{unless}
 use Rattle.pipe_model.specs.Pipelines.Store.{output_of}
 use Rattle.pipe_model.specs.Pipelines.WholePrograms.{WholeProgram, init_accesses, init_trap, part_trap, trap_before_final}
 use Rattle.pipe_model.specs.Runs.State.{State, accesses_of}
-use Rattle.pipe_model.specs.Runs.WholeProgramRuns.{played_final_trace, played_output, played_trap, run_traces}
+use Rattle.pipe_model.specs.Runs.WholeProgramRuns.{played_final_trace, run_traces}
 use Rattle.program_ends.specs.declared.ends.ProgramResults.{ProgramResults}
 use Rattle.program_ends.specs.ProgramEnds.{HasResults}
 use Rattle.program_laws.proofs.ProgramRuns.{played_where_final_ran}

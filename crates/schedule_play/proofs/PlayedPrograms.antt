@@ -1,25 +1,23 @@
 -- Programs that were played: what is reported, and when the play is finished.
-use Rattle.std.proofs.Common.{None, ◌≡◌, ◌≢◌, ◌∙◌, ap, sym, refl, subst, arith, ℕ, ℤ, ◌<◌, ◌≤◌, ◌++◌, ◌∷◌, List, [], Bool, true, false, Option, append-nil}
-use Rattle.std.specs.Prelude.{◌&&◌, IsTrue, is_some, length}
+use Rattle.std.proofs.Common.{◌≡◌, ◌≢◌, ◌∙◌, ap, sym, refl, subst, arith, ℕ, ℤ, ◌<◌, ◌≤◌, ◌++◌, ◌∷◌, List, [], Bool, true, false}
+use Rattle.std.specs.Prelude.{IsTrue, is_some, length}
 use Rattle.std.proofs.lemmas.Bool.{false≢true}
 use Rattle.pipe_model.specs.declared.event.Event.{Event}
 use Rattle.pipe_model.specs.declared.event.Event.TheVariants.{Begin, Access, Advance, Enter, Finish, Stop}
 use Rattle.pipe_model.specs.declared.event.RunLog.{RunLog}
 use Rattle.pipe_model.specs.declared.report.Report.{Report}
-use Rattle.pipe_model.specs.declared.trap.TrapAt.{TrapAt}
-use Rattle.pipe_model.specs.Language.Programs.{store_of}
 use Rattle.pipe_model.specs.Language.ProgramsOfTrees.{pipeline_after_init, whole_of}
 use Rattle.pipe_model.specs.Language.CheckingRules.{BreaksNoRule}
 use Rattle.pipe_model.specs.Language.SyntaxTree.{SyntaxTree}
 use Rattle.pipe_model.specs.Orders.Starts.{starts_of}
 use Rattle.pipe_model.specs.Pipelines.SerialElision.{unless}
-use Rattle.pipe_model.specs.Pipelines.WholePrograms.{WholeProgram, init_accesses, init_trap}
+use Rattle.pipe_model.specs.Pipelines.WholePrograms.{WholeProgram, init_trap}
 use Rattle.pipe_model.specs.Pipelines.Pipeline.{Pipeline}
 use Rattle.pipe_model.specs.Runs.Run.{EmptyRun, IsFinished, Run, state_from}
-use Rattle.pipe_model.specs.Runs.RunLogs.{accesses_after, columns_after, state_after}
+use Rattle.pipe_model.specs.Runs.RunLogs.{columns_after, state_after}
 use Rattle.pipe_model.specs.Runs.Schedules.{candidates, played, running_instances}
 use Rattle.pipe_model.specs.Runs.State.{State, initial_state, next_state}
-use Rattle.pipe_model.specs.Runs.WholeProgramRuns.{IsFinishedProgramRun, NoLoop, OfLoop, ProgramIsFinished, WithLoop, WithoutLoop, played_output, played_trap}
+use Rattle.pipe_model.specs.Runs.WholeProgramRuns.{NoLoop, OfLoop, ProgramIsFinished, WithLoop, WithoutLoop, played_output, played_trap}
 use Rattle.language_laws.proofs.WellFormed.{accepted_is_well_formed}
 use Rattle.program_ends.specs.declared.ends.ProgramResults.{ProgramResults}
 use Rattle.program_ends.specs.ProgramEnds.{HasResults, reaches_final}

@@ -1,7 +1,6 @@
 -- Programs that were played by a schedule: `init`, the loop, `final`.
 use Rattle.std.specs.Prelude.{◌≡◌, ◌≢◌, ◌↔◌, ◌+◌, ◌*◌, ◌≤◌, ◌++◌, [], ℕ, ℤ, List, IsTrue, length, is_some}
 use Rattle.pipe_model.specs.declared.event.Event.{Event}
-use Rattle.pipe_model.specs.declared.report.Report.{Report}
 use Rattle.pipe_model.specs.Language.Programs.{natural}
 use Rattle.pipe_model.specs.Language.ProgramsOfTrees.{pipeline_after_init, whole_of}
 use Rattle.pipe_model.specs.Language.SyntaxTree.{SyntaxTree}

@@ -116,8 +116,9 @@ fn end_after_loop(
         finished,
         cells,
     } = play;
-    let ProgramResults { output, trap } =
-        ends::end_after_loop(alloc, machine, prepared, &run_log, &reports, finished, cells)?;
+    let ProgramResults { output, trap } = ends::end_after_loop(
+        alloc, machine, prepared, &run_log, &reports, finished, cells,
+    )?;
     Ok(Played {
         run_log,
         reports,

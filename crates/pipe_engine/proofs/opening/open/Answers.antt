@@ -1,8 +1,7 @@
-use Rattle.std.proofs.Common.{◌≡◌, ◌∙◌, ◌≤◌, ◌+◌, ap, arith, length, subst, sym}
+use Rattle.std.proofs.Common.{◌∙◌, ◌≤◌, ◌+◌, ap, arith, subst, sym}
 use Rattle.cell_store.proofs.DeclaredCells.{values_length}
 use Rattle.frame_book.specs.BookStates.{BookState}
 use Rattle.pipe_engine.proofs.Openings.{can_drive, map_both}
-use Rattle.pipe_engine.specs.OpenedHalls.{IsOpenedFor}
 use Rattle.pipe_hall.specs.SeatViews.{constants_of}
 use Rattle.pipe_model.specs.Language.CheckingRules.{cell_total}
 use Rattle.pipe_worker.specs.Machines.{cells_of}
