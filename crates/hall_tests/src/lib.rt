@@ -13,11 +13,9 @@ mod checker_rows;
 #[cfg(test)]
 mod closing;
 #[cfg(test)]
-<<<<<<< ours
-mod hold_rows;
-=======
 mod engine_rows;
->>>>>>> theirs
+#[cfg(test)]
+mod hold_rows;
 #[cfg(test)]
 mod opening;
 #[cfg(test)]
