@@ -13,8 +13,6 @@ mod checker_rows;
 #[cfg(test)]
 mod closing;
 #[cfg(test)]
-mod engine_rows;
-#[cfg(test)]
 mod hold_rows;
 #[cfg(test)]
 mod opening;
