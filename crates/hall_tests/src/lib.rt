@@ -15,6 +15,8 @@ mod closing;
 #[cfg(test)]
 mod counting;
 #[cfg(test)]
+mod deque_rows;
+#[cfg(test)]
 mod hold_rows;
 #[cfg(test)]
 mod opening;
