@@ -1,1 +1,2 @@
 pub mod NamedStages
+mod OneEnds

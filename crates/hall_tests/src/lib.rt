@@ -13,6 +13,10 @@ mod checker_rows;
 #[cfg(test)]
 mod closing;
 #[cfg(test)]
+mod counting;
+#[cfg(test)]
+mod deque_rows;
+#[cfg(test)]
 mod hold_rows;
 #[cfg(test)]
 mod opening;
@@ -24,3 +28,5 @@ mod sources;
 mod threads;
 #[cfg(test)]
 mod worker;
+#[cfg(test)]
+mod worker_rows;
