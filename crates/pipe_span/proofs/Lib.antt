@@ -1,0 +1,5 @@
+pub mod AllRows
+pub mod ColumnRows
+pub mod LeftParents
+pub mod StepWeights
+pub mod TracedPaths

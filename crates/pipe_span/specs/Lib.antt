@@ -1,0 +1,4 @@
+pub mod Entries
+pub mod HeaviestPaths
+pub mod Tables
+pub mod WorkAndSpan

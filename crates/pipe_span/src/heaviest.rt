@@ -1,0 +1,106 @@
+//! The heaviest path of all.
+
+ghost use Rattle.std.specs.Prelude.{◌≡◌, ◌<◌, ◌≤◌, ◌*◌, ℕ, length, IfOk};
+ghost use Rattle.std.specs.List.{sum};
+ghost use Rattle.pipe_model.specs.Races.Columns.{AreColumns, IsRising, nodes_at};
+ghost use Rattle.pipe_span.specs.Entries.{AreWeights};
+ghost use Rattle.pipe_span.specs.HeaviestPaths.{instances_before};
+ghost use Rattle.pipe_span.specs.WorkAndSpan.{AreSteps, IsHeaviest, IsWorkAndSpan, node_columns, weights_of};
+
+use crate::last::heaviest_last;
+use crate::rows::{entries_of, rows_of};
+use crate::trace::traced;
+use pipe_model::column::{Column, Columns};
+use pipe_model::list::{ListOf, Numbers};
+use pipe_model::memory::NoMemory;
+use pipe_model::node::{NodeId, NodeIds, Nodes};
+use std::alloc::Global;
+
+/// The work and the span of a dag, and the heaviest path.
+#[derive(Drop)]
+pub struct Span {
+    pub work: i64,
+    pub span: i64,
+    pub path: NodeIds,
+}
+
+// The columns without their ends.
+fn copied_columns(alloc: Global, columns: &[Column]) -> Result<ListOf<Nodes>, NoMemory>
+    ensures { IfOk result (λ copies. copies ≡ node_columns columns.now) }
+{
+    let mut copies = ListOf::with_capacity(alloc, columns.len())?;
+    for column in columns {
+        let nodes = Vec::from_slice(alloc, column.nodes.as_slice())?;
+        copies.push(ListOf::from_vec(nodes))?;
+    }
+    Ok(copies)
+}
+
+// The steps as weights, none of which is negative.
+fn weights(alloc: Global, steps: &[i64]) -> Result<Vec<u64>, NoMemory>
+    requires { AreSteps steps.now }
+    ensures { IfOk result (λ weights. weights.items ≡ weights_of steps.now) }
+{
+    let mut weights = Vec::with_capacity(alloc, steps.len())?;
+    for step in steps {
+        weights.push(*step as u64)?;
+    }
+    Ok(weights)
+}
+
+// The sum of the weights.
+fn sum_of(weights: &[u64]) -> u64
+    requires weights { AreWeights weights.now }
+    requires few { length weights.now ≤ 262145 }
+    ensures sum { result ≡ sum weights.now }
+    ensures below { result ≤ 1000000 * 262145 }
+{
+    let mut total = 0;
+    for weight in weights {
+        total += *weight;
+    }
+    total
+}
+
+// The heaviest path, and its weight.
+fn heaviest_path(
+    alloc: Global,
+    columns: &[Nodes],
+    weights: &[u64],
+) -> Result<(u64, Vec<NodeId>), NoMemory>
+    requires some { 0 < length columns.now }
+    requires columns { AreColumns columns.now }
+    requires rising { (i : ℕ) → IsRising (nodes_at columns.now i) }
+    requires weights { AreWeights weights.now }
+    requires whole { length weights.now ≡ instances_before columns.now (length columns.now) }
+    requires few { instances_before columns.now (length columns.now) ≤ 262145 }
+    ensures heaviest { IfOk result (λ r. IsHeaviest columns.now weights.now r.1.items r.0) }
+    ensures below { IfOk result (λ r. r.0 ≤ 1000000 * 262145) }
+{
+    let table = rows_of(alloc, columns, weights)?;
+    let rows = table.as_slice();
+    let last = heaviest_last(rows);
+    let weight = entries_of(rows, last.iteration as usize)[last.index as usize].weight;
+    let path = traced(alloc, columns, weights, rows, last)?;
+    Ok((weight, path))
+}
+
+/// Returns work and span of the columns, whose instances take these steps, and the heaviest path.
+/// Takes time linear in the number of instances. Returns an error only if memory runs out.
+pub fn heaviest(alloc: Global, columns: &Columns, steps: &Numbers) -> Result<Span, NoMemory>
+    requires columns { AreColumns (node_columns columns.now) }
+    requires rising { (i : ℕ) → IsRising (nodes_at (node_columns columns.now) i) }
+    requires whole { length steps.now ≡ instances_before (node_columns columns.now) (length columns.now) }
+    requires few { length steps.now ≤ 262145 }
+    requires steps { AreSteps steps.now }
+    ensures { IfOk result (λ span. IsWorkAndSpan (node_columns columns.now) steps.now span) }
+{
+    let copies = copied_columns(alloc, columns.as_slice())?;
+    let weights = weights(alloc, steps.as_slice())?;
+    let work = sum_of(weights.as_slice()) as i64;
+    if copies.is_empty() {
+        return Ok(Span { work, span: 0, path: ListOf::new(alloc) });
+    }
+    let (span, path) = heaviest_path(alloc, copies.as_slice(), weights.as_slice())?;
+    Ok(Span { work, span: span as i64, path: ListOf::from_vec(path) })
+}
