@@ -13,7 +13,7 @@ not_wait : {k : Kind} → k ≡ Zero → k ≡ Wait → ⊥
 not_wait e f = grind (arith, e, f)
 
 -- the edges into the head of a column
-head_edge : {left right : List Node} {i k : ℕ} → CrossEdge left right i k → k ≡ 0 → (node_at right 0).kind ≡ Zero → (0 ≡ i) × (0 < length left)
+pub head_edge : {left right : List Node} {i k : ℕ} → CrossEdge left right i k → k ≡ 0 → (node_at right 0).kind ≡ Zero → (0 ≡ i) × (0 < length left)
 head_edge (HeadCross h w) e zero_kind = (refl, h)
 head_edge {left} {right} (WaitCross j k w kind h) e zero_kind =
     absurd (not_wait zero_kind (subst (λ n. (node_at right n).kind ≡ Wait) e kind))
@@ -34,7 +34,7 @@ head_none left right k e none zero_kind = record {
 }
 
 -- the edges into a later instance come from the last up to its number
-later_edge : {left right : List Node} {i k : ℕ} → CrossEdge left right i k → 0 < k
+pub later_edge : {left right : List Node} {i k : ℕ} → CrossEdge left right i k → 0 < k
     → ((node_at right k).kind ≡ Wait) × IsLastUpTo left i (node_at right k).number
 later_edge (HeadCross h w) l = absurd (omega (arith, l))
 later_edge (WaitCross j k w kind h) l = (kind, h)

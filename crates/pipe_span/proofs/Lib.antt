@@ -1,4 +1,5 @@
 pub mod AllRows
+pub mod ChosenPaths
 pub mod ColumnRows
 pub mod LeftParents
 pub mod StepWeights

@@ -232,21 +232,23 @@ traced_further columns weights rows x y path h step t =
     let same = t.weight in
     let e = step.weight in
     record {
-      traced = GoesOn x y path t.traced step.edge
-          (λ z other edge p. (
-              let a = no_heavier weights rows h p in
-              let b = along weights rows h edge in
-              omega (arith, a, b, same, e)))
-          (λ z other edge p tie column. (
-              let a = no_heavier weights rows h p in
-              step.ties z edge (omega (arith, a, tie, same)) column));
+      traced = GoesOn x y path t.traced (record {
+        edge = step.edge;
+        most = λ z other edge p. (
+            let a = no_heavier weights rows h p in
+            let b = along weights rows h edge in
+            omega (arith, a, b, same, e));
+        ties = λ z other edge p tie column. (
+            let a = no_heavier weights rows h p in
+            step.ties z edge (omega (arith, a, tie, same)) column);
+      });
       weight = (let a = longer_weight columns weights path y in omega (arith, a, same, e));
     }
 
 -- a traced path is a path
 pub traced_is_path : {columns : List (List Node)} {weights : List ℕ} {x : NodeId} {path : List NodeId} → IsTraced columns weights x path → PathTo columns x path
 traced_is_path (Begins x w none) = Single x w
-traced_is_path (GoesOn x y path t e most ties) = Longer x y path (traced_is_path t) e
+traced_is_path (GoesOn x y path t chosen) = Longer x y path (traced_is_path t) chosen.edge
 
 -- in the order of columns and then indices, a path goes forward
 pub goes_forward : {columns : List (List Node)} {x y : NodeId} → Edge columns x y → x.index < 4294967296

@@ -4,6 +4,7 @@
 mod entry;
 pub mod heaviest;
 mod last;
+pub mod law;
 mod left_parent;
 mod row;
 mod rows;
