@@ -6,7 +6,7 @@ use Rattle.std.proofs.lemmas.List.{get_or_append_left, get_or_past, get_or_push}
 use Rattle.pipe_model.specs.declared.node.Node.{Node}
 use Rattle.pipe_model.specs.Races.Columns.{AreColumns, nodes_at}
 use Rattle.pipe_span.specs.declared.entry.Entry.{Entry}
-use Rattle.pipe_span.specs.Entries.{AreEntries, IsBounded, weight_in}
+use Rattle.pipe_span.specs.Entries.{AreEntries, IsBounded, weight_in, most_entries, most_weight}
 use Rattle.pipe_span.specs.HeaviestPaths.{instances_before}
 use Rattle.pipe_span.specs.Tables.{AreFew, AreRows, left_nodes, left_row, row_at}
 
@@ -107,7 +107,7 @@ left_whole columns weights rows zero h = refl
 left_whole columns weights rows (suc i) h = h.lengths i (omega arith)
 
 pub all_rows : (columns : List (List Node)) (weights : List ℕ) (rows : List (List Entry)) (n : ℕ) → n ≡ length columns
-    → instances_before columns (length columns) ≤ 262145 → HasRows columns weights rows n → AreRows columns weights rows
+    → instances_before columns (length columns) ≤ most_entries → HasRows columns weights rows n → AreRows columns weights rows
 all_rows columns weights rows n e few h = record {
   whole = h.whole ∙ e;
   lengths = λ i. elim (cases_lt i n) [
@@ -120,18 +120,18 @@ all_rows columns weights rows n e few h = record {
   below = λ i. record { each = λ k. bound i k (cases_lt i n) };
 }
   where
-    bound : (i k : ℕ) → (i < n) ⊎ (n ≤ i) → weight_in (row_at rows i) k ≤ 1000000 * 262145
+    bound : (i k : ℕ) → (i < n) ⊎ (n ≤ i) → weight_in (row_at rows i) k ≤ most_weight * most_entries
     bound i k (inl less) =
         let a = (h.below i less).each k in
         let b = column_within columns i (omega (arith, less, e)) in
         omega (arith, a, b, few)
     bound i k (inr past) =
         let whole = h.whole in
-        subst (λ r. weight_in r k ≤ 1000000 * 262145) (sym (get_or_past rows i [] (omega (arith, past, whole)))) (omega arith)
+        subst (λ r. weight_in r k ≤ most_weight * most_entries) (sym (get_or_past rows i [] (omega (arith, past, whole)))) (omega arith)
 
 -- what the limits allow
 pub few_rows : (columns : List (List Node)) (weights : List ℕ) (rows : List (List Entry)) → AreColumns columns → AreRows columns weights rows
-    → instances_before columns (length columns) ≤ 262145 → AreFew rows
+    → instances_before columns (length columns) ≤ most_entries → AreFew rows
 few_rows columns weights rows full h few =
     let whole = h.whole in
     record {

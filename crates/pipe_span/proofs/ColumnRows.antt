@@ -6,7 +6,7 @@ use Rattle.pipe_model.specs.declared.node.Node.{Node}
 use Rattle.pipe_model.specs.Races.Dag.{CrossEdge}
 use Rattle.pipe_span.specs.declared.entry.Entry.{Entry}
 use Rattle.pipe_span.specs.declared.entry.Predecessor.TheVariants.{Absent, Above, Left}
-use Rattle.pipe_span.specs.Entries.{AreEntries, IsBounded, IsEntry, IsLeft, IsNextEntry, entry_at, no_entry, weight_in}
+use Rattle.pipe_span.specs.Entries.{AreEntries, IsBounded, IsEntry, IsLeft, IsNextEntry, entry_at, no_entry, weight_in, most_weight}
 
 -- an instance in a longer row
 longer : (left right : List Node) (left_row row : List Entry) (b : Entry) (w k : ℕ) → k < length row
@@ -79,7 +79,7 @@ no_entries left right left_row row weights first e = subst (λ r. HasEntries lef
 
 pub one_more_entry : (left right : List Node) (left_row row more : List Entry) (b : Entry) (weights : List ℕ) (first k : ℕ) (j : Option ℕ)
     → HasEntries left right left_row row weights first k → IsLeft left right k j
-    → IsNextEntry left_row row j (get_or weights (first + k) 0) b → b.weight ≤ 1000000 * (first + k + 1)
+    → IsNextEntry left_row row j (get_or weights (first + k) 0) b → b.weight ≤ most_weight * (first + k + 1)
     → more ≡ row ++ b ∷ [] → HasEntries left right left_row more weights first (k + 1)
 one_more_entry left right left_row row more b weights first k j h parent step below e =
     let whole = h.whole in
@@ -98,13 +98,13 @@ one_more_entry left right left_row row more b weights first k j h parent step be
       below = record { each = λ n. bound n (cases_order n k) };
     })
   where
-    bound : (n : ℕ) → (n ≡ k) ⊎ ((n < k) ⊎ (k < n)) → weight_in (row ++ b ∷ []) n ≤ 1000000 * (first + (k + 1))
-    bound n (inl same) = subst (λ (x : Entry). x.weight ≤ 1000000 * (first + (k + 1))) (sym (get_or_push row b no_entry n (h.whole ∙ sym same))) (omega (arith, below))
+    bound : (n : ℕ) → (n ≡ k) ⊎ ((n < k) ⊎ (k < n)) → weight_in (row ++ b ∷ []) n ≤ most_weight * (first + (k + 1))
+    bound n (inl same) = subst (λ (x : Entry). x.weight ≤ most_weight * (first + (k + 1))) (sym (get_or_push row b no_entry n (h.whole ∙ sym same))) (omega (arith, below))
     bound n (inr (inl less)) =
         let whole = h.whole in
         let a = h.below.each n in
-        subst (λ (x : Entry). x.weight ≤ 1000000 * (first + (k + 1))) (sym (get_or_append_left row (b ∷ []) no_entry n (omega (arith, less, whole)))) (omega (arith, a))
+        subst (λ (x : Entry). x.weight ≤ most_weight * (first + (k + 1))) (sym (get_or_append_left row (b ∷ []) no_entry n (omega (arith, less, whole)))) (omega (arith, a))
     bound n (inr (inr more)) =
         let whole = h.whole in
-        subst (λ (x : Entry). x.weight ≤ 1000000 * (first + (k + 1)))
+        subst (λ (x : Entry). x.weight ≤ most_weight * (first + (k + 1)))
         (sym (get_or_past (row ++ b ∷ []) n no_entry (omega (arith, length-append row (b ∷ []), whole, more)))) (omega arith)

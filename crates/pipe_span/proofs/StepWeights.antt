@@ -5,16 +5,16 @@ use Rattle.std.proofs.Math.ListN.{get_or-map}
 use Rattle.std.specs.List.{sum}
 use Rattle.pipe_model.specs.declared.node.Node.{Node}
 use Rattle.pipe_model.specs.declared.node.NodeId.{NodeId}
-use Rattle.pipe_span.specs.Entries.{AreWeights}
+use Rattle.pipe_span.specs.Entries.{AreWeights, most_weight}
 use Rattle.pipe_span.specs.WorkAndSpan.{AreSteps, Heaviest, IsHeaviest, IsSpanOf, IsWorkAndSpan, NoColumns, weight_of_steps, weights_of}
 
-step_weight : (z : ℤ) → z ≤ℤ pos 1000000 → weight_of_steps z ≤ 1000000
+step_weight : (z : ℤ) → z ≤ℤ pos most_weight → weight_of_steps z ≤ most_weight
 step_weight (pos n) l = omega (arith, ints, l)
 step_weight (negsuc n) l = omega arith
 
 pub steps_weigh : (steps : List ℤ) → AreSteps steps → AreWeights (weights_of steps)
 steps_weigh steps h = record {
-  each = λ k. subst (λ w. w ≤ 1000000) (sym (get_or-map weight_of_steps steps k (pos 0))) (step_weight (get_or steps k (pos 0)) (h.most k));
+  each = λ k. subst (λ w. w ≤ most_weight) (sym (get_or-map weight_of_steps steps k (pos 0))) (step_weight (get_or steps k (pos 0)) (h.most k));
 }
 
 pub weights_are : (steps : List ℤ) (some : List ℤ) (weights all : List ℕ) → AreSteps steps → some ≡ steps → weights ≡ weights_of some

@@ -1,10 +1,18 @@
--- The heaviest paths to the instances of a column, from those of the column on its left.
+-- Entries of the table of heaviest paths: those of a column, from those of the column on its left.
 use Rattle.std.specs.Prelude.{◌≡◌, ℕ, ℤ, List, [], Option, Some, None, ◌+◌, ◌*◌, ◌<◌, ◌≤◌, ◌≤ℤ◌, ◌<ℤ◌, length, slice_index_or}
 use Rattle.pipe_model.specs.declared.node.Node.{Node}
 use Rattle.pipe_model.specs.Races.Columns.{node_at}
 use Rattle.pipe_model.specs.Races.Dag.{CrossEdge}
 use Rattle.pipe_span.specs.declared.entry.Entry.{Entry}
 use Rattle.pipe_span.specs.declared.entry.Predecessor.TheVariants.{Absent, Above, Left}
+
+-- the most steps of an instance that a program may allow
+abbrev pub most_weight : ℕ
+most_weight = 1000000
+
+-- the most instances that a program may allow, and the one that ends the loop
+abbrev pub most_entries : ℕ
+most_entries = 262145
 
 -- the first `count` instances have numbers up to s, and the others do not
 pub record IsCountUpTo (left : List Node) (s : ℤ) (count : ℕ) : Type 0 where
@@ -17,7 +25,7 @@ pub record IsLeft (left right : List Node) (k : ℕ) (j : Option ℕ) : Type 0 w
   pub edge : (i : ℕ) → j ≡ Some i → CrossEdge left right i k
   pub only : (i : ℕ) → CrossEdge left right i k → j ≡ Some i
 
--- the value past the end of a row
+-- the value of `entry_at` past the end of a row
 abbrev pub no_entry : Entry
 no_entry = record { weight = 0; predecessor = Absent }
 
@@ -27,7 +35,7 @@ entry_at row k = slice_index_or row k no_entry
 abbrev pub weight_in : List Entry → ℕ → ℕ
 weight_in row k = (entry_at row k).weight
 
--- the heaviest path to an instance of weight w after those of its column in `row`, with this left parent
+-- the entry of the next instance of a column, which has weight w and this left parent, after the entries `row` of those above it
 pub record IsNextEntry (left_row row : List Entry) (left : Option ℕ) (w : ℕ) (b : Entry) : Type 0 where
   pub alone : w ≤ b.weight
   pub above : (m : ℕ) → length row ≡ m + 1 → weight_in row m + w ≤ b.weight
@@ -37,7 +45,7 @@ pub record IsNextEntry (left_row row : List Entry) (left : Option ℕ) (w : ℕ)
   pub from_left : (j : ℕ) → b.predecessor ≡ Left j → (left ≡ Some j) × (b.weight ≡ weight_in left_row j + w)
       × ((m : ℕ) → length row ≡ m + 1 → weight_in row m < weight_in left_row j)
 
--- the same in a row that has the instance
+-- entry k of a row, whose instance has weight w
 pub record IsEntry (left right : List Node) (left_row row : List Entry) (w k : ℕ) : Type 0 where
   pub alone : w ≤ weight_in row k
   pub above : (m : ℕ) → k ≡ m + 1 → weight_in row m + w ≤ weight_in row k
@@ -47,14 +55,14 @@ pub record IsEntry (left right : List Node) (left_row row : List Entry) (w k : �
   pub from_left : (j : ℕ) → (entry_at row k).predecessor ≡ Left j → CrossEdge left right j k × (weight_in row k ≡ weight_in left_row j + w)
       × ((m : ℕ) → k ≡ m + 1 → weight_in row m < weight_in left_row j)
 
--- a row of a column whose instances have the weights from `first` on
+-- the entries of a column, the weights of whose instances begin at index `first`
 pub record AreEntries (left right : List Node) (left_row row : List Entry) (weights : List ℕ) (first : ℕ) : Type 0 where
   pub each : (k : ℕ) → k < length row → IsEntry left right left_row row (slice_index_or weights (first + k) 0) k
 
--- no weight in the row is above that of n instances
+-- no weight in the row is above the greatest weight of n instances
 pub record IsBounded (n : ℕ) (row : List Entry) : Type 0 where
-  pub each : (k : ℕ) → weight_in row k ≤ 1000000 * n
+  pub each : (k : ℕ) → weight_in row k ≤ most_weight * n
 
--- no instance weighs more than a million
+-- no instance weighs more than a program may allow
 pub record AreWeights (weights : List ℕ) : Type 0 where
-  pub each : (k : ℕ) → slice_index_or weights k 0 ≤ 1000000
+  pub each : (k : ℕ) → slice_index_or weights k 0 ≤ most_weight

@@ -1,7 +1,7 @@
 //! The heaviest path to one instance, from those to its predecessors.
 
 ghost use Rattle.std.specs.Prelude.{◌≡◌, ◌<◌, ◌≤◌, ◌+◌, ◌*◌, ℕ, length, slice_index_or};
-ghost use Rattle.pipe_span.specs.Entries.{AreWeights, IsBounded, IsNextEntry};
+ghost use Rattle.pipe_span.specs.Entries.{AreWeights, IsBounded, IsNextEntry, most_entries, most_weight};
 
 use pipe_model::list::ListOf;
 
@@ -36,12 +36,12 @@ pub(crate) fn entry_of(
 ) -> Entry
     requires weights { AreWeights weights.now }
     requires place { place < length weights.now }
-    requires few { place ≤ 262144 }
+    requires few { place < most_entries }
     requires left_row { IsBounded place left_row.now }
     requires row { IsBounded place row.now }
     requires left { (j : ℕ) → left ≡ Some j → j < length left_row.now }
     ensures step { IsNextEntry left_row.now row.now left (slice_index_or weights.now place 0) result }
-    ensures below { result.weight ≤ 1000000 * (place + 1) }
+    ensures below { result.weight ≤ most_weight * (place + 1) }
 {
     let weight = weights[place];
     match left {

@@ -3,7 +3,7 @@
 ghost use Rattle.std.specs.Prelude.{◌≡◌, ◌<◌, ◌≤◌, ◌*◌, ℕ, length, IfOk};
 ghost use Rattle.std.specs.List.{sum};
 ghost use Rattle.pipe_model.specs.Races.Columns.{AreColumns, IsRising, nodes_at};
-ghost use Rattle.pipe_span.specs.Entries.{AreWeights};
+ghost use Rattle.pipe_span.specs.Entries.{AreWeights, most_entries, most_weight};
 ghost use Rattle.pipe_span.specs.HeaviestPaths.{instances_before};
 ghost use Rattle.pipe_span.specs.WorkAndSpan.{AreSteps, IsHeaviest, IsWorkAndSpan, node_columns, weights_of};
 
@@ -51,9 +51,9 @@ fn weights(alloc: Global, steps: &[i64]) -> Result<Vec<u64>, NoMemory>
 // The sum of the weights.
 fn sum_of(weights: &[u64]) -> u64
     requires weights { AreWeights weights.now }
-    requires few { length weights.now ≤ 262145 }
+    requires few { length weights.now ≤ most_entries }
     ensures sum { result ≡ sum weights.now }
-    ensures below { result ≤ 1000000 * 262145 }
+    ensures below { result ≤ most_weight * most_entries }
 {
     let mut total = 0;
     for weight in weights {
@@ -73,9 +73,9 @@ fn heaviest_path(
     requires rising { (i : ℕ) → IsRising (nodes_at columns.now i) }
     requires weights { AreWeights weights.now }
     requires whole { length weights.now ≡ instances_before columns.now (length columns.now) }
-    requires few { instances_before columns.now (length columns.now) ≤ 262145 }
+    requires few { instances_before columns.now (length columns.now) ≤ most_entries }
     ensures heaviest { IfOk result (λ r. IsHeaviest columns.now weights.now r.1.items r.0) }
-    ensures below { IfOk result (λ r. r.0 ≤ 1000000 * 262145) }
+    ensures below { IfOk result (λ r. r.0 ≤ most_weight * most_entries) }
 {
     let table = rows_of(alloc, columns, weights)?;
     let rows = table.as_slice();
@@ -91,7 +91,7 @@ pub fn heaviest(alloc: Global, columns: &Columns, steps: &Numbers) -> Result<Spa
     requires columns { AreColumns (node_columns columns.now) }
     requires rising { (i : ℕ) → IsRising (nodes_at (node_columns columns.now) i) }
     requires whole { length steps.now ≡ instances_before (node_columns columns.now) (length columns.now) }
-    requires few { length steps.now ≤ 262145 }
+    requires few { length steps.now ≤ most_entries }
     requires steps { AreSteps steps.now }
     ensures { IfOk result (λ span. IsWorkAndSpan (node_columns columns.now) steps.now span) }
 {

@@ -3,7 +3,7 @@
 ghost use Rattle.std.specs.Prelude.{◌≡◌, ◌≤◌, ◌+◌, length, IfOk};
 ghost use Rattle.pipe_model.specs.Races.Columns.{IsRising, node_at};
 ghost use Rattle.pipe_model.specs.declared.node.Kind.TheVariants.{Zero};
-ghost use Rattle.pipe_span.specs.Entries.{AreEntries, AreWeights, IsBounded};
+ghost use Rattle.pipe_span.specs.Entries.{AreEntries, AreWeights, IsBounded, most_entries};
 
 use crate::entry::{Entry, Row, entry_of};
 use crate::left_parent::{count_up_to, left_parent};
@@ -24,7 +24,7 @@ pub fn row_of(
 ) -> Result<Row, NoMemory>
     requires weights { AreWeights weights.now }
     requires place { first + length right.now ≤ length weights.now }
-    requires few { first + length right.now ≤ 262145 }
+    requires few { first + length right.now ≤ most_entries }
     requires left_row { IsBounded first left_row.now }
     requires whole { length left_row.now ≡ length left.now }
     requires left { IsRising left.now }

@@ -2,7 +2,7 @@
 
 ghost use Rattle.std.specs.Prelude.{◌≡◌, ◌<◌, ◌≤◌, ◌+◌, ℕ, length, IfOk};
 ghost use Rattle.pipe_model.specs.Races.Columns.{AreColumns, IsRising, nodes_at};
-ghost use Rattle.pipe_span.specs.Entries.{AreEntries, AreWeights, IsBounded};
+ghost use Rattle.pipe_span.specs.Entries.{AreEntries, AreWeights, IsBounded, most_entries};
 ghost use Rattle.pipe_span.specs.HeaviestPaths.{instances_before};
 ghost use Rattle.pipe_span.specs.Tables.{AreRows, left_nodes, left_row, row_at};
 
@@ -64,7 +64,7 @@ pub fn rows_of(
     requires rising { (i : ℕ) → IsRising (nodes_at columns.now i) }
     requires weights { AreWeights weights.now }
     requires whole { length weights.now ≡ instances_before columns.now (length columns.now) }
-    requires few { instances_before columns.now (length columns.now) ≤ 262145 }
+    requires few { instances_before columns.now (length columns.now) ≤ most_entries }
     ensures { IfOk result (λ rows. AreRows columns.now weights.now rows) }
 {
     let mut rows: ListOf<Row> = ListOf::with_capacity(alloc, columns.len())?;
