@@ -1,7 +1,7 @@
 -- The rows of the columns so far.
-use Rattle.std.proofs.Common.{◌≡◌, ◌∙◌, ℕ, zero, suc, ◌+◌, ◌*◌, ◌-◌, ◌<◌, ◌≤◌, ◌⊎◌, List, [], ◌∷◌, ◌++◌, length, get_or, refl, sym, ap, subst, arith, inl, inr, length-append}
+use Rattle.std.proofs.Common.{◌≡◌, ◌∙◌, ℕ, zero, suc, ◌+◌, ◌*◌, ◌-◌, ◌<◌, ◌≤◌, ◌⊎◌, List, [], ◌∷◌, ◌++◌, length, refl, sym, ap, subst, arith, inl, inr, length-append}
 use Rattle.std.proofs.Math.Numerals.{add-one}
-use Rattle.std.proofs.lemmas.Bool.{cases_lt, cases_order}
+use Rattle.std.proofs.lemmas.Bool.{cases_lt}
 use Rattle.std.proofs.lemmas.List.{get_or_append_left, get_or_past, get_or_push}
 use Rattle.pipe_model.specs.declared.node.Node.{Node}
 use Rattle.pipe_model.specs.Races.Columns.{AreColumns, nodes_at}
@@ -86,10 +86,10 @@ one_more_row columns weights rows more row n h len entries below e =
           (subst (λ r. length r ≡ length (nodes_at columns n)) new len);
       each = case (λ i. AreEntries (left_nodes columns i) (nodes_at columns i) (left_row (rows ++ row ∷ []) i) (row_at (rows ++ row ∷ []) i) weights (instances_before columns i))
           (λ i l. subst (λ r. AreEntries (left_nodes columns i) (nodes_at columns i) (left_row (rows ++ row ∷ []) i) r weights (instances_before columns i)) (old i l)
-              (subst (λ s. AreEntries (left_nodes columns i) (nodes_at columns i) s (row_at rows i) weights (instances_before columns i)) (left i (omega (arith, l)))
-              (h.each i l)))
+          (subst (λ s. AreEntries (left_nodes columns i) (nodes_at columns i) s (row_at rows i) weights (instances_before columns i)) (left i (omega (arith, l)))
+          (h.each i l)))
           (subst (λ r. AreEntries (left_nodes columns n) (nodes_at columns n) (left_row (rows ++ row ∷ []) n) r weights (instances_before columns n)) new
-              (subst (λ s. AreEntries (left_nodes columns n) (nodes_at columns n) s row weights (instances_before columns n)) (left n (omega arith)) entries));
+          (subst (λ s. AreEntries (left_nodes columns n) (nodes_at columns n) s row weights (instances_before columns n)) (left n (omega arith)) entries));
       below = case (λ i. IsBounded (instances_before columns i + length (nodes_at columns i)) (row_at (rows ++ row ∷ []) i))
           (λ i l. subst (IsBounded (instances_before columns i + length (nodes_at columns i))) (old i l) (h.below i l))
           (subst (IsBounded (instances_before columns n + length (nodes_at columns n))) new below);

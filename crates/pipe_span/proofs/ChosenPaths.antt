@@ -1,5 +1,5 @@
 -- One heaviest path is chosen.
-use Rattle.std.proofs.Common.{◌≡◌, ◌∙◌, ℕ, ℤ, ◌+◌, ◌<◌, ◌≤◌, ◌⊎◌, List, [], ◌∷◌, ◌++◌, length, pos, refl, sym, ap, subst, arith, inl, inr}
+use Rattle.std.proofs.Common.{◌≡◌, ◌∙◌, ℕ, ℤ, ◌+◌, ◌⊎◌, List, [], ◌∷◌, ◌++◌, length, pos, refl, sym, ap, subst, arith, inl, inr}
 use Rattle.std.proofs.lemmas.Bool.{cases_eq, cases_lt, cases_order}
 use Rattle.std.proofs.lemmas.Int.{ints}
 use Rattle.pipe_model.specs.declared.node.Kind.TheVariants.{Zero}
@@ -9,7 +9,7 @@ use Rattle.pipe_model.specs.Races.Columns.{AreColumns, at, node_at, nodes_at}
 use Rattle.pipe_model.specs.Races.Dag.{AcrossEdge, CrossEdge, DownEdge, Edge, IsLastUpTo}
 use Rattle.pipe_span.specs.declared.heaviest.Span.{Span}
 use Rattle.pipe_span.specs.HeaviestPaths.{Begins, GoesOn, IsBefore, IsChosenFor, IsHeaviestTo, IsTraced, PathTo, path_weight}
-use Rattle.pipe_span.specs.WorkAndSpan.{Heaviest, IsSpanOf, IsWorkAndSpan, NoColumns, weights_of}
+use Rattle.pipe_span.specs.WorkAndSpan.{Heaviest, IsSpanOf, NoColumns}
 use Rattle.pipe_span.specs.SpanLaws.{ColumnsHaveOneSpan}
 use Rattle.pipe_span.proofs.LeftParents.{head_edge, later_edge}
 use Rattle.pipe_span.proofs.TracedPaths.{path_ends, traced_is_path}
@@ -44,7 +44,7 @@ left_same columns x z y h e f apart away =
     let d = b.0 in
     let same : z.iteration ≡ x.iteration = omega (arith, c, d) in
     let index : x.index ≡ z.index = cross_same x.index z.index y.index (h.first (x.iteration + 1)) a.1
-        (subst (λ i. CrossEdge (nodes_at columns i) (nodes_at columns (i + 1)) z.index y.index) same b.1) in
+    (subst (λ i. CrossEdge (nodes_at columns i) (nodes_at columns (i + 1)) z.index y.index) same b.1) in
     subst (λ i. x ≡ at i z.index) (sym same) (ap (at x.iteration) index)
 
 -- an instance has one chosen predecessor
@@ -69,7 +69,7 @@ traced_same {columns} h (Begins y w none) (GoesOn x z path t c) e = absurd (none
 traced_same {columns} h (GoesOn x y path t c) (Begins z v none) e = absurd (none x (subst (λ n. Edge columns x n) e c.edge))
 traced_same {columns} {weights} h (GoesOn x y path t c) (GoesOn v z other u d) e =
     let same = chosen_same columns weights x v y path other h (traced_is_path t) (traced_is_path u) c
-        (subst (λ n. IsChosenFor columns weights n v other) (sym e) d) in
+    (subst (λ n. IsChosenFor columns weights n v other) (sym e) d) in
     subst (λ r. path ++ y ∷ [] ≡ r ++ z ∷ []) (traced_same h t u same) (ap (λ n. path ++ n ∷ []) e)
 
 order : (x y : NodeId) → (x ≡ y) ⊎ (IsBefore x y ⊎ IsBefore y x)

@@ -3,9 +3,7 @@ use Rattle.std.proofs.Common.{◌≡◌, ℕ, ◌+◌, ◌*◌, ◌<◌, ◌≤�
 use Rattle.std.proofs.lemmas.Bool.{cases_lt, cases_order}
 use Rattle.std.proofs.lemmas.List.{get_or_append_left, get_or_past, get_or_push}
 use Rattle.pipe_model.specs.declared.node.Node.{Node}
-use Rattle.pipe_model.specs.Races.Dag.{CrossEdge}
 use Rattle.pipe_span.specs.declared.entry.Entry.{Entry}
-use Rattle.pipe_span.specs.declared.entry.Predecessor.TheVariants.{Absent, Above, Left}
 use Rattle.pipe_span.specs.Entries.{AreEntries, IsBounded, IsEntry, IsLeft, IsNextEntry, entry_at, no_entry, weight_in, most_weight}
 
 -- an instance in a longer row
@@ -24,13 +22,18 @@ longer left right left_row row b w k l h =
           (r.0, ap (λ (x : Entry). x.weight) (sym (same k (omega arith))) ∙ r.1, r.2));
       from_above = λ e. (
           let r = h.from_above (ap (λ (x : Entry). x.predecessor) (same k (omega arith)) ∙ e) in
-          let f = r.1 in
-          (r.0, r.1, ap (λ (x : Entry). x.weight) (sym (same k (omega arith))) ∙ (r.2
-              ∙ ap (λ (x : Entry). x.weight + w) (same r.0 (omega (arith, f))))));
+          let f = r.1 in (
+            r.0,
+            r.1,
+            ap (λ (x : Entry). x.weight) (sym (same k (omega arith))) ∙ (r.2
+                ∙ ap (λ (x : Entry). x.weight + w) (same r.0 (omega (arith, f)))),
+          ));
       from_left = λ j e. (
-          let r = h.from_left j (ap (λ (x : Entry). x.predecessor) (same k (omega arith)) ∙ e) in
-          (r.0, ap (λ (x : Entry). x.weight) (sym (same k (omega arith))) ∙ r.1,
-          λ m f. subst (λ (x : Entry). x.weight < weight_in left_row j) (same m (omega (arith, f))) (r.2 m f)));
+          let r = h.from_left j (ap (λ (x : Entry). x.predecessor) (same k (omega arith)) ∙ e) in (
+            r.0,
+            ap (λ (x : Entry). x.weight) (sym (same k (omega arith))) ∙ r.1,
+            λ m f. subst (λ (x : Entry). x.weight < weight_in left_row j) (same m (omega (arith, f))) (r.2 m f),
+          ));
     }
 
 -- the last instance of a row
@@ -51,13 +54,18 @@ last_entry left right left_row row b w k j e parent h =
           (omega (arith, e, z), ap (λ (x : Entry). x.weight) (sym here) ∙ r.1, λ i c. none_some (sym r.2 ∙ parent.only i c)));
       from_above = λ f. (
           let r = h.from_above (ap (λ (x : Entry). x.predecessor) here ∙ f) in
-          let g = r.1 in
-          (r.0, omega (arith, e, g), ap (λ (x : Entry). x.weight) (sym here) ∙ (r.2
-              ∙ ap (λ (x : Entry). x.weight + w) (same r.0 (omega (arith, e, g))))));
+          let g = r.1 in (
+            r.0,
+            omega (arith, e, g),
+            ap (λ (x : Entry). x.weight) (sym here) ∙ (r.2
+                ∙ ap (λ (x : Entry). x.weight + w) (same r.0 (omega (arith, e, g)))),
+          ));
       from_left = λ i f. (
-          let r = h.from_left i (ap (λ (x : Entry). x.predecessor) here ∙ f) in
-          (parent.edge i r.0, ap (λ (x : Entry). x.weight) (sym here) ∙ r.1,
-          λ m g. subst (λ (x : Entry). x.weight < weight_in left_row i) (same m (omega (arith, g))) (r.2 m (omega (arith, e, g)))));
+          let r = h.from_left i (ap (λ (x : Entry). x.predecessor) here ∙ f) in (
+            parent.edge i r.0,
+            ap (λ (x : Entry). x.weight) (sym here) ∙ r.1,
+            λ m g. subst (λ (x : Entry). x.weight < weight_in left_row i) (same m (omega (arith, g))) (r.2 m (omega (arith, e, g))),
+          ));
     }
   where
     none_some : {i : ℕ} → None ≡ Some i → ⊥

@@ -1,9 +1,9 @@
 -- Left parents: by the count of the instances up to a number.
-use Rattle.std.proofs.Common.{◌≡◌, Option, ℕ, zero, suc, ℤ, ◌+◌, ◌-◌, ◌<◌, ◌≤◌, ◌<ℤ◌, ◌≤ℤ◌, List, [], Some, None, length, refl, sym, ap, subst, arith, inl, inr}
+use Rattle.std.proofs.Common.{◌≡◌, Option, ℕ, ℤ, ◌+◌, ◌-◌, ◌<◌, ◌<ℤ◌, ◌≤ℤ◌, List, Some, None, length, refl, sym, ap, subst, arith, inl, inr}
 use Rattle.std.proofs.lemmas.Bool.{cases_order}
 use Rattle.std.proofs.lemmas.Int.{ints}
 use Rattle.pipe_model.specs.declared.node.Kind.{Kind}
-use Rattle.pipe_model.specs.declared.node.Kind.TheVariants.{Zero, Wait, Continue}
+use Rattle.pipe_model.specs.declared.node.Kind.TheVariants.{Zero, Wait}
 use Rattle.pipe_model.specs.declared.node.Node.{Node}
 use Rattle.pipe_model.specs.Races.Columns.{node_at, IsRising}
 use Rattle.pipe_model.specs.Races.Dag.{CrossEdge, HeadCross, WaitCross, IsLastUpTo}

@@ -1,10 +1,9 @@
 -- The weights in the rows are those of the heaviest paths, and the predecessors trace them.
-use Rattle.std.proofs.Common.{◌≡◌, ◌∙◌, ℕ, zero, suc, ◌+◌, ◌*◌, ◌-◌, ◌<◌, ◌≤◌, ◌⊎◌, List, [], ◌∷◌, ◌++◌, Option, Some, None, length, get_or, refl, sym, ap, subst, arith, inl, inr, append_assoc, append-nil, reverse}
+use Rattle.std.proofs.Common.{◌≡◌, ◌∙◌, ℕ, ◌+◌, ◌*◌, ◌-◌, ◌<◌, ◌≤◌, List, [], ◌∷◌, ◌++◌, Option, Some, None, length, refl, sym, ap, subst, arith, inl, inr, append_assoc, append-nil, reverse}
 use Rattle.std.proofs.Math.Numerals.{add-one}
 use Rattle.std.proofs.lemmas.Bool.{cases_lt}
 use Rattle.std.proofs.lemmas.List.{get_or_past, reverse-append}
 use Rattle.std.proofs.lemmas.List.Sums.{sum_by-append}
-use Rattle.std.specs.List.{sum_by}
 use Rattle.pipe_model.specs.declared.node.Node.{Node}
 use Rattle.pipe_model.specs.declared.node.NodeId.{NodeId}
 use Rattle.pipe_model.specs.Races.Columns.{IsNodeOf, at, nodes_at}
@@ -12,8 +11,8 @@ use Rattle.pipe_model.specs.Races.Dag.{AcrossEdge, CrossEdge, DownEdge, Edge, He
 use Rattle.pipe_span.specs.declared.entry.Entry.{Entry}
 use Rattle.pipe_span.specs.declared.entry.Predecessor.{Predecessor}
 use Rattle.pipe_span.specs.declared.entry.Predecessor.TheVariants.{Absent, Above, Left}
-use Rattle.pipe_span.specs.Entries.{IsEntry, entry_at, weight_in}
-use Rattle.pipe_span.specs.HeaviestPaths.{Begins, GoesOn, IsTraced, Longer, PathTo, Single, instances_before, path_weight, weight_at, weight_of}
+use Rattle.pipe_span.specs.Entries.{IsEntry, weight_in}
+use Rattle.pipe_span.specs.HeaviestPaths.{Begins, GoesOn, IsTraced, Longer, PathTo, Single, path_weight, weight_at, weight_of}
 use Rattle.pipe_span.specs.WorkAndSpan.{IsHeaviest}
 use Rattle.pipe_span.specs.Tables.{AreRows, HasPredecessor, IsHeaviestLast, IsIn, predecessor_of, entry_to, left_nodes, left_row, row_at, weight_to}
 
@@ -159,6 +158,7 @@ step_back columns weights rows x y h w e = by_predecessor (entry_to rows y).pred
   where
     some_same : {a b : NodeId} → Some a ≡ Some b → a ≡ b
     some_same f = grind (arith, f)
+
     by_predecessor : (s : Predecessor) → (entry_to rows y).predecessor ≡ s → IsStepBack columns weights rows x y
     by_predecessor Absent s = absurd (let f : None ≡ Some x = subst (λ t. predecessor_of y t ≡ Some x) s e in grind (arith, f))
     by_predecessor Above s =
@@ -178,6 +178,7 @@ no_step_back columns weights rows y h w e = by_predecessor (entry_to rows y).pre
         → Edge columns z y → ⊥
     none_into first none (DownEdge i k l) = omega (arith, first)
     none_into first none (AcrossEdge i j k c) = none j (subst (λ l. CrossEdge l (nodes_at columns (i + 1)) j k) (sym (nodes_left_of_next columns i)) c)
+
     by_predecessor : (s : Predecessor) → (entry_to rows y).predecessor ≡ s → ((z : NodeId) → Edge columns z y → ⊥) × (weight_to rows y ≡ weight_of columns weights y)
     by_predecessor Absent s =
         let r = (entry_here columns weights rows y h w).absent s in

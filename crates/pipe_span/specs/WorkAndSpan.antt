@@ -1,6 +1,6 @@
 -- Work and span of a computation dag whose instances take steps (Blumofe and Leiserson 1999): the steps of all instances, and
 -- those of a heaviest path.
-use Rattle.std.specs.Prelude.{◌≡◌, ℕ, ℤ, List, [], ◌<◌, ◌≤◌, ◌≤ℤ◌, ◌⊎◌, pos, negsuc, map, length, slice_index_or}
+use Rattle.std.specs.Prelude.{◌≡◌, ℕ, ℤ, List, [], ◌≤ℤ◌, pos, negsuc, map, slice_index_or}
 use Rattle.std.specs.List.{sum}
 use Rattle.pipe_model.specs.declared.column.Column.{Column}
 use Rattle.pipe_model.specs.declared.node.Node.{Node}

@@ -5,28 +5,30 @@ ghost use Rattle.pipe_span.specs.Entries.{AreWeights, IsBounded, IsNextEntry, mo
 
 use pipe_model::list::ListOf;
 
-/// From where the heaviest path to an instance comes.
+/// The predecessor from which the heaviest path to an instance comes.
 #[derive(Clone, Copy)]
 pub enum Predecessor {
     /// The instance has no predecessor.
     Absent,
-    /// From the instance above it in its column.
+    /// The instance above it in its column.
     Above,
-    /// From the instance with this index in the column on its left.
+    /// The instance with this index in the column on its left.
     Left(usize),
 }
 
-/// The heaviest path to an instance.
+/// The weight of the heaviest path to an instance, and where the path comes from.
 #[derive(Clone, Copy)]
 pub struct Entry {
     pub weight: u64,
     pub predecessor: Predecessor,
 }
 
-/// The heaviest paths to the instances of a column.
+/// The entries of the instances of a column.
 pub type Row = ListOf<Entry>;
 
-// The heaviest path to the instance after those of the row, which is number `place` of all.
+// The entry of the next instance of a column, after those above it in `row`. It is instance `place`
+// of all, in column order, and `left` is the index of its left parent. If the paths to both
+// predecessors are equally heavy, it comes from the one above.
 pub(crate) fn entry_of(
     left_row: &[Entry],
     row: &[Entry],
@@ -47,16 +49,28 @@ pub(crate) fn entry_of(
     match left {
         None => {
             if row.len() == 0 {
-                return Entry { weight, predecessor: Predecessor::Absent };
+                return Entry {
+                    weight,
+                    predecessor: Predecessor::Absent,
+                };
             }
-            Entry { weight: row[row.len() - 1].weight + weight, predecessor: Predecessor::Above }
+            Entry {
+                weight: row[row.len() - 1].weight + weight,
+                predecessor: Predecessor::Above,
+            }
         }
         Some(j) => {
             let across = left_row[j].weight;
             if row.len() > 0 && row[row.len() - 1].weight >= across {
-                return Entry { weight: row[row.len() - 1].weight + weight, predecessor: Predecessor::Above };
+                return Entry {
+                    weight: row[row.len() - 1].weight + weight,
+                    predecessor: Predecessor::Above,
+                };
             }
-            Entry { weight: across + weight, predecessor: Predecessor::Left(j) }
+            Entry {
+                weight: across + weight,
+                predecessor: Predecessor::Left(j),
+            }
         }
     }
 }

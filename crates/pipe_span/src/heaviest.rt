@@ -1,4 +1,4 @@
-//! The heaviest path of all.
+//! Work, span and the heaviest path of columns of stage instances.
 
 ghost use Rattle.std.specs.Prelude.{◌≡◌, ◌<◌, ◌≤◌, ◌*◌, ℕ, length, IfOk};
 ghost use Rattle.std.specs.List.{sum};
@@ -16,11 +16,15 @@ use pipe_model::memory::NoMemory;
 use pipe_model::node::{NodeId, NodeIds, Nodes};
 use std::alloc::Global;
 
-/// The work and the span of a dag, and the heaviest path.
+/// Work and span of a computation dag, and its heaviest path (Blumofe and Leiserson, "Scheduling
+/// Multithreaded Computations by Work Stealing", JACM 1999).
 #[derive(Drop)]
 pub struct Span {
+    /// The steps of all instances together.
     pub work: i64,
+    /// The steps of the instances of the heaviest path together.
     pub span: i64,
+    /// The instances of the heaviest path, first instance first; empty without columns.
     pub path: NodeIds,
 }
 
@@ -36,7 +40,7 @@ fn copied_columns(alloc: Global, columns: &[Column]) -> Result<ListOf<Nodes>, No
     Ok(copies)
 }
 
-// The steps as weights, none of which is negative.
+// The steps as weights.
 fn weights(alloc: Global, steps: &[i64]) -> Result<Vec<u64>, NoMemory>
     requires { AreSteps steps.now }
     ensures { IfOk result (λ weights. weights.items ≡ weights_of steps.now) }
@@ -62,7 +66,7 @@ fn sum_of(weights: &[u64]) -> u64
     total
 }
 
-// The heaviest path, and its weight.
+// The weight of the heaviest path, and its instances.
 fn heaviest_path(
     alloc: Global,
     columns: &[Nodes],
@@ -85,8 +89,21 @@ fn heaviest_path(
     Ok((weight, path))
 }
 
-/// Returns work and span of the columns, whose instances take these steps, and the heaviest path.
-/// Takes time linear in the number of instances. Returns an error only if memory runs out.
+/// Returns work, span and the heaviest path of the dag of the columns.
+///
+/// Each column has an instance, its first has kind `Zero`, and stage numbers rise along it. `steps`
+/// has one number from 0 to 1,000,000 for each instance, column after column, at most 262,145 in
+/// all.
+///
+/// A path is a list of instances, each with an edge of the dag to the next. The returned one is
+/// traced back from its last instance, and no path is heavier. If equally heavy paths lead to
+/// several instances, the first of these in column order is the last of the path; if equally heavy
+/// paths come from two predecessors, the one in the same column is on the path. Takes time and
+/// memory linear in the number of instances.
+///
+/// # Errors
+///
+/// Only out of memory.
 pub fn heaviest(alloc: Global, columns: &Columns, steps: &Numbers) -> Result<Span, NoMemory>
     requires columns { AreColumns (node_columns columns.now) }
     requires rising { (i : ℕ) → IsRising (nodes_at (node_columns columns.now) i) }
@@ -99,8 +116,16 @@ pub fn heaviest(alloc: Global, columns: &Columns, steps: &Numbers) -> Result<Spa
     let weights = weights(alloc, steps.as_slice())?;
     let work = sum_of(weights.as_slice()) as i64;
     if copies.is_empty() {
-        return Ok(Span { work, span: 0, path: ListOf::new(alloc) });
+        return Ok(Span {
+            work,
+            span: 0,
+            path: ListOf::new(alloc),
+        });
     }
     let (span, path) = heaviest_path(alloc, copies.as_slice(), weights.as_slice())?;
-    Ok(Span { work, span: span as i64, path: ListOf::from_vec(path) })
+    Ok(Span {
+        work,
+        span: span as i64,
+        path: ListOf::from_vec(path),
+    })
 }

@@ -21,7 +21,8 @@ fn first_heaviest(row: &[Entry]) -> usize
     most
 }
 
-/// Returns the first instance in column order to which a heaviest path leads.
+/// Returns the instance to which the heaviest path of all leads; of several, the first in column
+/// order.
 pub fn heaviest_last(rows: &[Row]) -> NodeId
     requires few { AreFew rows.now }
     requires some { 0 < length rows.now }
@@ -38,5 +39,8 @@ pub fn heaviest_last(rows: &[Row]) -> NodeId
             index = most;
         }
     }
-    NodeId { iteration: column as u32, index: index as u32 }
+    NodeId {
+        iteration: column as u32,
+        index: index as u32,
+    }
 }

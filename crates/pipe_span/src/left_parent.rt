@@ -1,4 +1,5 @@
-//! Left parents: the predecessor of an instance in the column on its left.
+//! Left parents: the predecessor of an instance in the column on its left, by counting along both
+//! columns.
 
 ghost use Rattle.std.specs.Prelude.{◌≡◌, ◌<◌, ◌≤◌, ℕ, ◌≤ℤ◌, length};
 ghost use Rattle.pipe_model.specs.Races.Columns.{IsRising, node_at};

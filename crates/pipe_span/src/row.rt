@@ -1,4 +1,4 @@
-//! The heaviest paths to the instances of a column, from those of the column on its left.
+//! One row of the table: the entries of a column, from those of the column on its left.
 
 ghost use Rattle.std.specs.Prelude.{◌≡◌, ◌≤◌, ◌+◌, length, IfOk};
 ghost use Rattle.pipe_model.specs.Races.Columns.{IsRising, node_at};
@@ -12,8 +12,8 @@ use pipe_model::memory::NoMemory;
 use pipe_model::node::Node;
 use std::alloc::Global;
 
-/// Returns the heaviest paths to the instances of the right column, which is preceded by `first`
-/// instances. Takes time linear in both columns. Returns an error only if memory runs out.
+/// Returns the entries of the right column, before which there are `first` instances in column
+/// order. Takes time linear in both columns. Returns an error only if memory runs out.
 pub fn row_of(
     alloc: Global,
     left: &[Node],

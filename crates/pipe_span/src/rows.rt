@@ -1,4 +1,4 @@
-//! The heaviest paths to all instances, column after column.
+//! The table of heaviest paths: a row for each column.
 
 ghost use Rattle.std.specs.Prelude.{◌≡◌, ◌<◌, ◌≤◌, ◌+◌, ℕ, length, IfOk};
 ghost use Rattle.pipe_model.specs.Races.Columns.{AreColumns, IsRising, nodes_at};
@@ -53,13 +53,9 @@ fn entries_left_of(rows: &[Row], i: usize) -> &[Entry]
     entries_of(rows, i - 1)
 }
 
-/// Returns the heaviest paths to all instances. Takes time linear in their number. Returns an error
+/// Returns the table of all columns. Takes time linear in the number of instances. Returns an error
 /// only if memory runs out.
-pub fn rows_of(
-    alloc: Global,
-    columns: &[Nodes],
-    weights: &[u64],
-) -> Result<ListOf<Row>, NoMemory>
+pub fn rows_of(alloc: Global, columns: &[Nodes], weights: &[u64]) -> Result<ListOf<Row>, NoMemory>
     requires columns { AreColumns columns.now }
     requires rising { (i : ℕ) → IsRising (nodes_at columns.now i) }
     requires weights { AreWeights weights.now }

@@ -1,4 +1,4 @@
-//! The heaviest path to an instance, traced back.
+//! The heaviest path to an instance, traced back through the table.
 
 ghost use Rattle.std.specs.Prelude.{◌≡◌, ◌<◌, ℕ, length, IfOk};
 ghost use Rattle.pipe_model.specs.declared.node.NodeId.{NodeId};
@@ -6,7 +6,7 @@ ghost use Rattle.pipe_model.specs.Races.Columns.{AreColumns};
 ghost use Rattle.pipe_span.specs.HeaviestPaths.{IsTraced, path_weight};
 ghost use Rattle.pipe_span.specs.Tables.{AreFew, AreRows, HasPredecessor, IsIn, predecessor_of, entry_to, weight_to};
 
-use crate::entry::{Row, Predecessor};
+use crate::entry::{Predecessor, Row};
 use crate::rows::entries_of;
 use pipe_model::memory::NoMemory;
 use pipe_model::node::{NodeId, Nodes};
@@ -22,13 +22,19 @@ fn before(rows: &[Row], x: NodeId) -> Option<NodeId>
     let entry = entries_of(rows, x.iteration as usize)[x.index as usize];
     match entry.predecessor {
         Predecessor::Absent => None,
-        Predecessor::Above => Some(NodeId { iteration: x.iteration, index: x.index - 1 }),
-        Predecessor::Left(j) => Some(NodeId { iteration: x.iteration - 1, index: j as u32 }),
+        Predecessor::Above => Some(NodeId {
+            iteration: x.iteration,
+            index: x.index - 1,
+        }),
+        Predecessor::Left(j) => Some(NodeId {
+            iteration: x.iteration - 1,
+            index: j as u32,
+        }),
     }
 }
 
-/// Returns the heaviest path to `last`, of several the one that ties choose. Returns an error only
-/// if memory runs out.
+/// Returns the heaviest path to `last`; of several, the one that the rules for equal weights choose.
+/// Returns an error only if memory runs out.
 pub fn traced(
     alloc: Global,
     columns: &[Nodes],

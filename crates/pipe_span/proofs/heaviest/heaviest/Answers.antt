@@ -1,7 +1,6 @@
-use Rattle.std.proofs.Common.{◌≡◌, ◌∙◌, List, [], length, ap, arith, sym, subst, w64}
+use Rattle.std.proofs.Common.{◌≡◌, ◌∙◌, [], length, ap, arith, sym, w64}
 use Rattle.std.proofs.lemmas.Int.{to_z_pos}
 use Rattle.std.proofs.lemmas.List.{nil_from_length}
-use Rattle.pipe_model.specs.declared.node.Node.{Node}
 use Rattle.pipe_span.specs.WorkAndSpan.{node_columns}
 use Rattle.pipe_span.specs.WorkAndSpan.{IsHeaviest, weights_of}
 use Rattle.pipe_span.proofs.StepWeights.{no_columns, some_columns, weights_are}

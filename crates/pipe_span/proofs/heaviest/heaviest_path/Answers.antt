@@ -1,4 +1,4 @@
-use Rattle.std.proofs.Common.{◌≡◌, List, ap}
+use Rattle.std.proofs.Common.{List, ap}
 use Rattle.pipe_span.specs.declared.entry.Entry.{Entry}
 use Rattle.pipe_span.specs.Entries.{entry_at}
 use Rattle.pipe_span.specs.Tables.{AreRows}

@@ -1,5 +1,5 @@
-use Rattle.std.proofs.Common.{arith, rules}
-use Rattle.pipe_span.proofs.LeftParents.{head_left, head_none, no_wait, wait_left, wait_none}
+use Rattle.std.proofs.Common.{arith}
+use Rattle.pipe_span.proofs.LeftParents.{head_left, wait_left}
 use Rattle.pipe_span.proofs.left_parent.left_parent.Goals as goal
 
 pub returns-then-k-eq0 : goal.returns-then-k-eq0

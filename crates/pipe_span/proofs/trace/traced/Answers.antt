@@ -1,7 +1,7 @@
-use Rattle.std.proofs.Common.{◌≡◌, ◌∙◌, Some, ap, arith, sym}
+use Rattle.std.proofs.Common.{◌≡◌, ◌∙◌, Some, arith, sym}
 use Rattle.pipe_model.specs.declared.node.NodeId.{NodeId}
 use Rattle.pipe_span.specs.Tables.{predecessor_of, entry_to}
-use Rattle.pipe_span.proofs.TracedPaths.{IsStepBack, IsTracedTo, goes_forward, edge_begins, has_predecessor, is_in, is_node, no_path_yet, one_step_back, step_back, whole_path}
+use Rattle.pipe_span.proofs.TracedPaths.{IsTracedTo, goes_forward, edge_begins, has_predecessor, is_in, is_node, no_path_yet, one_step_back, step_back, whole_path}
 use Rattle.pipe_span.proofs.trace.traced.Goals as goal
 
 pub loop-y-init : goal.loop-y-init
