@@ -1,0 +1,6 @@
+pub mod AllRows
+pub mod ChosenPaths
+pub mod ColumnRows
+pub mod LeftParents
+pub mod StepWeights
+pub mod TracedPaths
