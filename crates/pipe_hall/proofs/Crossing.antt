@@ -22,6 +22,7 @@ use Rattle.frame_book.proofs.row.Iteration.TheSendSync as rows
 use Rattle.frame_book.specs.contracts.book.Book as Book
 use Rattle.frame_book.specs.contracts.book.Book.TheInside as BookFields
 use Rattle.frame_book.specs.declared.payload.Payload as Payload
+use Rattle.pipe_hall.proofs.kept.Kept.TheSendSync as kept
 use Rattle.pipe_hall.proofs.shard.Shard.TheSendSync as shards
 use Rattle.pipe_hall.specs.contracts.hall.HallOf as HallOf
 use Rattle.pipe_hall.specs.contracts.hall.HallOf.TheInside as HallFields
@@ -42,7 +43,7 @@ book M L g h s t =
     (search (program, lists.the_send, rows.the_send, orders.the_send, tickets.the_send, std.crosses, sendable) depth 20))
 
 slot : (M : RattleType) (g : Stands.Ghosts M.Denot) → IsSend M → IsSend (Slot.the_row M g)
-slot M g s = variants_send (Slot.enum M g) (search (book, writers.the_send, shards.the_send, tokens.the_send, sendable) depth 20)
+slot M g s = variants_send (Slot.enum M g) (search (kept.the_send, book, writers.the_send, shards.the_send, tokens.the_send, sendable) depth 20)
 
 module _ (M : RattleType) (c : Carrier.Ghosts M.Denot) (p : Payload.Ghosts M.Denot OmWriter) (g : Stands.Ghosts M.Denot) (s : IsSend M) where
   locks_send : IsSend (Locks.the_row M c p g)

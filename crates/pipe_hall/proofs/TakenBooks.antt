@@ -10,6 +10,7 @@ use Rattle.pipe_model.specs.Runs.State.{State}
 use Rattle.pipe_frame.specs.CallResults.{AdvanceReturns, advance_events, begin_events, rescue_events}
 use Rattle.pipe_frame.specs.HallViews.{BeginsWith, Sees}
 use Rattle.pipe_frame.specs.ResultTokens.{IfGo, IfStarted, IfToken}
+use Rattle.pipe_frame.specs.Ties.{Tie}
 use Rattle.pipe_frame.specs.TokenFields.{TokenFields}
 use Rattle.pipe_frame.specs.declared.results.Begun.{Begun}
 use Rattle.pipe_frame.specs.declared.results.Begun.TheVariants as begun
@@ -24,7 +25,7 @@ use Rattle.pipe_hall.specs.BookCalls.{IsBookCall}
 use Rattle.pipe_hall.specs.HallRule.{view_of}
 use Rattle.pipe_hall.specs.SeatViews.{HallConstants, InstanceData, TheBook, constants_of}
 use Rattle.pipe_hall.specs.Steps.{BookSnapshot, ViewAndSlots, after_book, holding}
-use Rattle.pipe_hall.specs.WorkerSeats.{HasTaken, IsIdle, StaysIdle, name_of}
+use Rattle.pipe_hall.specs.WorkerSeats.{HasTaken, IsDataOf, IsIdle, StaysIdle, name_of}
 use Rattle.pipe_hall.specs.declared.slot.Slot.TheVariants as slots
 use Rattle.pipe_hall.proofs.BookCalls.{events_stamped, unchanged_call}
 use Rattle.pipe_hall.proofs.EndingCalls.{ends_not_stopped, finishes, holds_back, waits_not_stopped}
@@ -52,6 +53,15 @@ module _ (M : Type 0) (m k n : ViewAndSlots M) (b : BookState) (back : Option In
     tokens = shot.tokens;
     traces = shot.traces;
   }
+
+-- ---- the book is lent by what keeps it
+
+module _ (M : Type 0) (m n : ViewAndSlots M) (b x : BookState) where
+  pub lent_of : (back : Option InstanceData) → x ≡ b → HasTaken m n b back → HasTaken m n x back
+  lent_of back e h = subst (λ y. HasTaken m n y back) (sym e) h
+
+  pub lent_with : (f : TokenFields) (t : Tie) → x ≡ b → (d : InstanceData) × HasTaken m n b (Some d) × IsDataOf b f t d → (d : InstanceData) × HasTaken m n x (Some d) × IsDataOf x f t d
+  lent_with f t e h = (h.0, subst (λ y. HasTaken m n y (Some h.0)) (sym e) h.1, subst (λ y. IsDataOf y f t h.0) (sym e) h.2)
 
 -- ---- the book is given back
 

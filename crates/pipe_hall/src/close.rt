@@ -52,7 +52,7 @@ fn take_all<R: Wait, M: Carrier>(
     for k in 0..SHARDS {
         shards.push_reserved(hall.take_shard(rt, seat, k));
     }
-    book
+    book.into_inner()
 }
 
 // Frees the table. Who has taken everything has the book and the shards of the rule.

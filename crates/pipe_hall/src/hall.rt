@@ -9,6 +9,7 @@ ghost use Rattle.pipe_hall.specs.SeatViews.{ShardValue, constants_of};
 ghost use Rattle.pipe_hall.specs.ShardParts.{HaveIdentities};
 
 use crate::carrier::Carrier;
+use crate::kept::Kept;
 use crate::locks::Locks;
 use crate::opening::Opening;
 use crate::shard::{SHARDS, Shard};
@@ -112,8 +113,9 @@ pub fn hall_after<M: Carrier>(
         book: Snapshot::of(&book),
         before: Snapshot::of(before),
     };
+    let kept = Kept::boxed(alloc, book)?;
     let mut slots = Vec::with_capacity(alloc, FREE.len())?;
-    slots.push_reserved(Slot::Book(book));
+    slots.push_reserved(Slot::Book(kept));
     add_shards(alloc, checked, before, &mut passes, &mut slots)?;
     match Table::new(alloc, &FREE, slots, &opening) {
         Ok((table, seat)) => Ok((

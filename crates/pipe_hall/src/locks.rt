@@ -15,6 +15,7 @@ ghost use Rattle.pipe_hall.specs.declared.view.View.{View};
 ghost use Rattle.pipe_frame.specs.declared.token.FrameToken.{FrameToken};
 
 use crate::carrier::Carrier;
+use crate::kept::Kept;
 use crate::rule::{
     HallTable, JoinsInstance, ReturnsBook, ReturnsBookAndToken, ReturnsShard, SplitsInstance,
     TakesSlot,
@@ -75,7 +76,7 @@ impl<M: Carrier> Locks<M> {
         &self,
         rt: &R,
         seat: &mut Seat<Slot<M>, View>,
-    ) -> Book<M, OmWriter>
+    ) -> Kept<Book<M, OmWriter>>
         requires own { seat.old.table_id ≡ self.now.table.shared.table_id }
         ensures own { (seat.new.table_id ≡ seat.old.table_id) × (seat.new.id ≡ seat.old.id) }
         ensures taken { seat.new.me ≡ (view_of (holding seat.old.me.0.it 0 (TheBook result)), (0, Slot.Out) ∷ seat.old.me.1) }
@@ -111,7 +112,7 @@ impl<M: Carrier> Locks<M> {
     }
 
     // Gives the book back.
-    pub(crate) fn return_book(&self, seat: &mut Seat<Slot<M>, View>, book: Book<M, OmWriter>)
+    pub(crate) fn return_book(&self, seat: &mut Seat<Slot<M>, View>, book: Kept<Book<M, OmWriter>>)
         requires own { seat.old.table_id ≡ self.now.table.shared.table_id }
         requires call { (b : BookState) × (back : Option InstanceData) × HoldsBook seat.old.me b back × IsBookCall b back book None }
         ensures own { (seat.new.table_id ≡ seat.old.table_id) × (seat.new.id ≡ seat.old.id) }
@@ -126,7 +127,7 @@ impl<M: Carrier> Locks<M> {
     pub(crate) fn return_book_and_token(
         &self,
         seat: &mut Seat<Slot<M>, View>,
-        book: Book<M, OmWriter>,
+        book: Kept<Book<M, OmWriter>>,
         token: FrameToken<M>,
     ) -> FrameToken<M>
         requires own { seat.old.table_id ≡ self.now.table.shared.table_id }

@@ -1,6 +1,7 @@
 //! What a slot of a hall holds.
 
 use crate::carrier::Carrier;
+use crate::kept::Kept;
 use crate::shard::Shard;
 use frame_book::book::Book;
 use om_shared::writer::OmWriter;
@@ -10,7 +11,7 @@ use pipe_frame::token::FrameToken;
 #[derive(Drop)]
 pub enum Slot<M: Carrier> {
     /// The book.
-    Book(Book<M, OmWriter>),
+    Book(Kept<Book<M, OmWriter>>),
     /// A shard.
     Shard(Shard),
     /// No slot holds this: with it a step tells which token was given out.

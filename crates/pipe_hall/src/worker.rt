@@ -23,6 +23,7 @@ ghost use Rattle.pipe_hall.specs.declared.run_seat.RunSeat.{RunSeat};
 ghost use Rattle.pipe_hall.specs.declared.slot.Slot.{Slot as SlotOf};
 
 use crate::carrier::Carrier;
+use crate::kept::Kept;
 use crate::locks::Locks;
 use crate::run_seat::RunSeat;
 use crate::slot::Slot;
@@ -41,7 +42,7 @@ fn take_book<R: Wait, M: Carrier>(
     rt: &R,
     hall: &Locks<M>,
     seat: &mut Seat<Slot<M>, View>,
-) -> Book<M, OmWriter>
+) -> Kept<Book<M, OmWriter>>
     requires own { seat.old.table_id ≡ hall.now.table.shared.table_id }
     requires idle { IsIdle seat.old.me }
     ensures own { seat.new.table_id ≡ seat.old.table_id }
@@ -68,7 +69,7 @@ fn take_back<R: Wait, M: Carrier>(
     hall: &Locks<M>,
     seat: &mut Seat<Slot<M>, View>,
     token: &mut FrameToken<M>,
-) -> Book<M, OmWriter>
+) -> Kept<Book<M, OmWriter>>
     requires own { seat.old.table_id ≡ hall.now.table.shared.table_id }
     requires idle { IsIdle seat.old.me }
     requires out { IsSeated (hall_of seat.old.table_id seat.old.me) (fields_of token.old) (M.tie token.old.payload) }
@@ -85,7 +86,7 @@ fn take_back<R: Wait, M: Carrier>(
 fn return_token<M: Carrier>(
     hall: &Locks<M>,
     seat: &mut Seat<Slot<M>, View>,
-    book: Book<M, OmWriter>,
+    book: Kept<Book<M, OmWriter>>,
     token: FrameToken<M>,
 ) -> FrameToken<M>
     requires own { seat.old.table_id ≡ hall.now.table.shared.table_id }
@@ -116,8 +117,9 @@ pub(crate) fn begin_at<R: Wait, M: Carrier>(
     ensures token { IfStarted result (IsGivenToken M.stands M.tie (hall_of seat.old.table_id seat.old.me)) }
 {
     let mut book = take_book(rt, hall, seat);
-    let begun = book.begin();
-    let _ = book.entries();
+    let lent = book.get_mut();
+    let begun = lent.begin();
+    let _ = lent.entries();
     match begun {
         Begun::Started(token) => Begun::Started(return_token(hall, seat, book, token)),
         begun => {
@@ -143,8 +145,9 @@ pub(crate) fn check_right_at<R: Wait, M: Carrier>(
     ensures token { IfSome result (IsGivenToken M.stands M.tie (hall_of seat.old.table_id seat.old.me)) }
 {
     let mut book = take_book(rt, hall, seat);
-    let entered = book.check_right(iteration);
-    let _ = book.entries();
+    let lent = book.get_mut();
+    let entered = lent.check_right(iteration);
+    let _ = lent.entries();
     match entered {
         Some(token) => Some(return_token(hall, seat, book, token)),
         None => {
@@ -169,8 +172,9 @@ pub(crate) fn rescue_at<R: Wait, M: Carrier>(
     ensures token { IfToken result (IsGivenToken M.stands M.tie (hall_of seat.old.table_id seat.old.me)) }
 {
     let mut book = take_book(rt, hall, seat);
-    let found = book.rescue();
-    let _ = book.entries();
+    let lent = book.get_mut();
+    let found = lent.rescue();
+    let _ = lent.entries();
     match found {
         Rescue::Token(token) => Rescue::Token(return_token(hall, seat, book, token)),
         found => {
@@ -197,8 +201,9 @@ pub(crate) fn leave_ready_at<R: Wait, M: Carrier>(
     ensures sees { Sees seat.old.me.0.it.seen seat.new.me.0.it.seen [] (λ s. Unit {0}) }
 {
     let mut book = take_back(rt, hall, seat, &mut token);
-    book.leave_ready(token);
-    let _ = book.entries();
+    let lent = book.get_mut();
+    lent.leave_ready(token);
+    let _ = lent.entries();
     hall.return_book(seat, book);
 }
 
@@ -226,8 +231,9 @@ pub(crate) fn advance_at<R: Wait, M: Carrier>(
     ensures token { IfGo result (IsGivenToken M.stands M.tie (hall_of seat.old.table_id seat.old.me)) }
 {
     let mut book = take_back(rt, hall, seat, &mut token);
-    let next = book.advance(token, end, trace);
-    let _ = book.entries();
+    let lent = book.get_mut();
+    let next = lent.advance(token, end, trace);
+    let _ = lent.entries();
     match next {
         Next::Go(token) => Next::Go(return_token(hall, seat, book, token)),
         next => {
@@ -247,7 +253,8 @@ pub(crate) fn stop_at<R: Wait, M: Carrier>(rt: &R, hall: &Locks<M>, seat: &mut S
     ensures stopped { (state_after seat.new.me.0.it.seen).stopped ≡ true }
 {
     let mut book = take_book(rt, hall, seat);
-    book.stop();
-    let _ = book.entries();
+    let lent = book.get_mut();
+    lent.stop();
+    let _ = lent.entries();
     hall.return_book(seat, book);
 }

@@ -1,7 +1,8 @@
 -- The book is taken first, and then the shards in order.
 use Rattle.std.proofs.Common.{◌≡◌, ◌∙◌, ◌+◌, arith, subst, sym, ap, ℕ, List}
 use Rattle.pipe_hall.specs.SeatViews.{ShardValue}
-use Rattle.pipe_hall.specs.Steps.{ViewAndSlots}
+use Rattle.pipe_hall.specs.Closing.{shard_in}
+use Rattle.pipe_hall.specs.Steps.{HoldsAll, ViewAndSlots}
 use Rattle.pipe_hall.proofs.Closing.{HoldsFirst, first_more, first_none, holds_all}
 use Rattle.pipe_hall.proofs.close.take_all.Goals as goal
 
@@ -50,7 +51,8 @@ returns-clause-holds g c =
     let all : c.loop-k.k ≡ 16 = omega (arith, e, f) in
     let start = c.take_book-book.new.seat.me.0.it in
     let b = c.take_book-book.result in
-    holds_all start c.loop-k.seat.me.0.it b c.loop-k.shards.items (subst (λ (n : ℕ). HoldsFirst start b c.loop-k.shards.items n c.loop-k.seat.me.0.it) all c.loop-k.invariant.holds)
+    subst (λ x. HoldsAll c.loop-k.seat.me.0.it.held x (shard_in c.loop-k.shards.items)) (sym c.into_inner.ensures)
+    (holds_all start c.loop-k.seat.me.0.it b c.loop-k.shards.items (subst (λ (n : ℕ). HoldsFirst start b c.loop-k.shards.items n c.loop-k.seat.me.0.it) all c.loop-k.invariant.holds))
 
 pub returns-clause-seen : goal.returns-clause-seen
 returns-clause-seen g c = c.loop-k.invariant.holds.seen ∙ ap (λ (k : ViewAndSlots g.row.M.Denot). k.0.it.seen) c.take_book-book.ensures.taken

@@ -11,17 +11,17 @@ use Rattle.frame_book.specs.BookStates.{HasRisingTickets, Out, events_of, state_
 use Rattle.pipe_hall.specs.SeatViews.{constants_of}
 use Rattle.pipe_hall.proofs.BookCalls.{stopped_later}
 use Rattle.pipe_hall.proofs.EndingCalls.{enters_not_stopped, goes_on}
-use Rattle.pipe_hall.proofs.TakenBooks.{advanced, ended_without, none_goes, sees, stays_idle}
+use Rattle.pipe_hall.proofs.TakenBooks.{advanced, ended_without, lent_with, none_goes, sees, stays_idle}
 use Rattle.pipe_hall.proofs.worker.advance_at.Goals as goal
 
 pub advance-next-requires-clause-stopped : goal.advance-next-requires-clause-stopped
 advance-next-requires-clause-stopped g c =
-    λ e. stopped_later c.args.seat.now.me.0.it.seen (events_of c.take_back-book.result.log) c.take_back-book.ensures.taken.1.seen (c.requires.stopped e)
+    λ e. stopped_later c.args.seat.now.me.0.it.seen (events_of c.get_mut-lent.result.now.log) (lent_with g.row.M.Denot c.args.seat.now.me c.take_back-book.new.seat.me c.take_back-book.result c.get_mut-lent.result.now _ _ c.get_mut-lent.ensures.value c.take_back-book.ensures.taken).1.seen (c.requires.stopped e)
 
 pub return_token-requires-clause-call : goal.return_token-requires-clause-call
 return_token-requires-clause-call g c =
-    let t = c.take_back-book.ensures.taken in
-    let b = c.take_back-book.result in
+    let t = lent_with g.row.M.Denot c.args.seat.now.me c.take_back-book.new.seat.me c.take_back-book.result c.get_mut-lent.result.now _ _ c.get_mut-lent.ensures.value c.take_back-book.ensures.taken in
+    let b = c.get_mut-lent.result.now in
     let f = fields_of c.take_back-book.new.token in
     let same : f ≡ fields_of c.args.token = ap (λ (k : FrameToken g.row.M.Denot). fields_of k) c.take_back-book.ensures.token in
     let e = c.in-Go.ensures in (
@@ -35,8 +35,8 @@ return_token-requires-clause-call g c =
 
 pub return_book-requires : goal.return_book-requires
 return_book-requires g c =
-    let t = c.take_back-book.ensures.taken in
-    let b = c.take_back-book.result in
+    let t = lent_with g.row.M.Denot c.args.seat.now.me c.take_back-book.new.seat.me c.take_back-book.result c.get_mut-lent.result.now _ _ c.get_mut-lent.ensures.value c.take_back-book.ensures.taken in
+    let b = c.get_mut-lent.result.now in
     let f = fields_of c.take_back-book.new.token in
     let same : f ≡ fields_of c.args.token = ap (λ (k : FrameToken g.row.M.Denot). fields_of k) c.take_back-book.ensures.token in
     let e = c.advance-next.ensures in
@@ -53,15 +53,15 @@ return_book-requires g c =
 
 pub returns-in-Go-clause-idle : goal.returns-in-Go-clause-idle
 returns-in-Go-clause-idle g c =
-    let t = c.take_back-book.ensures.taken in
-    stays_idle g.row.M.Denot c.args.seat.now.me c.take_back-book.new.seat.me c.take_back-book.result (Some t.0) t.1 c.return_token.new.seat.me c.advance-next.new.self c.return_token.ensures.given
+    let t = lent_with g.row.M.Denot c.args.seat.now.me c.take_back-book.new.seat.me c.take_back-book.result c.get_mut-lent.result.now _ _ c.get_mut-lent.ensures.value c.take_back-book.ensures.taken in
+    stays_idle g.row.M.Denot c.args.seat.now.me c.take_back-book.new.seat.me c.get_mut-lent.result.now (Some t.0) t.1 c.return_token.new.seat.me c.advance-next.new.self c.return_token.ensures.given
     (ap constants_of c.in-Go.ensures.book) c.entries.ensures.control
 
 pub returns-in-Go-clause-sees : goal.returns-in-Go-clause-sees
 returns-in-Go-clause-sees g c =
     let m = c.args.seat.now.me in
-    let t = c.take_back-book.ensures.taken in
-    let b = c.take_back-book.result in
+    let t = lent_with g.row.M.Denot c.args.seat.now.me c.take_back-book.new.seat.me c.take_back-book.result c.get_mut-lent.result.now _ _ c.get_mut-lent.ensures.value c.take_back-book.ensures.taken in
+    let b = c.get_mut-lent.result.now in
     let f = fields_of c.take_back-book.new.token in
     let same : f ≡ fields_of c.args.token = ap (λ (k : FrameToken g.row.M.Denot). fields_of k) c.take_back-book.ensures.token in
     let z = c.return_token.new.seat.me in
@@ -79,8 +79,8 @@ pub returns-in_default : goal.returns-in_default
 returns-in_default g c =
     let m = c.args.seat.now.me in
     let n = c.take_back-book.new.seat.me in
-    let t = c.take_back-book.ensures.taken in
-    let b = c.take_back-book.result in
+    let t = lent_with g.row.M.Denot c.args.seat.now.me c.take_back-book.new.seat.me c.take_back-book.result c.get_mut-lent.result.now _ _ c.get_mut-lent.ensures.value c.take_back-book.ensures.taken in
+    let b = c.get_mut-lent.result.now in
     let f = fields_of c.take_back-book.new.token in
     let same : f ≡ fields_of c.args.token = ap (λ (k : FrameToken g.row.M.Denot). fields_of k) c.take_back-book.ensures.token in
     let x = c.advance-next.new.self in

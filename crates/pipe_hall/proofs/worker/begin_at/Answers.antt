@@ -6,13 +6,13 @@ use Rattle.pipe_frame.specs.TokenFields.{fields_of}
 use Rattle.frame_book.specs.BookStates.{HasRisingTickets, state_of}
 use Rattle.pipe_hall.specs.SeatViews.{constants_of}
 use Rattle.pipe_hall.proofs.BookCalls.{begin_call}
-use Rattle.pipe_hall.proofs.TakenBooks.{name_is, none_started, nothing_begun, sees, stays_idle}
+use Rattle.pipe_hall.proofs.TakenBooks.{lent_of, name_is, none_started, nothing_begun, sees, stays_idle}
 use Rattle.pipe_hall.proofs.worker.begin_at.Goals as goal
 
 pub return_token-requires-clause-call : goal.return_token-requires-clause-call
 return_token-requires-clause-call g c =
-    let b = c.take_book-book.result in
-    let h = c.take_book-book.ensures.taken in
+    let b = c.get_mut-lent.result.now in
+    let h = lent_of g.row.M.Denot c.args.seat.now.me c.take_book-book.new.seat.me c.take_book-book.result c.get_mut-lent.result.now None c.get_mut-lent.ensures.value c.take_book-book.ensures.taken in
     let e = c.in-Started.ensures in (
       b,
       None,
@@ -23,21 +23,21 @@ return_token-requires-clause-call g c =
 
 pub return_book-requires : goal.return_book-requires
 return_book-requires g c =
-    let b = c.take_book-book.result in
+    let b = c.get_mut-lent.result.now in
     let q = nothing_begun b c.begin-begun.new.self c.begin-begun.result c.in_default.not-Started c.begin-begun.ensures.book in
-    record { own = c.take_book-book.ensures.own ∙ c.requires.own; call = (b, None, c.take_book-book.ensures.taken.holds, q.call) }
+    record { own = c.take_book-book.ensures.own ∙ c.requires.own; call = (b, None, (lent_of g.row.M.Denot c.args.seat.now.me c.take_book-book.new.seat.me c.take_book-book.result c.get_mut-lent.result.now None c.get_mut-lent.ensures.value c.take_book-book.ensures.taken).holds, q.call) }
 
 pub returns-in-Started-clause-idle : goal.returns-in-Started-clause-idle
 returns-in-Started-clause-idle g c =
-    stays_idle g.row.M.Denot c.args.seat.now.me c.take_book-book.new.seat.me c.take_book-book.result None c.take_book-book.ensures.taken c.return_token.new.seat.me c.begin-begun.new.self
+    stays_idle g.row.M.Denot c.args.seat.now.me c.take_book-book.new.seat.me c.get_mut-lent.result.now None (lent_of g.row.M.Denot c.args.seat.now.me c.take_book-book.new.seat.me c.take_book-book.result c.get_mut-lent.result.now None c.get_mut-lent.ensures.value c.take_book-book.ensures.taken) c.return_token.new.seat.me c.begin-begun.new.self
     c.return_token.ensures.given (ap constants_of c.in-Started.ensures.book) c.entries.ensures.control
 
 pub returns-in_default : goal.returns-in_default
 returns-in_default g c =
     let m = c.args.seat.now.me in
     let n = c.take_book-book.new.seat.me in
-    let b = c.take_book-book.result in
-    let h = c.take_book-book.ensures.taken in
+    let b = c.get_mut-lent.result.now in
+    let h = lent_of g.row.M.Denot c.args.seat.now.me c.take_book-book.new.seat.me c.take_book-book.result c.get_mut-lent.result.now None c.get_mut-lent.ensures.value c.take_book-book.ensures.taken in
     let x = c.begin-begun.new.self in
     let r = c.begin-begun.result in
     let z = c.return_book.new.seat.me in

@@ -6,13 +6,13 @@ use Rattle.frame_book.specs.CallEffects.{kept_now}
 use Rattle.pipe_hall.specs.BookCalls.{IsBookCall}
 use Rattle.pipe_hall.specs.SeatViews.{constants_of}
 use Rattle.pipe_hall.proofs.BookCalls.{enter_call, unchanged_call}
-use Rattle.pipe_hall.proofs.TakenBooks.{stays_idle}
+use Rattle.pipe_hall.proofs.TakenBooks.{lent_of, stays_idle}
 use Rattle.pipe_hall.proofs.worker.check_right_at.Goals as goal
 
 pub return_token-requires-clause-call : goal.return_token-requires-clause-call
 return_token-requires-clause-call g c =
-    let b = c.take_book-book.result in
-    let h = c.take_book-book.ensures.taken in
+    let b = c.get_mut-lent.result.now in
+    let h = lent_of g.row.M.Denot c.args.seat.now.me c.take_book-book.new.seat.me c.take_book-book.result c.get_mut-lent.result.now None c.get_mut-lent.ensures.value c.take_book-book.ensures.taken in
     let e = c.in-Some.ensures in
     let f = fields_of c.in-Some.token in (
       b,
@@ -24,15 +24,15 @@ return_token-requires-clause-call g c =
 
 pub return_book-requires-clause-call : goal.return_book-requires-clause-call
 return_book-requires-clause-call g c =
-    let b = c.take_book-book.result in
-    (b, None, c.take_book-book.ensures.taken.holds, subst (λ x. IsBookCall b None x None) (sym c.in-None.ensures.book) (unchanged_call b))
+    let b = c.get_mut-lent.result.now in
+    (b, None, (lent_of g.row.M.Denot c.args.seat.now.me c.take_book-book.new.seat.me c.take_book-book.result c.get_mut-lent.result.now None c.get_mut-lent.ensures.value c.take_book-book.ensures.taken).holds, subst (λ x. IsBookCall b None x None) (sym c.in-None.ensures.book) (unchanged_call b))
 
 pub returns-in-Some-clause-idle : goal.returns-in-Some-clause-idle
 returns-in-Some-clause-idle g c =
-    stays_idle g.row.M.Denot c.args.seat.now.me c.take_book-book.new.seat.me c.take_book-book.result None c.take_book-book.ensures.taken c.return_token.new.seat.me c.check_right-entered.new.self
+    stays_idle g.row.M.Denot c.args.seat.now.me c.take_book-book.new.seat.me c.get_mut-lent.result.now None (lent_of g.row.M.Denot c.args.seat.now.me c.take_book-book.new.seat.me c.take_book-book.result c.get_mut-lent.result.now None c.get_mut-lent.ensures.value c.take_book-book.ensures.taken) c.return_token.new.seat.me c.check_right-entered.new.self
     c.return_token.ensures.given (ap constants_of c.in-Some.ensures.book) c.entries.ensures.control
 
 pub returns-in-None-clause-idle : goal.returns-in-None-clause-idle
 returns-in-None-clause-idle g c =
-    stays_idle g.row.M.Denot c.args.seat.now.me c.take_book-book.new.seat.me c.take_book-book.result None c.take_book-book.ensures.taken c.return_book.new.seat.me c.check_right-entered.new.self
+    stays_idle g.row.M.Denot c.args.seat.now.me c.take_book-book.new.seat.me c.get_mut-lent.result.now None (lent_of g.row.M.Denot c.args.seat.now.me c.take_book-book.new.seat.me c.take_book-book.result c.get_mut-lent.result.now None c.get_mut-lent.ensures.value c.take_book-book.ensures.taken) c.return_book.new.seat.me c.check_right-entered.new.self
     c.return_book.ensures.given (ap constants_of c.in-None.ensures.book) c.entries.ensures.control

@@ -9,13 +9,13 @@ use Rattle.pipe_hall.specs.SeatViews.{constants_of}
 use Rattle.pipe_hall.specs.WorkerSeats.{name_of}
 use Rattle.pipe_hall.proofs.Answering.{lists_with}
 use Rattle.pipe_hall.proofs.EndingCalls.{left_call}
-use Rattle.pipe_hall.proofs.TakenBooks.{name_is, sees, stays_idle}
+use Rattle.pipe_hall.proofs.TakenBooks.{lent_with, name_is, sees, stays_idle}
 use Rattle.pipe_hall.proofs.worker.leave_ready_at.Goals as goal
 
 pub leave_ready-requires-clause-payload : goal.leave_ready-requires-clause-payload
 leave_ready-requires-clause-payload g c =
-    let t = c.take_back-book.ensures.taken in
-    let b = c.take_back-book.result in
+    let t = lent_with g.row.M.Denot c.args.seat.now.me c.take_back-book.new.seat.me c.take_back-book.result c.get_mut-lent.result.now _ _ c.get_mut-lent.ensures.value c.take_back-book.ensures.taken in
+    let b = c.get_mut-lent.result.now in
     let p = c.args.token.payload in
     let payload = ap (λ (x : FrameToken g.row.M.Denot). x.payload) c.take_back-book.ensures.token in
     let i = c.args.token.iteration in
@@ -40,8 +40,8 @@ leave_ready-requires-clause-knows g c =
 
 pub return_book-requires-clause-call : goal.return_book-requires-clause-call
 return_book-requires-clause-call g c =
-    let t = c.take_back-book.ensures.taken in
-    let b = c.take_back-book.result in
+    let t = lent_with g.row.M.Denot c.args.seat.now.me c.take_back-book.new.seat.me c.take_back-book.result c.get_mut-lent.result.now _ _ c.get_mut-lent.ensures.value c.take_back-book.ensures.taken in
+    let b = c.get_mut-lent.result.now in
     let x = c.leave_ready.new.self in
     let e = c.leave_ready.ensures in
     let fields = ap (λ (k : FrameToken g.row.M.Denot). fields_of k) c.take_back-book.ensures.token in (
@@ -55,13 +55,13 @@ return_book-requires-clause-call g c =
 
 pub returns-clause-idle : goal.returns-clause-idle
 returns-clause-idle g c =
-    let t = c.take_back-book.ensures.taken in
-    stays_idle g.row.M.Denot c.args.seat.now.me c.take_back-book.new.seat.me c.take_back-book.result (Some t.0) t.1 c.return_book.new.seat.me c.leave_ready.new.self c.return_book.ensures.given
+    let t = lent_with g.row.M.Denot c.args.seat.now.me c.take_back-book.new.seat.me c.take_back-book.result c.get_mut-lent.result.now _ _ c.get_mut-lent.ensures.value c.take_back-book.ensures.taken in
+    stays_idle g.row.M.Denot c.args.seat.now.me c.take_back-book.new.seat.me c.get_mut-lent.result.now (Some t.0) t.1 c.return_book.new.seat.me c.leave_ready.new.self c.return_book.ensures.given
     (ap constants_of c.leave_ready.ensures) c.entries.ensures.control
 
 pub returns-clause-sees : goal.returns-clause-sees
 returns-clause-sees g c =
-    let t = c.take_back-book.ensures.taken in
-    let b = c.take_back-book.result in
+    let t = lent_with g.row.M.Denot c.args.seat.now.me c.take_back-book.new.seat.me c.take_back-book.result c.get_mut-lent.result.now _ _ c.get_mut-lent.ensures.value c.take_back-book.ensures.taken in
+    let b = c.get_mut-lent.result.now in
     sees g.row.M.Denot c.args.seat.now.me c.take_back-book.new.seat.me b (Some t.0) t.1 c.return_book.new.seat.me c.leave_ready.new.self c.return_book.ensures.given [] (λ s. Unit {0})
     (ap (λ (x : BookState). events_of x.log) c.leave_ready.ensures ∙ sym (append-nil (events_of b.log))) tt

@@ -12,13 +12,13 @@ use Rattle.pipe_hall.specs.SeatViews.{constants_of}
 use Rattle.pipe_hall.specs.WorkerSeats.{name_of}
 use Rattle.pipe_hall.proofs.EndingCalls.{rescued_call, resumed_events}
 use Rattle.pipe_hall.proofs.Rescuing.{rescue_sees_of}
-use Rattle.pipe_hall.proofs.TakenBooks.{name_is, none_found, nothing_found, seen_after, stays_idle}
+use Rattle.pipe_hall.proofs.TakenBooks.{lent_of, name_is, none_found, nothing_found, seen_after, stays_idle}
 use Rattle.pipe_hall.proofs.worker.rescue_at.Goals as goal
 
 pub return_token-requires-clause-call : goal.return_token-requires-clause-call
 return_token-requires-clause-call g c =
-    let b = c.take_book-book.result in
-    let h = c.take_book-book.ensures.taken in
+    let b = c.get_mut-lent.result.now in
+    let h = lent_of g.row.M.Denot c.args.seat.now.me c.take_book-book.new.seat.me c.take_book-book.result c.get_mut-lent.result.now None c.get_mut-lent.ensures.value c.take_book-book.ensures.taken in
     let e = c.in-Token.ensures in (
       b,
       None,
@@ -29,21 +29,21 @@ return_token-requires-clause-call g c =
 
 pub return_book-requires : goal.return_book-requires
 return_book-requires g c =
-    let b = c.take_book-book.result in
+    let b = c.get_mut-lent.result.now in
     let q = nothing_found b c.rescue-found.new.self c.rescue-found.result c.in_default.not-Token c.rescue-found.ensures.book in
-    record { own = c.take_book-book.ensures.own ∙ c.requires.own; call = (b, None, c.take_book-book.ensures.taken.holds, q.call) }
+    record { own = c.take_book-book.ensures.own ∙ c.requires.own; call = (b, None, (lent_of g.row.M.Denot c.args.seat.now.me c.take_book-book.new.seat.me c.take_book-book.result c.get_mut-lent.result.now None c.get_mut-lent.ensures.value c.take_book-book.ensures.taken).holds, q.call) }
 
 pub returns-in-Token-clause-idle : goal.returns-in-Token-clause-idle
 returns-in-Token-clause-idle g c =
-    stays_idle g.row.M.Denot c.args.seat.now.me c.take_book-book.new.seat.me c.take_book-book.result None c.take_book-book.ensures.taken c.return_token.new.seat.me c.rescue-found.new.self
+    stays_idle g.row.M.Denot c.args.seat.now.me c.take_book-book.new.seat.me c.get_mut-lent.result.now None (lent_of g.row.M.Denot c.args.seat.now.me c.take_book-book.new.seat.me c.take_book-book.result c.get_mut-lent.result.now None c.get_mut-lent.ensures.value c.take_book-book.ensures.taken) c.return_token.new.seat.me c.rescue-found.new.self
     c.return_token.ensures.given (ap constants_of c.in-Token.ensures.book) c.entries.ensures.control
 
 pub returns-in-Token-clause-sees : goal.returns-in-Token-clause-sees
 returns-in-Token-clause-sees g c =
     let m = c.args.seat.now.me in
     let n = c.take_book-book.new.seat.me in
-    let b = c.take_book-book.result in
-    let h = c.take_book-book.ensures.taken in
+    let b = c.get_mut-lent.result.now in
+    let h = lent_of g.row.M.Denot c.args.seat.now.me c.take_book-book.new.seat.me c.take_book-book.result c.get_mut-lent.result.now None c.get_mut-lent.ensures.value c.take_book-book.ensures.taken in
     let x = c.rescue-found.new.self in
     let z = c.return_token.new.seat.me in
     let e = c.in-Token.ensures in
@@ -59,8 +59,8 @@ pub returns-in_default : goal.returns-in_default
 returns-in_default g c =
     let m = c.args.seat.now.me in
     let n = c.take_book-book.new.seat.me in
-    let b = c.take_book-book.result in
-    let h = c.take_book-book.ensures.taken in
+    let b = c.get_mut-lent.result.now in
+    let h = lent_of g.row.M.Denot c.args.seat.now.me c.take_book-book.new.seat.me c.take_book-book.result c.get_mut-lent.result.now None c.get_mut-lent.ensures.value c.take_book-book.ensures.taken in
     let x = c.rescue-found.new.self in
     let r = c.rescue-found.result in
     let z = c.return_book.new.seat.me in

@@ -5,28 +5,28 @@ use Rattle.pipe_frame.specs.HallViews.{BeginsWith}
 use Rattle.frame_book.specs.BookStates.{HasRisingTickets}
 use Rattle.pipe_hall.specs.SeatViews.{constants_of}
 use Rattle.pipe_hall.proofs.BookCalls.{halted_call, halted_seen, halted_stops}
-use Rattle.pipe_hall.proofs.TakenBooks.{seen_after, stays_idle}
+use Rattle.pipe_hall.proofs.TakenBooks.{lent_of, seen_after, stays_idle}
 use Rattle.pipe_hall.proofs.worker.stop_at.Goals as goal
 
 pub return_book-requires-clause-call : goal.return_book-requires-clause-call
 return_book-requires-clause-call g c =
-    let b = c.take_book-book.result in
-    (b, None, c.take_book-book.ensures.taken.holds, halted_call b c.stop.new.self c.stop.ensures c.entries.ensures.control (subst HasRisingTickets c.entries.ensures.log c.entries.ensures.rise))
+    let b = c.get_mut-lent.result.now in
+    (b, None, (lent_of g.row.M.Denot c.args.seat.now.me c.take_book-book.new.seat.me c.take_book-book.result c.get_mut-lent.result.now None c.get_mut-lent.ensures.value c.take_book-book.ensures.taken).holds, halted_call b c.stop.new.self c.stop.ensures c.entries.ensures.control (subst HasRisingTickets c.entries.ensures.log c.entries.ensures.rise))
 
 pub returns-clause-idle : goal.returns-clause-idle
 returns-clause-idle g c =
-    stays_idle g.row.M.Denot c.args.seat.now.me c.take_book-book.new.seat.me c.take_book-book.result None c.take_book-book.ensures.taken c.return_book.new.seat.me c.stop.new.self
+    stays_idle g.row.M.Denot c.args.seat.now.me c.take_book-book.new.seat.me c.get_mut-lent.result.now None (lent_of g.row.M.Denot c.args.seat.now.me c.take_book-book.new.seat.me c.take_book-book.result c.get_mut-lent.result.now None c.get_mut-lent.ensures.value c.take_book-book.ensures.taken) c.return_book.new.seat.me c.stop.new.self
     c.return_book.ensures.given (ap constants_of c.stop.ensures) c.entries.ensures.control
 
 pub returns-clause-later : goal.returns-clause-later
 returns-clause-later g c =
-    let b = c.take_book-book.result in
-    let h = c.take_book-book.ensures.taken in
+    let b = c.get_mut-lent.result.now in
+    let h = lent_of g.row.M.Denot c.args.seat.now.me c.take_book-book.new.seat.me c.take_book-book.result c.get_mut-lent.result.now None c.get_mut-lent.ensures.value c.take_book-book.ensures.taken in
     let seen = seen_after g.row.M.Denot c.args.seat.now.me c.take_book-book.new.seat.me b None h c.return_book.new.seat.me c.stop.new.self c.return_book.ensures.given in
     subst (λ l. BeginsWith l c.args.seat.now.me.0.it.seen) (sym seen) (halted_seen b c.stop.new.self c.args.seat.now.me.0.it.seen c.stop.ensures h.seen)
 
 pub returns-clause-stopped : goal.returns-clause-stopped
 returns-clause-stopped g c =
-    let b = c.take_book-book.result in
-    let seen = seen_after g.row.M.Denot c.args.seat.now.me c.take_book-book.new.seat.me b None c.take_book-book.ensures.taken c.return_book.new.seat.me c.stop.new.self c.return_book.ensures.given in
+    let b = c.get_mut-lent.result.now in
+    let seen = seen_after g.row.M.Denot c.args.seat.now.me c.take_book-book.new.seat.me b None (lent_of g.row.M.Denot c.args.seat.now.me c.take_book-book.new.seat.me c.take_book-book.result c.get_mut-lent.result.now None c.get_mut-lent.ensures.value c.take_book-book.ensures.taken) c.return_book.new.seat.me c.stop.new.self c.return_book.ensures.given in
     ap (λ l. (state_after l).stopped) seen ∙ halted_stops b c.stop.new.self c.stop.ensures
