@@ -15,7 +15,6 @@ use Rattle.om_shared.proofs.writer.OmWriter.TheSendSync as writers
 use Rattle.om_shared.specs.declared.writer.OmWriter.{OmWriter}
 use Rattle.order_2d.proofs.two_orders.TwoOrders.TheSendSync as orders
 use Rattle.order_2d.specs.declared.list_writer.ListWriter as ListWriter
-use Rattle.pipe_frame.proofs.token.FrameToken.TheSendSync as tokens
 use Rattle.pipe_frame.specs.declared.stands.Stands as Stands
 use Rattle.frame_book.proofs.ledger.Tickets.TheSendSync as tickets
 use Rattle.frame_book.proofs.row.Iteration.TheSendSync as rows
@@ -32,6 +31,8 @@ use Rattle.pipe_hall.specs.contracts.locks.Locks as Locks
 use Rattle.pipe_hall.specs.contracts.seat.HallSeat as HallSeat
 use Rattle.pipe_hall.specs.contracts.seat.HallSeat.TheInside as SeatFields
 use Rattle.pipe_hall.specs.contracts.slot.Slot as Slot
+use Rattle.pipe_hall.specs.contracts.witness.Witness as Witness
+use Rattle.pipe_hall.specs.contracts.witness.Witness.TheInside as WitnessFields
 use Rattle.pipe_hall.specs.declared.carrier.Carrier as Carrier
 
 program : IsSend Program.the_row
@@ -42,8 +43,11 @@ book M L g h s t =
     view_send (BookFields.the_row M L g h) _ _ _ _ (declared_send (BookFields.the_type M L g h)
     (search (program, lists.the_send, rows.the_send, orders.the_send, tickets.the_send, std.crosses, sendable) depth 20))
 
+witness : (T : RattleType) → IsSend (Witness.the_row T)
+witness T = view_send (WitnessFields.the_row T) _ _ _ _ (declared_send (WitnessFields.the_type T) (search (std.crosses, sendable) depth 20))
+
 slot : (M : RattleType) (g : Stands.Ghosts M.Denot) → IsSend M → IsSend (Slot.the_row M g)
-slot M g s = variants_send (Slot.enum M g) (search (kept.the_send, book, writers.the_send, shards.the_send, tokens.the_send, sendable) depth 20)
+slot M g s = variants_send (Slot.enum M g) (search (kept.the_send, book, writers.the_send, shards.the_send, witness, sendable) depth 20)
 
 module _ (M : RattleType) (c : Carrier.Ghosts M.Denot) (p : Payload.Ghosts M.Denot OmWriter) (g : Stands.Ghosts M.Denot) (s : IsSend M) where
   locks_send : IsSend (Locks.the_row M c p g)

@@ -17,4 +17,5 @@ pub mod shard;
 mod shard_opening;
 mod slot;
 mod view;
+mod witness;
 mod worker;

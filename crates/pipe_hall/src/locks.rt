@@ -24,6 +24,7 @@ use crate::run_seat::RunSeat;
 use crate::shard::Shard;
 use crate::slot::Slot;
 use crate::view::View;
+use crate::witness::Witness;
 use atomic_table::Seat;
 use crossbeam_utils::Backoff;
 use frame_book::book::Book;
@@ -128,7 +129,7 @@ impl<M: Carrier> Locks<M> {
         &self,
         seat: &mut Seat<Slot<M>, View>,
         book: Kept<Book<M, OmWriter>>,
-        token: FrameToken<M>,
+        mut token: FrameToken<M>,
     ) -> FrameToken<M>
         requires own { seat.old.table_id ≡ self.now.table.shared.table_id }
         requires call { (b : BookState) × (back : Option InstanceData) × HoldsBook seat.old.me b back × IsBookCall b back book (Some (new_instance book (fields_of token))) }
@@ -139,10 +140,9 @@ impl<M: Carrier> Locks<M> {
     {
         let shared = &self.table.shared;
         drop(shared.exchange(seat, 0, Slot::Book(book)));
-        let said = Slot::Token(token);
-        self.return_beside(seat, &said);
+        let witness = Witness::of(&token);
+        self.return_beside(seat, &Slot::Token(witness));
         let run = shared.split_seat::<SplitsInstance>(seat);
-        let mut token = token_in(said);
         token.payload.put_seat(RunSeat {
             badge: run.into_badge(),
         });
@@ -185,18 +185,5 @@ impl<M: Carrier> Locks<M> {
         let slot = 1 + number as usize;
         drop(shared.exchange(seat, slot, Slot::Shard(shard)));
         shared.store::<ReturnsShard>(seat, slot, 0);
-    }
-}
-
-// The token that a slot's value is.
-fn token_in<M: Carrier>(slot: Slot<M>) -> FrameToken<M>
-    requires { (t : FrameToken M) × (slot ≡ Slot.Token t) }
-    ensures { slot ≡ Slot.Token result }
-{
-    match slot {
-        Slot::Token(token) => token,
-        Slot::Book(_) => unreachable!(),
-        Slot::Shard(_) => unreachable!(),
-        Slot::Out => unreachable!(),
     }
 }

@@ -3,6 +3,7 @@
 use crate::carrier::Carrier;
 use crate::kept::Kept;
 use crate::shard::Shard;
+use crate::witness::Witness;
 use frame_book::book::Book;
 use om_shared::writer::OmWriter;
 use pipe_frame::token::FrameToken;
@@ -15,7 +16,7 @@ pub enum Slot<M: Carrier> {
     /// A shard.
     Shard(Shard),
     /// No slot holds this: with it a step tells which token was given out.
-    Token(FrameToken<M>),
+    Token(Witness<FrameToken<M>>),
     /// The value is out.
     Out,
 }

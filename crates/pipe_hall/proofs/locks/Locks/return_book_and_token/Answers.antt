@@ -3,6 +3,8 @@ use Rattle.pipe_frame.specs.TokenFields.{fields_of}
 use Rattle.pipe_hall.specs.HallRule.{view_of}
 use Rattle.pipe_hall.specs.InstanceSeats.{is_instance_badge}
 use Rattle.pipe_hall.specs.Steps.{ViewAndSlots, after_book, new_instance, run_seat, without_run}
+use Rattle.pipe_frame.specs.declared.token.FrameToken.{FrameToken}
+use Rattle.pipe_hall.specs.declared.slot.Slot.TheVariants as slots
 use Rattle.pipe_hall.specs.declared.view.View.{View}
 use Rattle.pipe_hall.proofs.Steps.{splits_instance}
 use Rattle.pipe_hall.proofs.Seating.{is_badge, other_value, seated}
@@ -13,7 +15,7 @@ pub return_beside-requires-clause-call : goal.return_beside-requires-clause-call
 return_beside-requires-clause-call g c =
     let e = c.exchange.ensures in
     let r = c.requires.call in
-    (c.args.token, c.args.book, c.args.seat.now.me.0, r.0, r.1, refl, other_value g.row.M.Denot c.args.seat.now.me c.exchange.new.seat.me 0 _ _ r.2.slots e.3, r.2.held, r.2.run, r.3)
+    (c.args.token, c.args.book, c.args.seat.now.me.0, r.0, r.1, ap (λ (k : FrameToken g.row.M.Denot). slots.Token k) c.of-witness.ensures, other_value g.row.M.Denot c.args.seat.now.me c.exchange.new.seat.me 0 _ _ r.2.slots e.3, r.2.held, r.2.run, r.3)
 
 pub split_seat-run-requires : goal.split_seat-run-requires
 split_seat-run-requires g c =
@@ -21,21 +23,18 @@ split_seat-run-requires g c =
     let e = c.exchange.ensures in
     let r = c.requires.call in
     let m = other_value g.row.M.Denot c.args.seat.now.me c.exchange.new.seat.me 0 _ _ r.2.slots e.3 in
-    let t = c.return_beside.ensures.given c.args.token c.args.book refl (ap (λ (k : ViewAndSlots g.row.M.Denot). k.1) m) in (
+    let t = c.return_beside.ensures.given c.args.token c.args.book (ap (λ (k : FrameToken g.row.M.Denot). slots.Token k) c.of-witness.ensures) (ap (λ (k : ViewAndSlots g.row.M.Denot). k.1) m) in (
       c.return_beside.ensures.own.0 ∙ (e.0 ∙ c.requires.own),
       omega (arith, w),
       splits_instance g.row.M.Denot (start_in c.args.self.now.table.shared.key) _ c.return_beside.new.seat.me.0 (new_instance c.args.book (fields_of c.args.token)) (ap (λ (k : ViewAndSlots g.row.M.Denot). k.0.it.run) t),
     )
-
-pub token_in-token-requires : goal.token_in-token-requires
-token_in-token-requires g c = (c.args.token, refl)
 
 pub invariant_of-put_seat : goal.invariant_of-put_seat
 invariant_of-put_seat g c =
     let e = c.exchange.ensures in
     let r = c.requires.call in
     let m = other_value g.row.M.Denot c.args.seat.now.me c.exchange.new.seat.me 0 _ _ r.2.slots e.3 in
-    let t = c.return_beside.ensures.given c.args.token c.args.book refl (ap (λ (k : ViewAndSlots g.row.M.Denot). k.1) m) ∙ ap (λ (k : ViewAndSlots g.row.M.Denot). (view_of (after_book k.0.it c.args.book (Some (new_instance c.args.book (fields_of c.args.token)))), [])) m in
+    let t = c.return_beside.ensures.given c.args.token c.args.book (ap (λ (k : FrameToken g.row.M.Denot). slots.Token k) c.of-witness.ensures) (ap (λ (k : ViewAndSlots g.row.M.Denot). k.1) m) ∙ ap (λ (k : ViewAndSlots g.row.M.Denot). (view_of (after_book k.0.it c.args.book (Some (new_instance c.args.book (fields_of c.args.token)))), [])) m in
     let v : View = view_of (run_seat (after_book c.args.seat.now.me.0.it c.args.book (Some (new_instance c.args.book (fields_of c.args.token))))) in
     let views : c.into_badge.result.views ≡ v ∷ [] = c.into_badge.ensures.2 ∙ (ap (λ (k : ViewAndSlots g.row.M.Denot). k.0 ∷ []) c.split_seat-run.ensures.4 ∙ ap (λ (k : ViewAndSlots g.row.M.Denot). view_of (run_seat k.0.it) ∷ []) t) in
     record { stands = ap is_instance_badge views ∙ is_badge v c.requires.constants.0 (new_instance c.args.book (fields_of c.args.token)) c.requires.constants.1 refl refl }
@@ -45,7 +44,7 @@ returns-clause-given g c =
     let e = c.exchange.ensures in
     let r = c.requires.call in
     let m = other_value g.row.M.Denot c.args.seat.now.me c.exchange.new.seat.me 0 _ _ r.2.slots e.3 in
-    let t = c.return_beside.ensures.given c.args.token c.args.book refl (ap (λ (k : ViewAndSlots g.row.M.Denot). k.1) m) ∙ ap (λ (k : ViewAndSlots g.row.M.Denot). (view_of (after_book k.0.it c.args.book (Some (new_instance c.args.book (fields_of c.args.token)))), [])) m in
+    let t = c.return_beside.ensures.given c.args.token c.args.book (ap (λ (k : FrameToken g.row.M.Denot). slots.Token k) c.of-witness.ensures) (ap (λ (k : ViewAndSlots g.row.M.Denot). k.1) m) ∙ ap (λ (k : ViewAndSlots g.row.M.Denot). (view_of (after_book k.0.it c.args.book (Some (new_instance c.args.book (fields_of c.args.token)))), [])) m in
     c.split_seat-run.ensures.2 ∙ ap (λ (k : ViewAndSlots g.row.M.Denot). (view_of (without_run k.0.it), k.1)) t
 
 pub returns-clause-token : goal.returns-clause-token
@@ -53,9 +52,8 @@ returns-clause-token g c =
     let e = c.exchange.ensures in
     let r = c.requires.call in
     let m = other_value g.row.M.Denot c.args.seat.now.me c.exchange.new.seat.me 0 _ _ r.2.slots e.3 in
-    let t = c.return_beside.ensures.given c.args.token c.args.book refl (ap (λ (k : ViewAndSlots g.row.M.Denot). k.1) m) ∙ ap (λ (k : ViewAndSlots g.row.M.Denot). (view_of (after_book k.0.it c.args.book (Some (new_instance c.args.book (fields_of c.args.token)))), [])) m in
+    let t = c.return_beside.ensures.given c.args.token c.args.book (ap (λ (k : FrameToken g.row.M.Denot). slots.Token k) c.of-witness.ensures) (ap (λ (k : ViewAndSlots g.row.M.Denot). k.1) m) ∙ ap (λ (k : ViewAndSlots g.row.M.Denot). (view_of (after_book k.0.it c.args.book (Some (new_instance c.args.book (fields_of c.args.token)))), [])) m in
     let v : View = view_of (run_seat (after_book c.args.seat.now.me.0.it c.args.book (Some (new_instance c.args.book (fields_of c.args.token))))) in
     let views : c.into_badge.result.views ≡ v ∷ [] = c.into_badge.ensures.2 ∙ (ap (λ (k : ViewAndSlots g.row.M.Denot). k.0 ∷ []) c.split_seat-run.ensures.4 ∙ ap (λ (k : ViewAndSlots g.row.M.Denot). view_of (run_seat k.0.it) ∷ []) t) in
-    let same : c.token_in-token.result ≡ c.args.token = (let q = c.token_in-token.ensures in cc) in
-    seated g.row.M.Denot g.M.Carrier.with_seat c.token_in-token.result c.args.token c.put_seat.new.self _ c.args.seat.now.table_id v c.put_seat.ensures same
+    seated g.row.M.Denot g.M.Carrier.with_seat c.args.token c.args.token c.put_seat.new.self _ c.args.seat.now.table_id v c.put_seat.ensures refl
     (c.into_badge.ensures.0 ∙ (c.split_seat-run.ensures.3 ∙ (c.return_beside.ensures.own.0 ∙ e.0))) views
