@@ -29,9 +29,11 @@ pub record IsLeft (left right : List Node) (k : ℕ) (j : Option ℕ) : Type 0 w
 abbrev pub no_entry : Entry
 no_entry = record { weight = 0; predecessor = Absent }
 
+-- entry k of a row
 abbrev pub entry_at : List Entry → ℕ → Entry
 entry_at row k = slice_index_or row k no_entry
 
+-- the weight in entry k of a row; 0 past its end
 abbrev pub weight_in : List Entry → ℕ → ℕ
 weight_in row k = (entry_at row k).weight
 
