@@ -10,9 +10,9 @@ use Rattle.pipe_span.specs.declared.entry.Predecessor.TheVariants.{Absent, Above
 abbrev pub most_weight : ℕ
 most_weight = 1000000
 
--- the most instances that a program may allow, and the one that ends the loop
+-- the most instances of all columns together: as many as 32 bits have numbers
 abbrev pub most_entries : ℕ
-most_entries = 262145
+most_entries = 4294967296
 
 -- the first `count` instances have numbers up to s, and the others do not
 pub record IsCountUpTo (left : List Node) (s : ℤ) (count : ℕ) : Type 0 where

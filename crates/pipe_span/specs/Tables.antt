@@ -65,7 +65,7 @@ pub record IsHeaviestLast (rows : List (List Entry)) (x : NodeId) : Type 0 where
   pub most : (y : NodeId) → weight_to rows y ≤ weight_to rows x
   pub first : (y : NodeId) → IsBefore y x → weight_to rows y < weight_to rows x
 
--- the table has no more entries than a program may allow instances
+-- the table has no more rows, and no more entries in a row, than 32 bits have numbers
 pub record AreFew (rows : List (List Entry)) : Type 0 where
   pub columns : length rows ≤ most_entries
   pub instances : (i : ℕ) → length (row_at rows i) ≤ most_entries
