@@ -10,9 +10,9 @@ use Rattle.pipe_span.specs.declared.entry.Predecessor.TheVariants.{Absent, Above
 abbrev pub most_weight : ℕ
 most_weight = 1000000
 
--- the most instances that a program may allow, and the one that ends the loop
+-- the most instances of all columns together: as many as 32 bits have numbers
 abbrev pub most_entries : ℕ
-most_entries = 262145
+most_entries = 4294967296
 
 -- the first `count` instances have numbers up to s, and the others do not
 pub record IsCountUpTo (left : List Node) (s : ℤ) (count : ℕ) : Type 0 where
@@ -29,9 +29,11 @@ pub record IsLeft (left right : List Node) (k : ℕ) (j : Option ℕ) : Type 0 w
 abbrev pub no_entry : Entry
 no_entry = record { weight = 0; predecessor = Absent }
 
+-- entry k of a row
 abbrev pub entry_at : List Entry → ℕ → Entry
 entry_at row k = slice_index_or row k no_entry
 
+-- the weight in entry k of a row; 0 past its end
 abbrev pub weight_in : List Entry → ℕ → ℕ
 weight_in row k = (entry_at row k).weight
 

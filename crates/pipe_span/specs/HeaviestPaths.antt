@@ -16,6 +16,7 @@ instances_before columns (suc i) = instances_before columns i + length (nodes_at
 abbrev pub weight_at : List (List Node) → List ℕ → ℕ → ℕ → ℕ
 weight_at columns weights i k = slice_index_or weights (instances_before columns i + k) 0
 
+-- the weight of the instance of this name
 abbrev pub weight_of : List (List Node) → List ℕ → NodeId → ℕ
 weight_of columns weights x = weight_at columns weights x.iteration x.index
 

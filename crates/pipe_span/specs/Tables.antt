@@ -9,13 +9,15 @@ use Rattle.pipe_span.specs.declared.entry.Predecessor.TheVariants.{Absent, Above
 use Rattle.pipe_span.specs.Entries.{AreEntries, IsBounded, entry_at, weight_in, most_entries}
 use Rattle.pipe_span.specs.HeaviestPaths.{IsBefore, instances_before}
 
+-- row i of the table; empty past the last one
 abbrev pub row_at : List (List Entry) → ℕ → List Entry
 row_at rows i = slice_index_or rows i []
 
--- the column and the row on the left of column i; empty for column 0
+-- the column on the left of column i; empty for column 0
 abbrev pub left_nodes : List (List Node) → ℕ → List Node
 left_nodes columns i = nodes_at ([] ∷ columns) i
 
+-- the row of that column
 abbrev pub left_row : List (List Entry) → ℕ → List Entry
 left_row rows i = row_at ([] ∷ rows) i
 
@@ -27,12 +29,15 @@ pub record AreRows (columns : List (List Node)) (weights : List ℕ) (rows : Lis
       → AreEntries (left_nodes columns i) (nodes_at columns i) (left_row rows i) (row_at rows i) weights (instances_before columns i)
   pub below : (i : ℕ) → IsBounded most_entries (row_at rows i)
 
+-- the entry of an instance
 abbrev pub entry_to : List (List Entry) → NodeId → Entry
 entry_to rows x = entry_at (row_at rows x.iteration) x.index
 
+-- the weight in that entry
 abbrev pub weight_to : List (List Entry) → NodeId → ℕ
 weight_to rows x = (entry_to rows x).weight
 
+-- the table has an entry for this name
 pub record IsIn (rows : List (List Entry)) (x : NodeId) : Type 0 where
   pub column : x.iteration < length rows
   pub index : x.index < length (row_at rows x.iteration)
@@ -60,7 +65,7 @@ pub record IsHeaviestLast (rows : List (List Entry)) (x : NodeId) : Type 0 where
   pub most : (y : NodeId) → weight_to rows y ≤ weight_to rows x
   pub first : (y : NodeId) → IsBefore y x → weight_to rows y < weight_to rows x
 
--- the table has no more entries than a program may allow instances
+-- the table has no more rows, and no more entries in a row, than 32 bits have numbers
 pub record AreFew (rows : List (List Entry)) : Type 0 where
   pub columns : length rows ≤ most_entries
   pub instances : (i : ℕ) → length (row_at rows i) ≤ most_entries

@@ -18,6 +18,7 @@ abbrev pub weight_of_steps : ℤ → ℕ
 weight_of_steps (pos n) = n
 weight_of_steps (negsuc n) = 0
 
+-- the weights of instances that take these steps
 abbrev pub weights_of : List ℤ → List ℕ
 weights_of steps = map weight_of_steps steps
 

@@ -92,8 +92,7 @@ fn heaviest_path(
 /// Returns work, span and the heaviest path of the dag of the columns.
 ///
 /// Each column has an instance, its first has kind `Zero`, and stage numbers rise along it. `steps`
-/// has one number from 0 to 1,000,000 for each instance, column after column, at most 262,145 in
-/// all.
+/// has one number from 0 to 1,000,000 for each instance, column after column, at most 2^32 in all.
 ///
 /// A path is a list of instances, each with an edge of the dag to the next. The returned one is
 /// traced back from its last instance, and no path is heavier. If equally heavy paths lead to

@@ -1,7 +1,7 @@
 //! The instance to which the heaviest path of all leads.
 
 ghost use Rattle.std.specs.Prelude.{◌<◌, ℕ, length};
-ghost use Rattle.pipe_span.specs.Tables.{AreFew, IsHeaviestLast, IsFirstHeaviest, row_at};
+ghost use Rattle.pipe_span.specs.Tables.{AreFew, IsFirstHeaviest, IsHeaviestLast, row_at};
 
 use crate::entry::{Entry, Row};
 use crate::rows::entries_of;

@@ -4,7 +4,7 @@ ghost use Rattle.std.specs.Prelude.{◌≡◌, ◌<◌, ℕ, length, IfOk};
 ghost use Rattle.pipe_model.specs.declared.node.NodeId.{NodeId};
 ghost use Rattle.pipe_model.specs.Races.Columns.{AreColumns};
 ghost use Rattle.pipe_span.specs.HeaviestPaths.{IsTraced, path_weight};
-ghost use Rattle.pipe_span.specs.Tables.{AreFew, AreRows, HasPredecessor, IsIn, predecessor_of, entry_to, weight_to};
+ghost use Rattle.pipe_span.specs.Tables.{AreFew, AreRows, HasPredecessor, IsIn, entry_to, predecessor_of, weight_to};
 
 use crate::entry::{Predecessor, Row};
 use crate::rows::entries_of;
