@@ -3,6 +3,7 @@
 
 use crate::cases::{Case, source};
 use crate::row_tests::Row;
+use pipe_model::memory::NoMemory;
 use std::alloc::Global;
 use std::sync::Wait;
 use std::test::Fail;
@@ -200,8 +201,8 @@ const VALUES: [(&str, &str); 68] = [
 const EDGES: &str =
     "cell h = 9223372036854775807; cell l = 0; cell a[3] = 0; init { l = -h - 1; a[0] = 4; a[1] = 2; a[2] = 6;";
 
-// Evaluates all expressions of `VALUES` in one program.
-fn values(rt: &(impl Threads + Wait + Sync), alloc: Global) -> Result<(), Fail> {
+// A program that evaluates all expressions of `VALUES`, without its limits, and what it prints.
+fn program_of_values(alloc: Global) -> Result<(String, String), NoMemory> {
     let mut program = String::from_str(alloc, EDGES)?;
     let mut wanted = String::new(alloc);
     for (expression, value) in VALUES {
@@ -209,6 +210,11 @@ fn values(rt: &(impl Threads + Wait + Sync), alloc: Global) -> Result<(), Fail> 
         write!(wanted, "{value}\n")?;
     }
     program.push_str(" } pipe_while (0) { }")?;
+    Ok((program, wanted))
+}
+
+fn values(rt: &(impl Threads + Wait + Sync), alloc: Global) -> Result<(), Fail> {
+    let (program, wanted) = program_of_values(alloc)?;
     let source = source(alloc, [1, 1, 1000, 100], program.as_str())?;
     Case::of(source.as_bytes()).check(rt, alloc, "values", 0, wanted.as_str())
 }

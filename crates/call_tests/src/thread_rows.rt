@@ -75,13 +75,13 @@ fn held_run(
     };
     let gate = HoldGate::new(held, until, TURNS);
     let ended = case.set_up(alloc)?.make_at(rt, alloc, &gate)?;
-    let Some(log) = ended.run_log else {
-        return Err(Fail::new(format_args!("no run log")));
-    };
     if ended.status != 0 || !gate.met() {
         return Err(Fail::new(format_args!("status {}, met {}", ended.status, gate.met())));
     }
-    Ok(log)
+    match ended.run_log {
+        Some(log) => Ok(log),
+        None => Err(Fail::new(format_args!("no run log"))),
+    }
 }
 
 #[test]
