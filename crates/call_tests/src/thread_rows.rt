@@ -1,6 +1,7 @@
 // Runs by several workers, and instances that overlap.
 
 use crate::cases::{Case, source};
+use cilkp_program::call::Ended;
 use pipe_model::column::ColumnEnd;
 use pipe_model::event::{Event, RunLog};
 use pipe_model::node::NodeId;
@@ -74,11 +75,16 @@ fn held_run(
         ..Case::of(source.as_bytes())
     };
     let gate = HoldGate::new(held, until, TURNS);
-    let ended = case.set_up(alloc)?.make_at(rt, alloc, &gate)?;
-    if ended.status != 0 || !gate.met() {
-        return Err(Fail::new(format_args!("status {}, met {}", ended.status, gate.met())));
+    let Ended {
+        status,
+        run_log,
+        reports: _,
+        written: _,
+    } = case.set_up(alloc)?.make_at(rt, alloc, &gate)?;
+    if status != 0 || !gate.met() {
+        return Err(Fail::new(format_args!("status {status}, met {}", gate.met())));
     }
-    match ended.run_log {
+    match run_log {
         Some(log) => Ok(log),
         None => Err(Fail::new(format_args!("no run log"))),
     }
