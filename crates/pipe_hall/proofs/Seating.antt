@@ -6,9 +6,9 @@ use Rattle.pipe_hall.specs.declared.run_seat.RunSeat.{RunSeat}
 use Rattle.frame_book.specs.BookStates.{BookState}
 use Rattle.pipe_frame.specs.declared.token.FrameToken.{FrameToken}
 use Rattle.pipe_hall.specs.SeatViews.{HallConstants, InstanceData, SeatView, ShardValue, SlotValue, TheBook, TheShard}
-use Rattle.pipe_hall.specs.HallRule.{slot_of}
+use Rattle.pipe_hall.specs.HallRule.{slot_of, view_of}
 use Rattle.pipe_hall.specs.InstanceSeats.{is_instance_badge, is_instance_view}
-use Rattle.pipe_hall.specs.Steps.{ViewAndSlots, IsSnapshot}
+use Rattle.pipe_hall.specs.Steps.{ViewAndSlots, IsSnapshot, holding}
 use Rattle.pipe_hall.specs.declared.view.View.{View}
 use Rattle.pipe_hall.specs.declared.slot.Slot.{Slot}
 use Rattle.pipe_hall.specs.declared.slot.Slot.TheVariants as slots
@@ -26,6 +26,10 @@ module _ (M : Type 0) where
   pub seated : (with : M → Option RunSeat → M) (t u : FrameToken M) (p : M) (r : RunSeat) (z : TableId) (v : View) → p ≡ with t.payload (Some r) → t ≡ u → r.badge.table_id ≡ z → r.badge.views ≡ v ∷ []
       → (x : RunSeat) × (record t { payload = p } ≡ record u { payload = with u.payload (Some x) }) × (x.badge.table_id ≡ z) × (x.badge.views ≡ v ∷ [])
   seated with t u p r z v e same a b = (r, ap (λ (q : M). record t { payload = q }) e ∙ ap (λ (k : FrameToken M). record k { payload = with k.payload (Some r) }) same, a, b)
+
+  -- a shard that was taken, and is lent
+  pub lent_shard : (m n : ViewAndSlots M) (i : ℕ) (x y : ShardValue) → y ≡ x → n ≡ (view_of (holding m.0.it i (TheShard x)), (i, slots.Out) ∷ m.1) → n ≡ (view_of (holding m.0.it i (TheShard y)), (i, slots.Out) ∷ m.1)
+  lent_shard m n i x y e t = t ∙ ap (λ (z : ShardValue). (view_of (holding m.0.it i (TheShard z)), (i, slots.Out) ∷ m.1)) (sym e)
 
   -- a slot's value is a book, or a shard
   pub book_value : (x : SlotValue) (b : BookState) → ◌≡◌ {A = Slot M} (slots.Book b) (slot_of x) → x ≡ TheBook b

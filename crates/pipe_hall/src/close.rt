@@ -50,7 +50,8 @@ fn take_all<R: Wait, M: Carrier>(
 {
     let book = hall.take_book(rt, seat);
     for k in 0..SHARDS {
-        shards.push_reserved(hall.take_shard(rt, seat, k));
+        let shard = hall.take_shard(rt, seat, k);
+        shards.push_reserved(shard.into_inner());
     }
     book.into_inner()
 }

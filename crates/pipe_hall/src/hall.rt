@@ -85,7 +85,8 @@ fn add_shards<M: Carrier>(
 {
     for number in 0..SHARDS {
         let shard = Shard::new(alloc, checked, number, before, passes.split()?)?;
-        slots.push_reserved(Slot::Shard(shard));
+        let kept = Kept::boxed(alloc, shard)?;
+        slots.push_reserved(Slot::Shard(kept));
     }
     Ok(())
 }

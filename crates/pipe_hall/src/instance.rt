@@ -58,7 +58,8 @@ fn access_by<R: Wait, M: Carrier>(
 {
     let number = cell.0 % SHARDS;
     let mut shard = hall.take_shard(rt, run, number);
-    let done = shard.access(rt, who, now, cell, write, passes, trace);
+    let lent = shard.get_mut();
+    let done = lent.access(rt, who, now, cell, write, passes, trace);
     hall.return_shard(run, number, shard);
     done
 }

@@ -97,7 +97,7 @@ impl<M: Carrier> Locks<M> {
         rt: &R,
         seat: &mut Seat<Slot<M>, View>,
         number: u32,
-    ) -> Shard
+    ) -> Kept<Shard>
         requires own { seat.old.table_id ≡ self.now.table.shared.table_id }
         requires there { number < 16 }
         ensures own { (seat.new.table_id ≡ seat.old.table_id) × (seat.new.id ≡ seat.old.id) }
@@ -174,7 +174,12 @@ impl<M: Carrier> Locks<M> {
     }
 
     // Gives a shard back.
-    pub(crate) fn return_shard(&self, seat: &mut Seat<Slot<M>, View>, number: u32, shard: Shard)
+    pub(crate) fn return_shard(
+        &self,
+        seat: &mut Seat<Slot<M>, View>,
+        number: u32,
+        shard: Kept<Shard>,
+    )
         requires own { seat.old.table_id ≡ self.now.table.shared.table_id }
         requires there { number < 16 }
         requires made { (x : ShardValue) × (seat.old.me.1 ≡ (1 + number, Slot.Out) ∷ []) × (seat.old.me.0.it.held ≡ (1 + number, TheShard x) ∷ []) × ((shard ≡ x) ⊎ ((d : InstanceData) × (seat.old.me.0.it.run ≡ Some d) × MadeBy d number x shard)) }

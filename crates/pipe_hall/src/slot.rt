@@ -14,7 +14,7 @@ pub enum Slot<M: Carrier> {
     /// The book.
     Book(Kept<Book<M, OmWriter>>),
     /// A shard.
-    Shard(Shard),
+    Shard(Kept<Shard>),
     /// No slot holds this: with it a step tells which token was given out.
     Token(Witness<FrameToken<M>>),
     /// The value is out.

@@ -1,5 +1,5 @@
 -- The book is taken first, and then the shards in order.
-use Rattle.std.proofs.Common.{◌≡◌, ◌∙◌, ◌+◌, arith, subst, sym, ap, ℕ, List}
+use Rattle.std.proofs.Common.{◌≡◌, ◌∙◌, ◌+◌, ◌++◌, ◌∷◌, [], arith, subst, sym, ap, ℕ, List}
 use Rattle.pipe_hall.specs.SeatViews.{ShardValue}
 use Rattle.pipe_hall.specs.Closing.{shard_in}
 use Rattle.pipe_hall.specs.Steps.{HoldsAll, ViewAndSlots}
@@ -19,15 +19,15 @@ loop-k-init g c =
 
 pub loop-k-preserved : goal.loop-k-preserved
 loop-k-preserved g c =
-    let t = c.take_shard.ensures in
-    let w = c.take_shard.new.seat.me.0.it in
+    let t = c.take_shard-shard.ensures in
+    let w = c.take_shard-shard.new.seat.me.0.it in
     let start = c.take_book-book.new.seat.me.0.it in
     let b = c.take_book-book.result in
     record {
       table = t.own.0 ∙ c.loop-k.invariant.table;
       room = (let q = c.push_reserved.ensures.capacity in let r = c.loop-k.invariant.room in omega (arith, q, r));
-      holds = subst (λ (xs : List ShardValue). HoldsFirst start b xs (c.loop-k.k + 1) w) (sym c.push_reserved.ensures.items)
-          (first_more start c.loop-k.seat.me.0.it w b c.loop-k.shards.items c.loop-k.k c.take_shard.result (ap (λ (k : ViewAndSlots g.row.M.Denot). k.0.it) t.taken) c.loop-k.invariant.holds);
+      holds = subst (λ (xs : List ShardValue). HoldsFirst start b xs (c.loop-k.k + 1) w) (sym (c.push_reserved.ensures.items ∙ ap (λ (x : ShardValue). c.loop-k.shards.items ++ x ∷ []) c.into_inner.ensures))
+          (first_more start c.loop-k.seat.me.0.it w b c.loop-k.shards.items c.loop-k.k c.take_shard-shard.result (ap (λ (k : ViewAndSlots g.row.M.Denot). k.0.it) t.taken) c.loop-k.invariant.holds);
     }
 
 pub push_reserved-requires : goal.push_reserved-requires
@@ -51,7 +51,7 @@ returns-clause-holds g c =
     let all : c.loop-k.k ≡ 16 = omega (arith, e, f) in
     let start = c.take_book-book.new.seat.me.0.it in
     let b = c.take_book-book.result in
-    subst (λ x. HoldsAll c.loop-k.seat.me.0.it.held x (shard_in c.loop-k.shards.items)) (sym c.into_inner.ensures)
+    subst (λ x. HoldsAll c.loop-k.seat.me.0.it.held x (shard_in c.loop-k.shards.items)) (sym c.into_inner-2.ensures)
     (holds_all start c.loop-k.seat.me.0.it b c.loop-k.shards.items (subst (λ (n : ℕ). HoldsFirst start b c.loop-k.shards.items n c.loop-k.seat.me.0.it) all c.loop-k.invariant.holds))
 
 pub returns-clause-seen : goal.returns-clause-seen

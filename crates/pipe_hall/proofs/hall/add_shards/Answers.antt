@@ -1,8 +1,9 @@
 -- The shards are appended one after the other.
-use Rattle.std.proofs.Common.{◌++◌, ◌∷◌, [], ◌∙◌, length, arith, ap, sym, append_assoc}
+use Rattle.std.proofs.Common.{◌++◌, ◌∷◌, [], ◌∙◌, length, arith, ap, subst, sym, append_assoc}
 use Rattle.std.proofs.lemmas.List.{length-append}
 use Rattle.pipe_model.specs.Language.SyntaxTree.{tree_of}
 use Rattle.pipe_hall.specs.NewShards.{IsNewShard, shard_slots}
+use Rattle.pipe_hall.specs.SeatViews.{ShardValue}
 use Rattle.pipe_hall.specs.declared.slot.Slot.TheVariants as slots
 use Rattle.pipe_hall.proofs.FirstTables.{new_more, shard_more}
 use Rattle.pipe_hall.proofs.hall.add_shards.Goals as goal
@@ -11,7 +12,7 @@ pub loop-number-preserved : goal.loop-number-preserved
 loop-number-preserved g c =
     let i = c.loop-number.invariant in
     let s = i.shards in
-    let x = c.in_ok-shard.shard in
+    let x = c.in_ok-kept.kept in
     let e = c.in_ok-shard.ensures in
     let p = c.push_reserved.ensures in
     let init = c.args.slots.now.items in
@@ -29,6 +30,7 @@ loop-number-preserved g c =
         p.items ∙ (ap (λ l. l ++ slots.Shard x ∷ []) s.1 ∙ (append_assoc init (shard_slots s.0) (slots.Shard x ∷ []) ∙ ap (λ l. init ++ l) (sym (shard_more g.row.M.Denot s.0 x)))),
         (let n = length-append s.0 (x ∷ []) in let l = s.2 in omega (arith, n, l)),
         new_more (IsNewShard c.args.before.now (tree_of c.args.checked.now) c.args.passes.now) s.0 x c.loop-number.number s.2 s.3
-            (record { number = e.number; part = e.part; cells = e.cells; histories = e.histories; room = e.room; log = e.log; last = e.last; lists = lists }),
+            (subst (λ (y : ShardValue). IsNewShard c.args.before.now (tree_of c.args.checked.now) c.args.passes.now c.loop-number.number y) (sym c.in_ok-kept.ensures)
+            (record { number = e.number; part = e.part; cells = e.cells; histories = e.histories; room = e.room; log = e.log; last = e.last; lists = lists })),
       );
     }

@@ -1,12 +1,13 @@
-use Rattle.std.proofs.Common.{◌≡◌, ◌<◌, ◌+◌, ◌%◌, ◌∙◌, subst, ap, [], ◌∷◌, refl, Some, length, inl, inr, ⊎_elim}
+use Rattle.std.proofs.Common.{◌≡◌, ◌<◌, ◌+◌, ◌%◌, ◌∙◌, subst, sym, ap, [], ◌∷◌, refl, Some, length, inl, inr, ⊎_elim}
 use Rattle.pipe_model.specs.Language.Programs.{store_of}
 use Rattle.pipe_frame.specs.Ties.{AreSeenLists, HallName}
 use Rattle.pipe_hall.specs.SeatViews.{SeatView, TheShard}
 use Rattle.pipe_hall.specs.Accesses.{MadeBy}
 use Rattle.pipe_hall.specs.HallRule.{view_of}
 use Rattle.pipe_hall.specs.WorkerSeats.{name_of}
-use Rattle.pipe_hall.specs.Steps.{ViewAndSlots, after_shard, after_log}
+use Rattle.pipe_hall.specs.Steps.{ShardSnapshot, ViewAndSlots, after_shard, after_log}
 use Rattle.pipe_hall.specs.declared.slot.Slot.TheVariants as slots
+use Rattle.pipe_hall.proofs.Seating.{lent_shard}
 use Rattle.pipe_hall.proofs.Accessing.{can_begin, same_lists, either_made, run_done, trace_done}
 use Rattle.pipe_hall.proofs.instance.access_by.Goals as goal
 
@@ -14,23 +15,28 @@ pub access-done-requires-clause-ready : goal.access-done-requires-clause-ready
 access-done-requires-clause-ready g c =
     let r = c.requires.runs.1 in
     let z = c.args.run.now.table_id in
-    let o = c.args.run.now.me.0.it.constants in
-    can_begin c.args.run.now.me.0.it (1 + c.args.cell.0 % 16) c.take_shard-shard.result c.args.cell.0 r.constants c.take_shard-shard.ensures.snapshot r.knows
+    let v = c.args.run.now.me.0.it in
+    let x = c.get_mut-lent.result.now in
+    let snapshot = subst (ShardSnapshot v (1 + c.args.cell.0 % 16)) (sym c.get_mut-lent.ensures.value) c.take_shard-shard.ensures.snapshot in
+    can_begin v (1 + c.args.cell.0 % 16) x c.args.cell.0 r.constants snapshot r.knows
     (subst (λ (x : HallName). c.args.cell.0 < length (store_of x.tree).values) (ap (name_of z) r.knows) c.requires.cell) refl
 
 pub access-done-requires-clause-lists : goal.access-done-requires-clause-lists
 access-done-requires-clause-lists g c =
     let r = c.requires.runs.1 in
     let z = c.args.run.now.table_id in
-    same_lists c.args.run.now.me.0.it (1 + c.args.cell.0 % 16) c.take_shard-shard.result r.constants c.args.passes.now c.take_shard-shard.ensures.snapshot r.knows
+    let v = c.args.run.now.me.0.it in
+    let x = c.get_mut-lent.result.now in
+    let snapshot = subst (ShardSnapshot v (1 + c.args.cell.0 % 16)) (sym c.get_mut-lent.ensures.value) c.take_shard-shard.ensures.snapshot in
+    same_lists v (1 + c.args.cell.0 % 16) x r.constants c.args.passes.now snapshot r.knows
     (subst (λ (x : HallName). AreSeenLists (Some c.args.passes.now) x.lists.down x.lists.right) (ap (name_of z) r.knows) c.requires.lists)
 
 pub return_shard-requires-clause-made : goal.return_shard-requires-clause-made
 return_shard-requires-clause-made g c =
     let q = c.requires.runs in
     let r = q.1 in
-    let x = c.take_shard-shard.result in
-    let t = c.take_shard-shard.ensures.taken in
+    let x = c.get_mut-lent.result.now in
+    let t = lent_shard g.row.M.Denot c.args.run.now.me c.take_shard-shard.new.seat.me (1 + c.args.cell.0 % 16) c.take_shard-shard.result x c.get_mut-lent.ensures.value c.take_shard-shard.ensures.taken in
     let i = 1 + c.args.cell.0 % 16 in
     let e = c.access-done.ensures in
     let m1 = c.take_shard-shard.new.seat.me in
@@ -47,9 +53,9 @@ pub returns-clause-ran : goal.returns-clause-ran
 returns-clause-ran g c =
     let q = c.requires.runs in
     let r = q.1 in
-    let x = c.take_shard-shard.result in
+    let x = c.get_mut-lent.result.now in
     let y = c.access-done.new.self in
-    let t = c.take_shard-shard.ensures.taken in
+    let t = lent_shard g.row.M.Denot c.args.run.now.me c.take_shard-shard.new.seat.me (1 + c.args.cell.0 % 16) c.take_shard-shard.result x c.get_mut-lent.ensures.value c.take_shard-shard.ensures.taken in
     let i = 1 + c.args.cell.0 % 16 in
     let e = c.access-done.ensures in
     let v = c.args.run.now.me.0.it in
@@ -64,4 +70,4 @@ pub returns-clause-trace : goal.returns-clause-trace
 returns-clause-trace g c =
     let q = c.requires.runs in
     let e = c.access-done.ensures in
-    trace_done c.args.who q.0 q.2 c.args.now c.args.cell.0 q.3 c.args.write c.take_shard-shard.result c.access-done.new.self c.args.trace.now c.access-done.new.trace c.access-done.result e.none e.made
+    trace_done c.args.who q.0 q.2 c.args.now c.args.cell.0 q.3 c.args.write c.get_mut-lent.result.now c.access-done.new.self c.args.trace.now c.access-done.new.trace c.access-done.result e.none e.made
