@@ -12,7 +12,7 @@ use Rattle.pipe_frame.specs.HallViews.{BeginsWith}
 use Rattle.frame_book.specs.BookStates.{BookState, events_of}
 use Rattle.pipe_hall.specs.SeatViews.{HallConstants, InstanceData, SeatView, ShardValue, SlotValue, constants_of, nothing_known}
 use Rattle.pipe_hall.specs.Logs.{with_at}
-use Rattle.pipe_hall.specs.HallRule.{Board, IsPlaced, IsRightView, slot_of, value_at, view_of}
+use Rattle.pipe_hall.specs.HallRule.{Board, IsPlaced, IsRightView, place, slot_of, value_at, view_of, width}
 use Rattle.pipe_hall.specs.Steps.{holding, constants_after, without_run, run_seat, worker_seat, with_run, joined}
 use Rattle.pipe_hall.specs.declared.view.View.{View}
 use Rattle.pipe_hall.specs.declared.slot.Slot.{Slot}
@@ -57,6 +57,16 @@ word_else (x ∷ xs) (suc i) (suc j) n ne = word_else xs i j n (λ e. ne (ap suc
 -- a word that is set to what it was
 word_again : (ws : List ℕ) (i j n : ℕ) → get_or ws i 0 ≡ n → i < length ws → get_or (set ws i n) j 0 ≡ get_or ws j 0
 word_again ws i j n e l = dite (ℕ_discrete j i) (λ s. subst (λ k. get_or (set ws i n) k 0 ≡ get_or ws k 0) (sym s) (word_here ws i n l ∙ sym e)) (λ ne. word_else ws i j n ne)
+
+-- ---- indices of locks
+
+-- two locks have two indices
+pub places_apart : (i j : ℕ) → i ≢ j → place i ≢ place j
+places_apart i j ne e = ne (omega (arith, e))
+
+-- which are within the table
+pub in_width : (i n : ℕ) → n ≡ width → i < 17 → place i < n
+in_width i n w l = omega (arith, w, l)
 
 -- ---- members
 
@@ -124,7 +134,7 @@ module _ (M : Type 0) where
     seen = r.seen;
     met = r.met;
     run = r.run;
-    held = λ i x a. (let h = r.held i x a in (h.0, h.1, same i ∙ h.2, h.3));
+    held = λ i x a. (let h = r.held i x a in (h.0, h.1, same (place i) ∙ h.2, h.3));
   }
 
   -- a value stays in its slot at an equal word and an equal slot
@@ -141,50 +151,51 @@ module _ (M : Type 0) where
   module _ (s : St) (b : BookState) (shard : ℕ → ShardValue) (seats : ℕ → Option InstanceData) (o : Board s b shard seats) where
     -- ---- kind 1 and kind 3: a slot's value is taken
 
-    module _ (i id : ℕ) (v : View) (l : i < 17) (at : get_elem? s.views id ≡ some v) (z : get_or s.words i 0 ≡ 0) where
+    module _ (i id : ℕ) (v : View) (l : i < 17) (at : get_elem? s.views id ≡ some v) (z : get_or s.words (place i) 0 ≡ 0) where
       abbrev new_view : View
       new_view = view_of (holding v.it i (value_at b shard i))
 
       abbrev taken : St
-      taken = record { words = set s.words i 1; homes = set s.homes i none; views = set s.views id new_view }
+      taken = record { words = set s.words (place i) 1; homes = set s.homes (place i) none; views = set s.views id new_view }
 
       abbrev holder' : ℕ → ℕ
       holder' = with_at o.holder i id
 
-      in_words : i < length s.words
-      in_words = let w = o.words in omega (arith, w)
+      in_words : place i < length s.words
+      in_words = in_width i (length s.words) o.words l
 
-      in_homes : i < length s.homes
-      in_homes = let w = o.homes in omega (arith, w)
+      in_homes : place i < length s.homes
+      in_homes = in_width i (length s.homes) o.homes l
 
       -- what was held is another slot
-      still_held : (j : ℕ) (k : ℕ) (y : SlotValue) → (k < 17) × (o.holder k ≡ j) × (get_or s.words k 0 ≡ 1) × (y ≡ value_at b shard k)
-          → (k < 17) × (holder' k ≡ j) × (get_or (set s.words i 1) k 0 ≡ 1) × (y ≡ value_at b shard k)
+      still_held : (j : ℕ) (k : ℕ) (y : SlotValue) → (k < 17) × (o.holder k ≡ j) × (get_or s.words (place k) 0 ≡ 1) × (y ≡ value_at b shard k)
+          → (k < 17) × (holder' k ≡ j) × (get_or (set s.words (place i) 1) (place k) 0 ≡ 1) × (y ≡ value_at b shard k)
       still_held j k y h =
-          let ne : k ≢ i = λ e. (let a : get_or s.words i 0 ≡ 1 = subst (λ n. get_or s.words n 0 ≡ 1) e h.2 in absurd (omega (arith, a, z))) in
-          (h.0, with_else o.holder i id k ne ∙ h.1, word_else s.words i k 1 ne ∙ h.2, h.3)
+          let ne : k ≢ i = λ e. (let a : get_or s.words (place i) 0 ≡ 1 = subst (λ n. get_or s.words (place n) 0 ≡ 1) e h.2 in absurd (omega (arith, a, z))) in
+          (h.0, with_else o.holder i id k ne ∙ h.1, word_else s.words (place i) (place k) 1 (places_apart k i ne) ∙ h.2, h.3)
 
       pub take_board : Board taken b shard seats
       take_board = record {
         number = o.number;
         holder = holder';
-        words = length-set s.words i 1 ∙ o.words;
-        homes = length-set s.homes i none ∙ o.homes;
+        words = length-set s.words (place i) 1 ∙ o.words;
+        homes = length-set s.homes (place i) none ∙ o.homes;
         places = λ j w. dite (ℕ_discrete j i)
-            (λ e. subst (λ k. IsPlaced {M = M} (set s.words i 1) (set s.homes i none) k (value_at b shard k)) (sym e) (record {
-              home = λ n. (let a = word_here s.words i 1 in_words in absurd (omega (arith, a, n)));
-              away = λ _. (word_here s.words i 1 in_words, set_here s.homes i none in_homes);
+            (λ e. subst (λ k. IsPlaced {M = M} (set s.words (place i) 1) (set s.homes (place i) none) (place k) (value_at b shard k)) (sym e) (record {
+              home = λ n. (let a = word_here s.words (place i) 1 in_words in absurd (omega (arith, a, n)));
+              away = λ _. (word_here s.words (place i) 1 in_words, set_here s.homes (place i) none in_homes);
             }))
-            (λ ne. placed_same s.words (set s.words i 1) s.homes (set s.homes i none) j (value_at b shard j) (word_else s.words i j 1 ne) (set_else s.homes i j none ne) (o.places j w));
-        right = views_with (λ j w. IsRightView (set s.words i 1) b shard seats o.number holder' j w.it) s.views id new_view
+            (λ ne. placed_same s.words (set s.words (place i) 1) s.homes (set s.homes (place i) none) (place j) (value_at b shard j) (word_else s.words (place i) (place j) 1 (places_apart j i ne))
+            (set_else s.homes (place i) (place j) none (places_apart j i ne)) (o.places j w));
+        right = views_with (λ j w. IsRightView (set s.words (place i) 1) b shard seats o.number holder' j w.it) s.views id new_view
             (let r = o.right id v at in record {
               constants = λ a e. constants_taken v.it b shard i a r.constants e;
               seen = r.seen;
               met = r.met;
               run = r.run;
               held = λ k y m. ⊎_elim
-                  (λ (e : (k, y) ≡ (i, value_at b shard i)). subst (λ (p : ℕ × SlotValue). (p.0 < 17) × (holder' p.0 ≡ id) × (get_or (set s.words i 1) p.0 0 ≡ 1) × (p.1 ≡ value_at b shard p.0)) (sym e)
-                  (l, with_here o.holder i id, word_here s.words i 1 in_words, refl))
+                  (λ (e : (k, y) ≡ (i, value_at b shard i)). subst (λ (p : ℕ × SlotValue). (p.0 < 17) × (holder' p.0 ≡ id) × (get_or (set s.words (place i) 1) (place p.0) 0 ≡ 1) × (p.1 ≡ value_at b shard p.0)) (sym e)
+                  (l, with_here o.holder i id, word_here s.words (place i) 1 in_words, refl))
                   (λ old. still_held id k y (r.held k y old)) (among_cons (k, y) (i, value_at b shard i) v.it.held m);
             })
             (λ j d ne e. (let r = o.right j d e in record { constants = r.constants; seen = r.seen; met = r.met; run = r.run; held = λ k y m. still_held j k y (r.held k y m) }));
@@ -201,7 +212,7 @@ module _ (M : Type 0) where
 
     -- ---- a view changes only in what it has seen, at a word that stays as it is
 
-    module _ (i id : ℕ) (v : View) (n : ℕ) (l : i < 17) (at : get_elem? s.views id ≡ some v) (z : get_or s.words i 0 ≡ n) where
+    module _ (i id : ℕ) (v : View) (n : ℕ) (l : i < width) (at : get_elem? s.views id ≡ some v) (z : get_or s.words i 0 ≡ n) where
       abbrev looked : View → St
       looked w = record { words = set s.words i n; homes = s.homes; views = set s.views id w }
 
@@ -216,7 +227,7 @@ module _ (M : Type 0) where
             holder = o.holder;
             words = length-set s.words i n ∙ o.words;
             homes = o.homes;
-            places = λ j k. placed_same s.words (set s.words i n) s.homes s.homes j (value_at b shard j) (same j) refl (o.places j k);
+            places = λ j k. placed_same s.words (set s.words i n) s.homes s.homes (place j) (value_at b shard j) (same (place j)) refl (o.places j k);
             right = views_with (λ j u. IsRightView (set s.words i n) b shard seats o.number o.holder j u.it) s.views id w
                 (right_words s.words (set s.words i n) b shard seats o.number o.holder id w.it same (record {
                   constants = λ a e. r.constants a (sym wc ∙ e);
@@ -244,17 +255,17 @@ module _ (M : Type 0) where
         (others : (j : ℕ) → j ≢ i → value_at b' shard' j ≡ value_at b shard j)
         (constants : constants_of b' ≡ constants_of b)
         (grows : BeginsWith (events_of b'.log) (events_of b.log)) where
-      mine : (i < 17) × (o.holder i ≡ id) × (get_or s.words i 0 ≡ 1) × (y ≡ value_at b shard i)
+      mine : (i < 17) × (o.holder i ≡ id) × (get_or s.words (place i) 0 ≡ 1) × (y ≡ value_at b shard i)
       mine = (o.right id v at).held i y (subst (λ hs. Among (i, y) hs) (sym held) Here)
 
       abbrev given : St
-      given = record { words = set s.words i 0; homes = set s.homes i (some (slot_of (value_at b' shard' i))); views = set s.views id w }
+      given = record { words = set s.words (place i) 0; homes = set s.homes (place i) (some (slot_of (value_at b' shard' i))); views = set s.views id w }
 
-      in_words' : i < length s.words
-      in_words' = let a = o.words in let c = mine.0 in omega (arith, a, c)
+      in_words' : place i < length s.words
+      in_words' = in_width i (length s.words) o.words mine.0
 
-      in_homes' : i < length s.homes
-      in_homes' = let a = o.homes in let c = mine.0 in omega (arith, a, c)
+      in_homes' : place i < length s.homes
+      in_homes' = in_width i (length s.homes) o.homes mine.0
 
       pub give_board : w.it.constants ≡ v.it.constants → w.it.held ≡ [] → BeginsWith (events_of b'.log) w.it.seen → w.it.met ≡ v.it.met
           → ((d : InstanceData) → w.it.run ≡ Some d → (seats' d.fields.iteration ≡ Some d) × (number' d.fields.iteration ≡ id))
@@ -264,16 +275,17 @@ module _ (M : Type 0) where
       give_board wa wh ws wm wr oth st = record {
         number = number';
         holder = o.holder;
-        words = length-set s.words i 0 ∙ o.words;
-        homes = length-set s.homes i _ ∙ o.homes;
+        words = length-set s.words (place i) 0 ∙ o.words;
+        homes = length-set s.homes (place i) _ ∙ o.homes;
         places = λ j l. dite (ℕ_discrete j i)
-            (λ e. subst (λ k. IsPlaced {M = M} (set s.words i 0) (set s.homes i (some (slot_of (value_at b' shard' i)))) k (value_at b' shard' k)) (sym e) (record {
-              home = λ _. set_here s.homes i (some (slot_of (value_at b' shard' i))) in_homes';
-              away = λ n. absurd (n (word_here s.words i 0 in_words'));
+            (λ e. subst (λ k. IsPlaced {M = M} (set s.words (place i) 0) (set s.homes (place i) (some (slot_of (value_at b' shard' i)))) (place k) (value_at b' shard' k)) (sym e) (record {
+              home = λ _. set_here s.homes (place i) (some (slot_of (value_at b' shard' i))) in_homes';
+              away = λ n. absurd (n (word_here s.words (place i) 0 in_words'));
             }))
-            (λ ne. subst (λ x. IsPlaced {M = M} (set s.words i 0) (set s.homes i (some (slot_of (value_at b' shard' i)))) j x) (sym (others j ne))
-            (placed_same s.words (set s.words i 0) s.homes (set s.homes i (some (slot_of (value_at b' shard' i)))) j (value_at b shard j) (word_else s.words i j 0 ne) (set_else s.homes i j _ ne) (o.places j l)));
-        right = views_with (λ j u. IsRightView (set s.words i 0) b' shard' seats' number' o.holder j u.it) s.views id w
+            (λ ne. subst (λ x. IsPlaced {M = M} (set s.words (place i) 0) (set s.homes (place i) (some (slot_of (value_at b' shard' i)))) (place j) x) (sym (others j ne))
+            (placed_same s.words (set s.words (place i) 0) s.homes (set s.homes (place i) (some (slot_of (value_at b' shard' i)))) (place j) (value_at b shard j)
+            (word_else s.words (place i) (place j) 0 (places_apart j i ne)) (set_else s.homes (place i) (place j) _ (places_apart j i ne)) (o.places j l)));
+        right = views_with (λ j u. IsRightView (set s.words (place i) 0) b' shard' seats' number' o.holder j u.it) s.views id w
             (let r = o.right id v at in record {
               constants = λ a e. r.constants a (sym wa ∙ e) ∙ sym constants;
               seen = ws;
@@ -289,7 +301,7 @@ module _ (M : Type 0) where
               held = λ k x m. (
                   let h = r.held k x m in
                   let far : k ≢ i = λ q. ne (sym h.1 ∙ (ap o.holder q ∙ mine.1)) in
-                  (h.0, h.1, word_else s.words i k 0 far ∙ h.2, h.3 ∙ sym (others k far)));
+                  (h.0, h.1, word_else s.words (place i) (place k) 0 (places_apart k i far) ∙ h.2, h.3 ∙ sym (others k far)));
             }));
         stands = st;
       }

@@ -32,13 +32,13 @@ use Rattle.pipe_hall.specs.Logs.{with_at}
 use Rattle.pipe_hall.specs.Accesses.{MadeBy, next_ticket}
 use Rattle.pipe_hall.specs.BookParts.{HasSeats, KnowsInstance, marks_in}
 use Rattle.pipe_hall.specs.ShardParts.{HasShard}
-use Rattle.pipe_hall.specs.HallRule.{Board, IsHall, slot_of, value_at, view_of}
-use Rattle.pipe_hall.specs.Steps.{ViewAndSlots, IsSnapshot, holding, takes_slot, after_book, new_instance, returns_book, returns_book_and_token, after_shard, after_entries, after_log, returns_shard, meets, with_longer, HoldsAll, ClosedHall, without_run, run_seat, worker_seat, with_run, joined}
+use Rattle.pipe_hall.specs.HallRule.{Board, IsHall, place, slot_of, value_at, view_of, width}
+use Rattle.pipe_hall.specs.Steps.{ViewAndSlots, IsSnapshot, holding, takes_slot, takes_value, after_book, new_instance, returns_book, returns_book_and_token, after_shard, after_entries, after_log, returns_shard, meets, with_longer, HoldsAll, ClosedHall, without_run, run_seat, worker_seat, with_run, joined}
 use Rattle.pipe_hall.specs.BookCalls.{IsBookCall}
 use Rattle.pipe_hall.specs.declared.view.View.{View}
 use Rattle.pipe_hall.specs.declared.slot.Slot.{Slot}
 use Rattle.pipe_hall.specs.declared.slot.Slot.TheVariants as slots
-use Rattle.pipe_hall.proofs.Boards.{at_within, begins_all, with_here, with_else, same_at, take_board, look_board, give_board, longer_begins, begins_none, begins_with_first, begins_with_second, split_instance, split_worker, join_run_board, join_workers}
+use Rattle.pipe_hall.proofs.Boards.{at_within, begins_all, in_width, with_here, with_else, same_at, take_board, look_board, give_board, longer_begins, begins_none, begins_with_first, begins_with_second, split_instance, split_worker, join_run_board, join_workers}
 use Rattle.pipe_hall.proofs.ControlPrefixes.{control_prefix}
 use Rattle.pipe_hall.proofs.CallEffects.{seats_after_call, shard_after_call}
 use Rattle.pipe_hall.proofs.Sharding.{run_accessed, shard_met, shard_accessed, seats_accessed, other_shard, own_shard}
@@ -75,7 +75,7 @@ module _ (M : Type 0) (start : HallStart) where
       }
 
   -- the rule where nothing but a word is set to what it was
-  stays : (s : St) (h : Rule s) (i id n : ℕ) (v : View) → i < 17 → get_elem? s.views id ≡ some v → get_or s.words i 0 ≡ n → Rule (record { words = set s.words i n; homes = s.homes; views = set s.views id v })
+  stays : (s : St) (h : Rule s) (i id n : ℕ) (v : View) → i < width → get_elem? s.views id ≡ some v → get_or s.words i 0 ≡ n → Rule (record { words = set s.words i n; homes = s.homes; views = set s.views id v })
   stays s h i id n v l at z = record {
     book = h.book;
     shard = h.shard;
@@ -86,11 +86,15 @@ module _ (M : Type 0) (start : HallStart) where
     has_shards = h.has_shards;
   }
 
-  pub may_take : (n id : ℕ) (m : ViewAndSlots M) (i : ℕ) → i < 17 → Allows Rule n id m i (λ _. 1) (takes_slot (step n i 1 0 none) m)
-  may_take n id m i l s h _ at _ = dite (ℕ_discrete (get_or s.words i 0) 0)
+  -- what was said of one lock at an index is said of each
+  of_each : (n i : ℕ) (m k : ViewAndSlots M) (r : ℕ) → takes_value i m r k → takes_slot (step n (place i) 1 0 none) m r k
+  of_each n i m k r t j e = (let same : i ≡ j = omega (arith, e) in subst (λ (l : ℕ). takes_value l m r k) same t)
+
+  pub may_take : (n id : ℕ) (m : ViewAndSlots M) (i : ℕ) → i < 17 → Allows Rule n id m (place i) (λ _. 1) (takes_slot (step n (place i) 1 0 none) m)
+  may_take n id m i l s h _ at _ = dite (ℕ_discrete (get_or s.words (place i) 0) 0)
       (λ z. (
         view_of (holding m.0.it i (value_at h.book h.shard i)),
-        takes i (slot_of (value_at h.book h.shard i)),
+        takes (place i) (slot_of (value_at h.book h.shard i)),
         (h.board.places i l).home z,
         record {
           book = h.book;
@@ -101,14 +105,14 @@ module _ (M : Type 0) (start : HallStart) where
           has_seats = h.has_seats;
           has_shards = h.has_shards;
         },
-        ((λ _. (value_at h.book h.shard i, refl, snapshot_at s h id m.0 at i l)), λ nz. absurd (nz z)),
+        of_each n i m _ _ ((λ _. (value_at h.book h.shard i, refl, snapshot_at s h id m.0 at i l)), λ nz. absurd (nz z)),
       ))
       (λ nz. (
         m.0,
         keeps,
         tt,
-        stays s h i id 1 m.0 l at ((h.board.places i l).away nz).0,
-        ((λ z. absurd (nz z)), λ _. refl),
+        stays s h (place i) id 1 m.0 (in_width i width refl l) at ((h.board.places i l).away nz).0,
+        of_each n i m _ _ ((λ z. absurd (nz z)), λ _. refl),
       ))
 
   -- ---- kind 2
@@ -268,7 +272,7 @@ module _ (M : Type 0) (start : HallStart) where
   drop_all (x ∷ xs) = drop_all xs
 
   abbrev shard_state : (s : St) (id k : ℕ) (w : View) (y : ShardValue) → St
-  shard_state s id k w y = record { words = set s.words (suc k) 0; homes = set s.homes (suc k) (some (slots.Shard y)); views = set s.views id w }
+  shard_state s id k w y = record { words = set s.words (place (suc k)) 0; homes = set s.homes (place (suc k)) (some (slots.Shard y)); views = set s.views id w }
 
   -- the shard comes back as it was
   unchanged : (s : St) (h : Rule s) (id k : ℕ) (v : View) → get_elem? s.views id ≡ some v → v.it.held ≡ (suc k, TheShard (h.shard k)) ∷ []
@@ -381,16 +385,16 @@ module _ (M : Type 0) (start : HallStart) where
 
   module _ (n id k : ℕ) (v : View) (x y : ShardValue) (held : v.it.held ≡ (suc k, TheShard x) ∷ []) where
     abbrev shard_sat : ViewAndSlots M
-    shard_sat = (v, (suc k, slots.Shard y) ∷ [])
+    shard_sat = (v, (place (suc k), slots.Shard y) ∷ [])
 
-    told_shard : returns_shard {M = M} (step n (suc k) 0 0 none) shard_sat 0 (view_of (after_shard v.it x y), [])
+    told_shard : returns_shard {M = M} (step n (place (suc k)) 0 0 none) shard_sat 0 (view_of (after_shard v.it x y), [])
     unfolding held_shard_in shard_in
     told_shard j a b e f =
         let p : x ≡ a = ap (held_shard_in x) (sym held ∙ e) in
         let q : y ≡ b = ap (shard_in y) f in
         ap (λ (z : ShardValue). (view_of (after_shard v.it z y), [])) p ∙ ap (λ (z : ShardValue). (view_of (after_shard v.it a z), [])) q
 
-    shard_back : (y ≡ x) ⊎ ((d : InstanceData) × (v.it.run ≡ Some d) × MadeBy d k x y) → Allows Rule n id shard_sat (suc k) (λ _. 0) (λ _. returns_shard (step n (suc k) 0 0 none) shard_sat 0)
+    shard_back : (y ≡ x) ⊎ ((d : InstanceData) × (v.it.run ≡ Some d) × MadeBy d k x y) → Allows Rule n id shard_sat (place (suc k)) (λ _. 0) (λ _. returns_shard (step n (place (suc k)) 0 0 none) shard_sat 0)
     shard_back how s h _ at _ =
         let p = holds_shard s h id k v x at held in
         let held' : v.it.held ≡ (suc k, TheShard (h.shard k)) ∷ [] = held ∙ ap (λ (z : ShardValue). (suc k, TheShard z) ∷ []) p.1 in
@@ -415,14 +419,14 @@ module _ (M : Type 0) (start : HallStart) where
         still None e = refl
         still (Some d) e = sym (ap (λ es. Some (after_entries d es)) (ap (drop (length x.log)) e ∙ drop_all x.log))
 
-  pub may_return_shard : (n id k : ℕ) (m : ViewAndSlots M) (v : View) (x y : ShardValue) → m ≡ (v, (suc k, slots.Shard y) ∷ []) → v.it.held ≡ (suc k, TheShard x) ∷ []
-      → (y ≡ x) ⊎ ((d : InstanceData) × (v.it.run ≡ Some d) × MadeBy d k x y) → Allows Rule n id m (suc k) (λ _. 0) (λ _. returns_shard (step n (suc k) 0 0 none) m 0)
-  may_return_shard n id k m v x y e held how = subst (λ (z : ViewAndSlots M). Allows Rule n id z (suc k) (λ _. 0) (λ _. returns_shard (step n (suc k) 0 0 none) z 0)) (sym e) (shard_back n id k v x y held how)
+  pub may_return_shard : (n id k : ℕ) (m : ViewAndSlots M) (v : View) (x y : ShardValue) → m ≡ (v, (place (suc k), slots.Shard y) ∷ []) → v.it.held ≡ (suc k, TheShard x) ∷ []
+      → (y ≡ x) ⊎ ((d : InstanceData) × (v.it.run ≡ Some d) × MadeBy d k x y) → Allows Rule n id m (place (suc k)) (λ _. 0) (λ _. returns_shard (step n (place (suc k)) 0 0 none) m 0)
+  may_return_shard n id k m v x y e held how = subst (λ (z : ViewAndSlots M). Allows Rule n id z (place (suc k)) (λ _. 0) (λ _. returns_shard (step n (place (suc k)) 0 0 none) z 0)) (sym e) (shard_back n id k v x y held how)
 
-  pub may_return_shard_at : (n id i k : ℕ) (m : ViewAndSlots M) (v : View) (x y : ShardValue) → i ≡ suc k → m ≡ (v, (i, slots.Shard y) ∷ []) → v.it.held ≡ (i, TheShard x) ∷ []
-      → (y ≡ x) ⊎ ((d : InstanceData) × (v.it.run ≡ Some d) × MadeBy d k x y) → Allows Rule n id m i (λ _. 0) (λ _. returns_shard (step n i 0 0 none) m 0)
+  pub may_return_shard_at : (n id i k : ℕ) (m : ViewAndSlots M) (v : View) (x y : ShardValue) → i ≡ suc k → m ≡ (v, (place i, slots.Shard y) ∷ []) → v.it.held ≡ (i, TheShard x) ∷ []
+      → (y ≡ x) ⊎ ((d : InstanceData) × (v.it.run ≡ Some d) × MadeBy d k x y) → Allows Rule n id m (place i) (λ _. 0) (λ _. returns_shard (step n (place i) 0 0 none) m 0)
   may_return_shard_at n id i k m v x y e me held how =
-      subst (λ (j : ℕ). m ≡ (v, (j, slots.Shard y) ∷ []) → v.it.held ≡ (j, TheShard x) ∷ [] → Allows Rule n id m j (λ _. 0) (λ _. returns_shard (step n j 0 0 none) m 0)) (sym e) (λ p q. may_return_shard n id k m v x y p q how) me held
+      subst (λ (j : ℕ). m ≡ (v, (place j, slots.Shard y) ∷ []) → v.it.held ≡ (j, TheShard x) ∷ [] → Allows Rule n id m (place j) (λ _. 0) (λ _. returns_shard (step n (place j) 0 0 none) m 0)) (sym e) (λ p q. may_return_shard n id k m v x y p q how) me held
 
   -- ---- kinds 6 and 7
 

@@ -16,7 +16,7 @@ use Rattle.pipe_hall.specs.SeatViews.{HallConstants, HallStart, InstanceData, Se
 use Rattle.pipe_hall.specs.Logs.{entry_of}
 use Rattle.pipe_hall.specs.BookParts.{HasSeats, KnowsInstance}
 use Rattle.pipe_hall.specs.ShardParts.{HasShard}
-use Rattle.pipe_hall.specs.HallRule.{view_of, slot_of}
+use Rattle.pipe_hall.specs.HallRule.{place, slot_of, view_of}
 use Rattle.pipe_hall.specs.declared.view.View.{View}
 use Rattle.pipe_hall.specs.declared.slot.Slot.{Slot}
 use Rattle.pipe_hall.specs.declared.slot.Slot.TheVariants as slots
@@ -24,7 +24,7 @@ use Rattle.pipe_hall.specs.declared.slot.Slot.TheVariants as slots
 abbrev pub ViewAndSlots : Type 0 → Type 0
 ViewAndSlots M = Me (Slot M) View
 
--- ---- a slot's value is taken
+-- ---- the value of a lock is taken
 
 -- who has taken the book knows the constants of the hall
 abbrev pub constants_after : SeatView → SlotValue → Option HallConstants
@@ -60,9 +60,12 @@ abbrev pub IsSnapshot : SeatView → ℕ → SlotValue → Type 0
 IsSnapshot v i (TheBook b) = BookSnapshot v i b
 IsSnapshot v i (TheShard x) = ShardSnapshot v i x
 
--- the value was taken, or the lock was taken already
+-- the value of lock i was taken, or the lock was taken already
+abbrev pub takes_value : {M : Type 0} → ℕ → ViewAndSlots M → ℕ → ViewAndSlots M → Type 0
+takes_value {M} i m r n = (r ≡ 0 → (x : SlotValue) × (n ≡ (view_of (holding m.0.it i x), (place i, slot_of x) ∷ m.1)) × IsSnapshot m.0.it i x) × (r ≢ 0 → n ≡ m)
+
 abbrev pub takes_slot : {M : Type 0} → Step (Slot M) → ViewAndSlots M → ℕ → ViewAndSlots M → Type 0
-takes_slot {M} st m r n = (r ≡ 0 → (x : SlotValue) × (n ≡ (view_of (holding m.0.it st.word x), (st.word, slot_of x) ∷ m.1)) × IsSnapshot m.0.it st.word x) × (r ≢ 0 → n ≡ m)
+takes_slot {M} st m r n = (i : ℕ) → st.word ≡ place i → takes_value i m r n
 
 -- ---- the book is given back
 
@@ -97,7 +100,7 @@ abbrev pub after_shard : SeatView → ShardValue → ShardValue → SeatView
 after_shard v x y = record v { run = after_log v.run x.log y.log; held = [] }
 
 abbrev pub returns_shard : {M : Type 0} → Step (Slot M) → ViewAndSlots M → ℕ → ViewAndSlots M → Type 0
-returns_shard {M} st m r n = (i : ℕ) (x y : ShardValue) → m.0.it.held ≡ (i, TheShard x) ∷ [] → m.1 ≡ (i, slots.Shard y) ∷ []
+returns_shard {M} st m r n = (i : ℕ) (x y : ShardValue) → m.0.it.held ≡ (i, TheShard x) ∷ [] → m.1 ≡ (place i, slots.Shard y) ∷ []
     → n ≡ (view_of (after_shard m.0.it x y), [])
 
 -- ---- splits and joins

@@ -1,16 +1,16 @@
 //! The hall, and the bare seats of its workers.
 
-ghost use Rattle.std.specs.Prelude.{◌≡◌, ◌<◌, ◌≤◌, ◌+◌, ◌++◌, [], ℕ, List, Some, IfOk, length, vec_capacity};
+ghost use Rattle.std.specs.Prelude.{◌≡◌, ◌<◌, ◌≤◌, ◌+◌, ◌++◌, [], ℕ, List, Some, IfOk, length, replicate, vec_capacity};
 ghost use Rattle.frame_book.specs.NewBooks.{new_book};
 ghost use Rattle.pipe_model.specs.Language.SyntaxTree.{tree_of};
 ghost use Rattle.pipe_hall.specs.Closing.{shard_in};
-ghost use Rattle.pipe_hall.specs.NewShards.{IsNewShard, shard_slots};
+ghost use Rattle.pipe_hall.specs.NewShards.{IsNewShard, shard_slots, spaced};
 ghost use Rattle.pipe_hall.specs.SeatViews.{ShardValue, constants_of};
 ghost use Rattle.pipe_hall.specs.ShardParts.{HaveIdentities};
 
 use crate::carrier::Carrier;
 use crate::kept::Kept;
-use crate::locks::Locks;
+use crate::locks::{Locks, STRIDE};
 use crate::opening::Opening;
 use crate::shard::{SHARDS, Shard};
 use crate::slot::Slot;
@@ -69,8 +69,29 @@ impl<M: Carrier> Model for HallKey<M> {
     ghost invariant = { λ k. IsIdle k.seat.me };
 }
 
-// The words of the locks, which are free.
-const FREE: [u64; 17] = [0; 17];
+// The words of the locks, which are free, and those between them.
+const FREE: [u64; 136] = [0; 136];
+
+// Appends slots that nobody uses, up to that of the next lock.
+fn push_gap<M: Carrier>(slots: &mut Vec<Slot<M>>)
+    requires room { length slots.old.items + 7 ≤ vec_capacity slots.old }
+    ensures items { slots.new.items ≡ slots.old.items ++ replicate 7 Slot.Out }
+    ensures capacity { vec_capacity slots.new ≡ vec_capacity slots.old }
+{
+    for _gap in 0..STRIDE - 1 {
+        slots.push_reserved(Slot::Out);
+    }
+}
+
+// Appends the slot of a lock.
+fn push_slot<M: Carrier>(slots: &mut Vec<Slot<M>>, value: Slot<M>)
+    requires room { length slots.old.items + 8 ≤ vec_capacity slots.old }
+    ensures items { slots.new.items ≡ slots.old.items ++ spaced value }
+    ensures capacity { vec_capacity slots.new ≡ vec_capacity slots.old }
+{
+    slots.push_reserved(value);
+    push_gap(slots);
+}
 
 // Appends the shards of the program's cells, in the order of their numbers.
 fn add_shards<M: Carrier>(
@@ -80,13 +101,13 @@ fn add_shards<M: Carrier>(
     passes: &mut TwoPasses,
     slots: &mut Vec<Slot<M>>,
 ) -> Result<(), NoMemory>
-    requires room { length slots.old.items + 16 ≤ vec_capacity slots.old }
+    requires room { length slots.old.items + 128 ≤ vec_capacity slots.old }
     ensures shards { IfOk result (λ _. (xs : List ShardValue) × (slots.new.items ≡ slots.old.items ++ shard_slots xs) × (length xs ≡ 16) × ((k : ℕ) → k < 16 → IsNewShard before.now (tree_of checked.now) passes.old k (shard_in xs k))) }
 {
     for number in 0..SHARDS {
         let shard = Shard::new(alloc, checked, number, before, passes.split()?)?;
         let kept = Kept::boxed(alloc, shard)?;
-        slots.push_reserved(Slot::Shard(kept));
+        push_slot(slots, Slot::Shard(kept));
     }
     Ok(())
 }
@@ -116,7 +137,7 @@ pub fn hall_after<M: Carrier>(
     };
     let kept = Kept::boxed(alloc, book)?;
     let mut slots = Vec::with_capacity(alloc, FREE.len())?;
-    slots.push_reserved(Slot::Book(kept));
+    push_slot(&mut slots, Slot::Book(kept));
     add_shards(alloc, checked, before, &mut passes, &mut slots)?;
     match Table::new(alloc, &FREE, slots, &opening) {
         Ok((table, seat)) => Ok((

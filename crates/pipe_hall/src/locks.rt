@@ -5,7 +5,7 @@ ghost use Rattle.atomic_table.specs.Table.{rest};
 ghost use Rattle.pipe_frame.specs.TokenFields.{fields_of};
 ghost use Rattle.frame_book.specs.BookStates.{BookState};
 ghost use Rattle.pipe_hall.specs.SeatViews.{HallConstants, InstanceData, ShardValue, SlotValue, TheBook, TheShard};
-ghost use Rattle.pipe_hall.specs.HallRule.{slot_of, view_of};
+ghost use Rattle.pipe_hall.specs.HallRule.{place, slot_of, view_of, width};
 ghost use Rattle.pipe_hall.specs.WorkerSeats.{HoldsBook};
 ghost use Rattle.pipe_hall.specs.InstanceSeats.{badge_view};
 ghost use Rattle.pipe_hall.specs.Steps.{BookSnapshot, ShardSnapshot, IsSnapshot, after_book, after_shard, holding, new_instance, run_seat, with_run};
@@ -36,35 +36,41 @@ use std::sync::Wait;
 #[derive(Drop)]
 pub struct Locks<M: Carrier> {
     pub table: HallTable<M>,
-    pub ghost sized: { (table.shared.table_id.words ≡ 17) × (table.shared.table_id.slots ≡ 17) },
+    pub ghost sized: { (table.shared.table_id.words ≡ width) × (table.shared.table_id.slots ≡ width) },
 }
 
+/// Lock `k` is the word at index `STRIDE * k`, and its value is in the slot at that index. So each
+/// lock and each slot is on a cache line of its own, and threads that take different locks do not take
+/// cache lines from each other.
+pub(crate) const STRIDE: usize = 8;
+
 impl<M: Carrier> Locks<M> {
-    // Takes a slot's value, if nobody has taken it.
-    fn try_take(&self, seat: &mut Seat<Slot<M>, View>, slot: usize) -> Option<Slot<M>>
+    // Takes the value of a lock, if nobody has taken it.
+    fn try_take(&self, seat: &mut Seat<Slot<M>, View>, lock: usize) -> Option<Slot<M>>
         requires own { seat.old.table_id ≡ self.now.table.shared.table_id }
-        requires slot { slot < 17 }
+        requires lock { lock < 17 }
         ensures own { (seat.new.table_id ≡ seat.old.table_id) × (seat.new.id ≡ seat.old.id) }
-        ensures some { IfSome result (λ y. (x : SlotValue) × (y ≡ slot_of x) × (seat.new.me ≡ (view_of (holding seat.old.me.0.it slot x), (slot, Slot.Out) ∷ seat.old.me.1)) × IsSnapshot seat.old.me.0.it slot x) }
+        ensures some { IfSome result (λ y. (x : SlotValue) × (y ≡ slot_of x) × (seat.new.me ≡ (view_of (holding seat.old.me.0.it lock x), (place lock, Slot.Out) ∷ seat.old.me.1)) × IsSnapshot seat.old.me.0.it lock x) }
         ensures none { IfNone result (seat.new.me ≡ seat.old.me) }
     {
         let shared = &self.table.shared;
+        let slot = STRIDE * lock;
         if shared.swap::<TakesSlot>(seat, slot, 1) != 0 {
             return None;
         }
         Some(shared.exchange(seat, slot, Slot::Out))
     }
 
-    // Takes a slot's value, as soon as nobody has taken it.
-    fn take<R: Wait>(&self, rt: &R, seat: &mut Seat<Slot<M>, View>, slot: usize) -> Slot<M>
+    // Takes the value of a lock, as soon as nobody has taken it.
+    fn take<R: Wait>(&self, rt: &R, seat: &mut Seat<Slot<M>, View>, lock: usize) -> Slot<M>
         requires own { seat.old.table_id ≡ self.now.table.shared.table_id }
-        requires slot { slot < 17 }
+        requires lock { lock < 17 }
         ensures own { (seat.new.table_id ≡ seat.old.table_id) × (seat.new.id ≡ seat.old.id) }
-        ensures taken { (x : SlotValue) × (result ≡ slot_of x) × (seat.new.me ≡ (view_of (holding seat.old.me.0.it slot x), (slot, Slot.Out) ∷ seat.old.me.1)) × IsSnapshot seat.old.me.0.it slot x }
+        ensures taken { (x : SlotValue) × (result ≡ slot_of x) × (seat.new.me ≡ (view_of (holding seat.old.me.0.it lock x), (place lock, Slot.Out) ∷ seat.old.me.1)) × IsSnapshot seat.old.me.0.it lock x }
     {
         let backoff = Backoff::new();
         for _ in rt.forever() {
-            if let Some(value) = self.try_take(seat, slot) {
+            if let Some(value) = self.try_take(seat, lock) {
                 return value;
             }
             backoff.snooze();
@@ -101,7 +107,7 @@ impl<M: Carrier> Locks<M> {
         requires own { seat.old.table_id ≡ self.now.table.shared.table_id }
         requires there { number < 16 }
         ensures own { (seat.new.table_id ≡ seat.old.table_id) × (seat.new.id ≡ seat.old.id) }
-        ensures taken { seat.new.me ≡ (view_of (holding seat.old.me.0.it (1 + number) (TheShard result)), (1 + number, Slot.Out) ∷ seat.old.me.1) }
+        ensures taken { seat.new.me ≡ (view_of (holding seat.old.me.0.it (1 + number) (TheShard result)), (place (1 + number), Slot.Out) ∷ seat.old.me.1) }
         ensures snapshot { ShardSnapshot seat.old.me.0.it (1 + number) result }
     {
         match self.take(rt, seat, 1 + number as usize) {
@@ -182,12 +188,12 @@ impl<M: Carrier> Locks<M> {
     )
         requires own { seat.old.table_id ≡ self.now.table.shared.table_id }
         requires there { number < 16 }
-        requires made { (x : ShardValue) × (seat.old.me.1 ≡ (1 + number, Slot.Out) ∷ []) × (seat.old.me.0.it.held ≡ (1 + number, TheShard x) ∷ []) × ((shard ≡ x) ⊎ ((d : InstanceData) × (seat.old.me.0.it.run ≡ Some d) × MadeBy d number x shard)) }
+        requires made { (x : ShardValue) × (seat.old.me.1 ≡ (place (1 + number), Slot.Out) ∷ []) × (seat.old.me.0.it.held ≡ (1 + number, TheShard x) ∷ []) × ((shard ≡ x) ⊎ ((d : InstanceData) × (seat.old.me.0.it.run ≡ Some d) × MadeBy d number x shard)) }
         ensures own { (seat.new.table_id ≡ seat.old.table_id) × (seat.new.id ≡ seat.old.id) }
         ensures given { (x : ShardValue) → seat.old.me.0.it.held ≡ (1 + number, TheShard x) ∷ [] → seat.new.me ≡ (view_of (after_shard seat.old.me.0.it x shard), []) }
     {
         let shared = &self.table.shared;
-        let slot = 1 + number as usize;
+        let slot = STRIDE * (1 + number as usize);
         drop(shared.exchange(seat, slot, Slot::Shard(shard)));
         shared.store::<ReturnsShard>(seat, slot, 0);
     }

@@ -2,7 +2,7 @@
 use Rattle.std.proofs.Common.{◌++◌, ◌∷◌, [], ◌∙◌, length, arith, ap, subst, sym, append_assoc}
 use Rattle.std.proofs.lemmas.List.{length-append}
 use Rattle.pipe_model.specs.Language.SyntaxTree.{tree_of}
-use Rattle.pipe_hall.specs.NewShards.{IsNewShard, shard_slots}
+use Rattle.pipe_hall.specs.NewShards.{IsNewShard, shard_slots, spaced}
 use Rattle.pipe_hall.specs.SeatViews.{ShardValue}
 use Rattle.pipe_hall.specs.declared.slot.Slot.TheVariants as slots
 use Rattle.pipe_hall.proofs.FirstTables.{new_more, shard_more}
@@ -14,20 +14,20 @@ loop-number-preserved g c =
     let s = i.shards in
     let x = c.in_ok-kept.kept in
     let e = c.in_ok-shard.ensures in
-    let p = c.push_reserved.ensures in
+    let p = c.push_slot.ensures in
     let init = c.args.slots.now.items in
     let lists = e.lists ∙ (c.in_ok-split.ensures.new ∙ i.passes) in
     record {
       passes = c.split.ensures.same ∙ i.passes;
       room = (
           let n = ap length p.items in
-          let m = length-append c.loop-number.slots.items (slots.Shard x ∷ []) in
+          let m = length-append c.loop-number.slots.items (spaced (slots.Shard x)) in
           let r = i.room in
           let cap = p.capacity in
           omega (arith, n, m, r, cap));
       shards = (
         s.0 ++ x ∷ [],
-        p.items ∙ (ap (λ l. l ++ slots.Shard x ∷ []) s.1 ∙ (append_assoc init (shard_slots s.0) (slots.Shard x ∷ []) ∙ ap (λ l. init ++ l) (sym (shard_more g.row.M.Denot s.0 x)))),
+        p.items ∙ (ap (λ l. l ++ spaced (slots.Shard x)) s.1 ∙ (append_assoc init (shard_slots s.0) (spaced (slots.Shard x)) ∙ ap (λ l. init ++ l) (sym (shard_more g.row.M.Denot s.0 x)))),
         (let n = length-append s.0 (x ∷ []) in let l = s.2 in omega (arith, n, l)),
         new_more (IsNewShard c.args.before.now (tree_of c.args.checked.now) c.args.passes.now) s.0 x c.loop-number.number s.2 s.3
             (subst (λ (y : ShardValue). IsNewShard c.args.before.now (tree_of c.args.checked.now) c.args.passes.now c.loop-number.number y) (sym c.in_ok-kept.ensures)

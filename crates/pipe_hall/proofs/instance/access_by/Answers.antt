@@ -3,7 +3,7 @@ use Rattle.pipe_model.specs.Language.Programs.{store_of}
 use Rattle.pipe_frame.specs.Ties.{AreSeenLists, HallName}
 use Rattle.pipe_hall.specs.SeatViews.{SeatView, TheShard}
 use Rattle.pipe_hall.specs.Accesses.{MadeBy}
-use Rattle.pipe_hall.specs.HallRule.{view_of}
+use Rattle.pipe_hall.specs.HallRule.{place, view_of}
 use Rattle.pipe_hall.specs.WorkerSeats.{name_of}
 use Rattle.pipe_hall.specs.Steps.{ShardSnapshot, ViewAndSlots, after_shard, after_log}
 use Rattle.pipe_hall.specs.declared.slot.Slot.TheVariants as slots
@@ -42,7 +42,7 @@ return_shard-requires-clause-made g c =
     let m1 = c.take_shard-shard.new.seat.me in
     let run_is : m1.0.it.run ≡ Some r.run_data = ap (λ (k : ViewAndSlots g.row.M.Denot). k.0.it.run) t ∙ r.stands in (
       x,
-      ap (λ (k : ViewAndSlots g.row.M.Denot). k.1) t ∙ ap (λ cs. (i, slots.Out) ∷ cs) r.slots,
+      ap (λ (k : ViewAndSlots g.row.M.Denot). k.1) t ∙ ap (λ cs. (place i, slots.Out) ∷ cs) r.slots,
       ap (λ (k : ViewAndSlots g.row.M.Denot). k.0.it.held) t ∙ ap (λ hs. (i, TheShard x) ∷ hs) r.held,
       ⊎_elim (λ (s : c.access-done.new.self ≡ x). inl s)
           (λ (s : MadeBy r.run_data (c.args.cell.0 % 16) x c.access-done.new.self). inr (r.run_data, run_is, s))
