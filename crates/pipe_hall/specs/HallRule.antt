@@ -14,11 +14,11 @@ use Rattle.pipe_hall.specs.declared.view.View.{View}
 use Rattle.pipe_hall.specs.declared.slot.Slot.{Slot}
 use Rattle.pipe_hall.specs.declared.slot.Slot.TheVariants as slots
 
--- how far apart the words of two locks are, and their slots: a cache line has room for 8 words
+-- how many words the words of two locks are apart, and how many slots their slots
 abbrev pub stride : ℕ
 stride = 8
 
--- the index of lock i among the words, and of its value among the slots
+-- the index of the word of lock i, and of its slot
 abbrev pub place : ℕ → ℕ
 place i = stride * i
 

@@ -4,6 +4,7 @@ ghost use Rattle.std.specs.Prelude.{◌≡◌, ◌<◌, ◌≤◌, ◌+◌, ◌+
 ghost use Rattle.frame_book.specs.NewBooks.{new_book};
 ghost use Rattle.pipe_model.specs.Language.SyntaxTree.{tree_of};
 ghost use Rattle.pipe_hall.specs.Closing.{shard_in};
+ghost use Rattle.pipe_hall.specs.HallRule.{place, stride};
 ghost use Rattle.pipe_hall.specs.NewShards.{IsNewShard, shard_slots, spaced};
 ghost use Rattle.pipe_hall.specs.SeatViews.{ShardValue, constants_of};
 ghost use Rattle.pipe_hall.specs.ShardParts.{HaveIdentities};
@@ -69,10 +70,10 @@ impl<M: Carrier> Model for HallKey<M> {
     ghost invariant = { λ k. IsIdle k.seat.me };
 }
 
-// The words of the locks, which are free, and those between them.
+// The words: the locks, which are free, and the words between them.
 const FREE: [u64; 136] = [0; 136];
 
-// Appends slots that nobody uses, up to that of the next lock.
+// Appends the slots that nobody uses, up to that of the next lock.
 fn push_gap<M: Carrier>(slots: &mut Vec<Slot<M>>)
     requires room { length slots.old.items + 7 ≤ vec_capacity slots.old }
     ensures items { slots.new.items ≡ slots.old.items ++ replicate 7 Slot.Out }
@@ -83,9 +84,9 @@ fn push_gap<M: Carrier>(slots: &mut Vec<Slot<M>>)
     }
 }
 
-// Appends the slot of a lock.
+// Appends the slot of a lock, and those up to the next lock's.
 fn push_slot<M: Carrier>(slots: &mut Vec<Slot<M>>, value: Slot<M>)
-    requires room { length slots.old.items + 8 ≤ vec_capacity slots.old }
+    requires room { length slots.old.items + stride ≤ vec_capacity slots.old }
     ensures items { slots.new.items ≡ slots.old.items ++ spaced value }
     ensures capacity { vec_capacity slots.new ≡ vec_capacity slots.old }
 {
@@ -101,7 +102,7 @@ fn add_shards<M: Carrier>(
     passes: &mut TwoPasses,
     slots: &mut Vec<Slot<M>>,
 ) -> Result<(), NoMemory>
-    requires room { length slots.old.items + 128 ≤ vec_capacity slots.old }
+    requires room { length slots.old.items + place 16 ≤ vec_capacity slots.old }
     ensures shards { IfOk result (λ _. (xs : List ShardValue) × (slots.new.items ≡ slots.old.items ++ shard_slots xs) × (length xs ≡ 16) × ((k : ℕ) → k < 16 → IsNewShard before.now (tree_of checked.now) passes.old k (shard_in xs k))) }
 {
     for number in 0..SHARDS {

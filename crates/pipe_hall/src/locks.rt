@@ -39,9 +39,10 @@ pub struct Locks<M: Carrier> {
     pub ghost sized: { (table.shared.table_id.words ≡ width) × (table.shared.table_id.slots ≡ width) },
 }
 
-/// Lock `k` is the word at index `STRIDE * k`, and its value is in the slot at that index. So each
-/// lock and each slot is on a cache line of its own, and threads that take different locks do not take
-/// cache lines from each other.
+/// How many words the words of two locks are apart, and how many slots their slots: lock `k` is the
+/// word at index `STRIDE * k`, and its value is in the slot at that index. Eight words have 64 bytes,
+/// and eight slots have 128, so each lock and each slot is on a cache line of its own, and threads
+/// that take different locks do not wait for each other's cache lines.
 pub(crate) const STRIDE: usize = 8;
 
 impl<M: Carrier> Locks<M> {

@@ -17,6 +17,6 @@ pub enum Slot<M: Carrier> {
     Shard(Kept<Shard>),
     /// No slot holds this: with it a step tells which token was given out.
     Token(Witness<FrameToken<M>>),
-    /// The value is out.
+    /// The value is out, or the slot is one of those that nobody uses.
     Out,
 }

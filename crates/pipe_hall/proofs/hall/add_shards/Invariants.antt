@@ -1,7 +1,8 @@
-use Rattle.std.proofs.Common.{◌≡◌, ◌≤◌, ◌<◌, ◌+◌, ◌*◌, ◌++◌, ℕ, List, length}
+use Rattle.std.proofs.Common.{◌≡◌, ◌≤◌, ◌<◌, ◌+◌, ◌++◌, ℕ, List, length}
 use Rattle.std.specs.Prelude.{vec_capacity}
 use Rattle.pipe_model.specs.Language.SyntaxTree.{tree_of}
 use Rattle.pipe_hall.specs.Closing.{shard_in}
+use Rattle.pipe_hall.specs.HallRule.{place}
 use Rattle.pipe_hall.specs.NewShards.{IsNewShard, shard_slots}
 use Rattle.pipe_hall.specs.SeatViews.{ShardValue}
 use Rattle.pipe_hall.proofs.hall.add_shards.Given as goal
@@ -9,7 +10,7 @@ use Rattle.pipe_hall.proofs.hall.add_shards.Given as goal
 abbrev pub invariant-loop-number : goal.invariant-loop-number
 invariant-loop-number g l = record {
   passes : l.passes ≡ l.initial.passes;
-  room : length l.slots.items + 128 ≤ vec_capacity l.slots + 8 * l.number;
+  room : length l.slots.items + place 16 ≤ vec_capacity l.slots + place l.number;
   shards : (xs : List ShardValue) × (l.slots.items ≡ l.initial.slots.items ++ shard_slots xs) × (length xs ≡ l.number)
       × ((k : ℕ) → k < l.number → IsNewShard l.before (tree_of l.checked) l.initial.passes k (shard_in xs k));
 }
