@@ -1,5 +1,5 @@
--- The rule of a hall. Lock 0 is that of the book, and lock k + 1 that of shard k. Lock i is the word at index `place i`, and what it protects
--- is in the slot at the same index. Nobody uses the other words and slots.
+-- The rule of a hall. Lock 0 is that of the book, and lock k + 1 that of shard k. Lock i is the word at index `place i`, and what it
+-- protects is in the slot at the same index. Nobody uses the other words and slots.
 use Rattle.std.specs.Prelude.{◌≡◌, ◌≢◌, ℕ, zero, suc, List, [], ◌*◌, ◌<◌, length, Option, Some, None, slice_index}
 use mathlib.Core.Option.{none, some}
 use lib.ListN.{get_elem?}
