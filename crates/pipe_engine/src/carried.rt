@@ -3,6 +3,7 @@
 ghost use Rattle.std.specs.Prelude.{◌≡◌, IfOk, None};
 
 use frame_book::payload::Payload;
+use heap_value::kept::Kept;
 use om_shared::writer::OmWriter;
 use order_2d::two_orders::TwoOrders;
 use order_2d::two_passes::TwoPasses;
@@ -43,7 +44,7 @@ impl RunCode for Brand {
 #[derive(Drop)]
 pub struct Carried<B: RunCode> {
     /// The machine, unless it was taken out to run.
-    pub machine: Option<Machine>,
+    pub machine: Option<Kept<Machine>>,
     /// The seat of the instance while the token is out of the book.
     pub seat: Option<RunSeat>,
     /// The passes to the order lists.
@@ -63,7 +64,7 @@ impl<B: RunCode> Carried<B> {
         ensures passes { IfOk result (λ carried. carried.passes ≡ passes) }
     {
         Ok(Carried {
-            machine: Some(Machine::new(alloc, code)?),
+            machine: Some(Kept::boxed(alloc, Machine::new(alloc, code)?)?),
             seat: None,
             passes,
             of: PhantomData,
@@ -89,14 +90,14 @@ impl<B: RunCode> Runs for Carried<B> {
 
     ghost held = { λ x. x.machine };
 
-    fn take_machine(&mut self) -> Machine {
+    fn take_machine(&mut self) -> Kept<Machine> {
         match self.machine.take() {
             Some(machine) => machine,
             None => unreachable!(),
         }
     }
 
-    fn put_machine(&mut self, machine: Machine) {
+    fn put_machine(&mut self, machine: Kept<Machine>) {
         self.machine = Some(machine);
     }
 
@@ -110,7 +111,7 @@ impl<B: RunCode> Runs for Carried<B> {
 impl<B: RunCode> Payload<OmWriter> for Carried<B> {
     fn begin(&mut self, iteration: u32) {
         if let Some(machine) = &mut self.machine {
-            machine.reset(Part::Pipe, iteration);
+            machine.get_mut().reset(Part::Pipe, iteration);
         }
     }
 

@@ -21,7 +21,7 @@ use Rattle.frame_book.proofs.row.Iteration.TheSendSync as rows
 use Rattle.frame_book.specs.contracts.book.Book as Book
 use Rattle.frame_book.specs.contracts.book.Book.TheInside as BookFields
 use Rattle.frame_book.specs.declared.payload.Payload as Payload
-use Rattle.pipe_hall.proofs.kept.Kept.TheSendSync as kept
+use Rattle.heap_value.proofs.kept.Kept.TheSendSync as kept
 use Rattle.pipe_hall.proofs.shard.Shard.TheSendSync as shards
 use Rattle.pipe_hall.specs.contracts.hall.HallOf as HallOf
 use Rattle.pipe_hall.specs.contracts.hall.HallOf.TheInside as HallFields

@@ -8,7 +8,6 @@ pub mod Steps
 pub mod BookCalls
 pub mod WorkerSeats
 pub mod InstanceSeats
-pub mod KeptValues
 pub mod Lending
 pub mod SeatAccesses
 pub mod Openings

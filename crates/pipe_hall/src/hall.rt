@@ -10,7 +10,6 @@ ghost use Rattle.pipe_hall.specs.SeatViews.{ShardValue, constants_of};
 ghost use Rattle.pipe_hall.specs.ShardParts.{HaveIdentities};
 
 use crate::carrier::Carrier;
-use crate::kept::Kept;
 use crate::locks::{Locks, STRIDE};
 use crate::opening::Opening;
 use crate::shard::{SHARDS, Shard};
@@ -18,6 +17,7 @@ use crate::slot::Slot;
 use crate::view::View;
 use atomic_table::{Seat, Table};
 use frame_book::book::Book;
+use heap_value::kept::Kept;
 use om_shared::writer::OmWriter;
 use order_2d::two_passes::TwoPasses;
 use pipe_check::checked::Checked;

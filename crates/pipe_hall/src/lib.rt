@@ -7,7 +7,6 @@ pub mod close;
 mod found;
 pub mod hall;
 mod instance;
-mod kept;
 mod locks;
 mod opening;
 mod rule;

@@ -15,7 +15,6 @@ ghost use Rattle.pipe_hall.specs.declared.view.View.{View};
 ghost use Rattle.pipe_frame.specs.declared.token.FrameToken.{FrameToken};
 
 use crate::carrier::Carrier;
-use crate::kept::Kept;
 use crate::rule::{
     HallTable, JoinsInstance, ReturnsBook, ReturnsBookAndToken, ReturnsShard, SplitsInstance,
     TakesSlot,
@@ -26,11 +25,12 @@ use crate::slot::Slot;
 use crate::view::View;
 use crate::witness::Witness;
 use atomic_table::Seat;
-use crossbeam_utils::Backoff;
 use frame_book::book::Book;
+use heap_value::kept::Kept;
 use om_shared::writer::OmWriter;
 use pipe_frame::token::FrameToken;
 use std::sync::Wait;
+use std::{hint, thread};
 
 /// The book and the shards of a run, each behind a lock.
 #[derive(Drop)]
@@ -44,6 +44,19 @@ pub struct Locks<M: Carrier> {
 /// and eight slots have 128, so each lock and each slot is on a cache line of its own, and threads
 /// that take different locks do not wait for each other's cache lines.
 pub(crate) const STRIDE: usize = 8;
+
+// How often a thread looks at a lock that is taken before it gives the processor to others between its
+// looks. A lock is held for a microsecond or less, unless its thread was put off the processor.
+const SHORT_LOOKS: u32 = 200;
+
+// Pauses for a moment after so many looks at a lock that is taken.
+fn pause(looks: u32) {
+    if looks < SHORT_LOOKS {
+        hint::spin_loop();
+    } else {
+        thread::yield_now();
+    }
+}
 
 impl<M: Carrier> Locks<M> {
     // Takes the value of a lock, if nobody has taken it.
@@ -69,14 +82,25 @@ impl<M: Carrier> Locks<M> {
         ensures own { (seat.new.table_id ≡ seat.old.table_id) × (seat.new.id ≡ seat.old.id) }
         ensures taken { (x : SlotValue) × (result ≡ slot_of x) × (seat.new.me ≡ (view_of (holding seat.old.me.0.it lock x), (place lock, Slot.Out) ∷ seat.old.me.1)) × IsSnapshot seat.old.me.0.it lock x }
     {
-        let backoff = Backoff::new();
+        let mut looks = 0u32;
         for _ in rt.forever() {
-            if let Some(value) = self.try_take(seat, lock) {
-                return value;
+            if self.seems_free(lock) {
+                if let Some(value) = self.try_take(seat, lock) {
+                    return value;
+                }
             }
-            backoff.snooze();
+            looks = looks.saturating_add(1);
+            pause(looks);
         }
         unreachable!()
+    }
+
+    // Returns whether nobody had taken the value of a lock a moment ago. To look does not take the cache
+    // line of the lock from the thread that has it.
+    fn seems_free(&self, lock: usize) -> bool
+        requires lock { lock < 17 }
+    {
+        self.table.shared.peek(STRIDE * lock) == 0
     }
 
     // Takes the book.

@@ -1,10 +1,10 @@
 //! What a slot of a hall holds.
 
 use crate::carrier::Carrier;
-use crate::kept::Kept;
 use crate::shard::Shard;
 use crate::witness::Witness;
 use frame_book::book::Book;
+use heap_value::kept::Kept;
 use om_shared::writer::OmWriter;
 use pipe_frame::token::FrameToken;
 

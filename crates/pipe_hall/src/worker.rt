@@ -23,13 +23,13 @@ ghost use Rattle.pipe_hall.specs.declared.run_seat.RunSeat.{RunSeat};
 ghost use Rattle.pipe_hall.specs.declared.slot.Slot.{Slot as SlotOf};
 
 use crate::carrier::Carrier;
-use crate::kept::Kept;
 use crate::locks::Locks;
 use crate::run_seat::RunSeat;
 use crate::slot::Slot;
 use crate::view::View;
 use atomic_table::Seat;
 use frame_book::book::Book;
+use heap_value::kept::Kept;
 use om_shared::writer::OmWriter;
 use pipe_frame::results::{Begun, Next, Rescue};
 use pipe_frame::token::FrameToken;

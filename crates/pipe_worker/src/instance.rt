@@ -1,22 +1,47 @@
 //! Instances that run over the cells of a hall.
 
-ghost use Rattle.std.specs.Prelude.{◌≡◌};
+ghost use Rattle.std.specs.Prelude.{◌≡◌, ◌≤◌, Some};
 ghost use Rattle.pipe_frame.specs.SeatedTokens.{IsGivenToken, seated_replies};
 ghost use Rattle.pipe_frame.specs.TokenFields.{fields_of};
+ghost use Rattle.pipe_model.specs.Pipelines.Behaviour.{Behaviour};
 ghost use Rattle.pipe_worker.specs.HeldInstances.{MayAdvance};
 ghost use Rattle.pipe_worker.specs.Machines.{CanDrive};
+ghost use Rattle.stage_code.specs.FlatCode.{FlatCode};
+ghost use Rattle.stage_interp.specs.Executions.{StopsOnly};
+ghost use Rattle.stage_interp.specs.MachineState.{IsMadeFor};
+ghost use Rattle.stage_interp.specs.Standing.{RanInstance, StandsFor};
 
 use crate::lent::LentHall;
 use crate::memory::{InstanceMemory, RunningInstance};
 use crate::runs::Runs;
+use heap_value::kept::Kept;
 use pipe_frame::hall::Hall;
 use pipe_frame::token::FrameToken;
 use pipe_model::list::Numbers;
 use pipe_model::stage::StageEnd;
 use pipe_model::ticket::Trace;
 use stage_code::code::Code;
+use stage_interp::machine::Machine;
+use stage_interp::memory::Memory;
 use std::alloc::Global;
 use std::sync::Wait;
+
+// Runs one stage instance by a machine on the heap.
+fn run_stage_by<M: Memory>(
+    machine: &mut Kept<Machine>,
+    code: &Code,
+    input: &Numbers,
+    memory: &mut M,
+) -> StageEnd
+    requires before { (t : Behaviour) × StandsFor code.now (M.served memory.old) input.now machine.old.run t }
+    requires few { M.served memory.old ≤ 4294967296 }
+    ensures ran { (t : Behaviour) → StandsFor code.now (M.served memory.old) input.now machine.old.run t
+        → RanInstance code.now (M.served memory.old) input.now t (M.made memory.old) (M.made memory.new) machine.new.run result }
+    ensures made { (c : FlatCode) → IsMadeFor c machine.old → IsMadeFor c machine.new }
+    ensures stops { StopsOnly (Some result) (M.stopped memory.new) }
+{
+    machine.get_mut().run_stage(code, input, memory)
+}
 
 /// Runs the instance of a token over the cells of the hall. Returns the hall, the token, the accesses
 /// of the instance and its end.
@@ -40,7 +65,7 @@ pub fn run_instance<'a, R: Wait, M: Runs + Drop, H: Hall<M>, J: RunningInstance>
 {
     let mut machine = token.payload.take_machine();
     let mut memory = InstanceMemory::<R, M, H, J>::new(alloc, rt, lent, token);
-    let end = machine.run_stage(code, input, &mut memory);
+    let end = run_stage_by(&mut machine, code, input, &mut memory);
     let (lent, mut token, trace) = memory.finish();
     token.payload.put_machine(machine);
     (lent, token, trace, end)

@@ -1,10 +1,11 @@
 //! Payloads with a machine.
 
+use heap_value::kept::Kept;
 use pipe_frame::stands::Stands;
 use stage_interp::machine::Machine;
 
 /// A payload that holds a machine, and is at the start of the instance at which its machine is. All
-/// machines run the same code.
+/// machines run the same code. A machine is on the heap, so that a token that moves does not move its bytes.
 pub trait Runs: Stands {
     ghost use Rattle.std.specs.Prelude.{◌≡◌, ℕ, ℤ, List, Option, Some, None, is_some, true};
     ghost use Rattle.pipe_model.specs.Language.SyntaxTree.{SyntaxTree};
@@ -19,13 +20,13 @@ pub trait Runs: Stands {
     ghost held: { Self → Option MachineState };
 
     /// Takes the machine out, which must be there.
-    fn take_machine(&mut self) -> Machine
+    fn take_machine(&mut self) -> Kept<Machine>
         requires there { is_some (held self.old) ≡ true }
         ensures machine { held self.old ≡ Some result }
         ensures tie { Self.tie self.new ≡ Self.tie self.old };
 
     /// Puts a machine in. One that was there is dropped.
-    fn put_machine(&mut self, machine: Machine)
+    fn put_machine(&mut self, machine: Kept<Machine>)
         ensures machine { held self.new ≡ Some machine }
         ensures tie { Self.tie self.new ≡ Self.tie self.old };
 

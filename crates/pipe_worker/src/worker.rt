@@ -23,10 +23,6 @@ use std::alloc::Global;
 use std::sync::Wait;
 use work_deques::ends::Ends;
 
-// How often a worker looks for a task again before it asks the book once more, after the book had
-// nothing for it. The book has a lock, which workers with instances need.
-const LOOKS_BEFORE_RESCUE: u32 = 4;
-
 /// A worker, with its ends of the deques. Workers have numbers from 0, as their deques have.
 #[derive(Drop)]
 pub struct Worker<M: Runs + Drop, Q: WorkTest<M>> {
@@ -298,7 +294,7 @@ impl<M: Runs + Drop, Q: WorkTest<M>> Worker<M, Q> {
             } else {
                 match self.rescue(rt, code, input, hall, gate) {
                     Rescued::Worked => idle.reset(),
-                    Rescued::Nothing => looks = LOOKS_BEFORE_RESCUE,
+                    Rescued::Nothing => looks = idle.looks(),
                     Rescued::Over => return,
                 }
             }

@@ -1,4 +1,4 @@
-use Rattle.std.proofs.Common.{◌≤◌, ◌+◌, arith, subst}
+use Rattle.std.proofs.Common.{◌≤◌, ◌+◌, arith, subst, sym}
 use Rattle.cell_store.proofs.DeclaredCells.{values_length}
 use Rattle.pipe_model.specs.Language.CheckingRules.{cell_total}
 use Rattle.pipe_model.specs.Language.SyntaxTree.{SyntaxTree}
@@ -11,7 +11,7 @@ all_cells tree = let n = values_length tree.cells in omega (arith, n)
 pub returns-in-Some-clause-stands : goal.returns-in-Some-clause-stands
 returns-in-Some-clause-stands g c = λ tree input whole.
     let code = g.B.RunCode.code in
-    let can = subst (λ m. HasMachine m (CanRun code tree)) c.in-Some.is whole in
+    let can = subst (CanRun code tree) (sym c.get_mut.ensures.value) (subst (λ m. HasMachine m (CanRun code tree)) c.in-Some.is whole) in
     record {
       can = record { code_of = can.code_of; made = c.reset.ensures.made code can.made };
       stands = c.reset.ensures.stands tree code (cells_of tree) input can.code_of can.made (all_cells tree);

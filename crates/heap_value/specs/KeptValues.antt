@@ -1,7 +1,7 @@
 -- What a value on the heap lends.
 use Rattle.std.specs.Borrow.{Lends, MutBor, Fml}
 use denote.RattleType.{RattleType}
-use Rattle.pipe_hall.specs.contracts.kept.Kept as kept
+use Rattle.heap_value.specs.contracts.kept.Kept as kept
 
 -- the value itself
 abbrev pub LendsKept : (T : RattleType) → MutBor T.Denot → MutBor T.Denot → Fml

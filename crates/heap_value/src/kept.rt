@@ -1,4 +1,4 @@
-//! Values that are kept on the heap.
+//! A value that is kept on the heap.
 
 ghost use Rattle.std.specs.Prelude.{◌≡◌, IfOk};
 
@@ -25,18 +25,18 @@ impl<T> Model for Kept<T> {
 impl<T> Kept<T> {
     ghost use Rattle.std.specs.Borrow.{sem};
     ghost use Rattle.std.specs.Prelude.{◌≡◌};
-    ghost use Rattle.pipe_hall.specs.KeptValues.{LendsKept};
+    ghost use Rattle.heap_value.specs.KeptValues.{LendsKept};
 
-    // Lends the value.
-    pub(crate) fn get_mut(&mut self) -> &mut T
+    /// Lends the value.
+    pub fn get_mut(&mut self) -> &mut T
         ensures* writes_back { sem 𝓛 (LendsKept T.row self.entry result) }
         ensures value { result.now ≡ self.old }
     {
         self.it.as_mut()
     }
 
-    // Takes the value off the heap.
-    pub(crate) fn into_inner(self) -> T
+    /// Takes the value off the heap.
+    pub fn into_inner(self) -> T
         ensures { result ≡ self }
     {
         let Kept { it } = self;
@@ -45,8 +45,8 @@ impl<T> Kept<T> {
 }
 
 impl<T: Drop> Kept<T> {
-    // Puts a value on the heap. Returns an error only if memory runs out.
-    pub(crate) fn boxed(alloc: Global, value: T) -> Result<Kept<T>, NoMemory>
+    /// Puts a value on the heap. Returns an error only if memory runs out.
+    pub fn boxed(alloc: Global, value: T) -> Result<Kept<T>, NoMemory>
         ensures { IfOk result (λ kept. kept ≡ value) }
     {
         let it = Box::new(alloc, value)?;

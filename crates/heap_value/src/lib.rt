@@ -1,0 +1,4 @@
+//! Values on the heap, which move by their pointers.
+#![tactic(auto)]
+
+pub mod kept;
