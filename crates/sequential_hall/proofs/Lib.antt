@@ -1,4 +1,0 @@
-mod HallCalls
-mod HallRows
-mod ReplyLists
-mod Sessions
