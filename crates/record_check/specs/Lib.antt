@@ -1,0 +1,3 @@
+pub mod CheckedLoops
+pub mod CheckedRecords
+pub mod FollowedEvents
