@@ -1,0 +1,3 @@
+pub mod ByteDivisions
+pub mod PlainDecimals
+pub mod RecordLines
