@@ -1,3 +1,5 @@
 pub mod ByteDivisions
+pub mod LogForms
+pub mod OutcomeForms
 pub mod PlainDecimals
 pub mod RecordLines

@@ -3,6 +3,9 @@
 
 pub mod bounds;
 pub mod fault;
+mod log_line;
+mod log_word;
 mod names;
 mod numbers;
+mod outcome_line;
 mod split;
