@@ -20,7 +20,8 @@ use Rattle.record_parser.specs.LogForms.{space, stage_text, word_text}
 use Rattle.record_parser.specs.declared.log_word.LogWord.{LogWord}
 use Rattle.record_parser.specs.declared.log_word.LogWord.TheVariants as words
 use Rattle.record_parser.specs.RecordLines.{IsIteration}
-use Rattle.record_parser.proofs.Divisions.{free_cons, not_free, one_first, one_last}
+use Rattle.record_parser.specs.OutcomeForms.{EndsInAccess, IsInstanceText, slash}
+use Rattle.record_parser.proofs.Divisions.{at_last, free_append, free_cons}
 use Rattle.record_parser.proofs.PlainDecimals.{own}
 
 -- ---- words
@@ -83,17 +84,19 @@ no_digit r = let low = r.0 in omega (arith, low)
 pub no_sign : 45 ≢ space
 no_sign e = omega (arith, e)
 
--- ---- divisions
+-- ---- instances
 
-pub no_space : (bytes xs ys : List ℕ) → IsFreeOf space bytes → bytes ≡ xs ++ space ∷ ys → ⊥
-no_space bytes xs ys f e = not_free space xs ys (subst (IsFreeOf space) e f)
+pub no_digit_slash : IsInRange 48 57 slash → ⊥
+no_digit_slash r = let low = r.0 in omega (arith, low)
 
--- at the first space
-pub at_first_space : (bytes first rest xs ys : List ℕ) → bytes ≡ first ++ space ∷ rest → IsFreeOf space first → bytes ≡ xs ++ space ∷ ys → IsFreeOf space xs
-    → (first ≡ xs) × (rest ≡ ys)
-at_first_space bytes first rest xs ys e f g h = one_first space first xs rest ys f h (sym e ∙ g)
+pub instance_free : (text : List ℕ) → IsInstanceText text → IsFreeOf space text
+instance_free text h = subst (IsFreeOf space) (sym h.is)
+    (free_append space (decimal h.iteration) (slash ∷ signed_decimal h.number) (iteration_free space h.iteration h.within no_digit)
+    (free_cons space slash (signed_decimal h.number) (λ e. omega (arith, e)) (signed_free space h.number h.fits no_digit no_sign)))
 
--- at the last space
-pub at_last_space : (bytes rest last xs ys : List ℕ) → bytes ≡ rest ++ space ∷ last → IsFreeOf space last → bytes ≡ xs ++ space ∷ ys → IsFreeOf space ys
-    → (rest ≡ xs) × (last ≡ ys)
-at_last_space bytes rest last xs ys e f g h = one_last space rest xs last ys f h (sym e ∙ g)
+-- a text ends in one access
+pub one_access : (text before other : List ℕ) → EndsInAccess text before → EndsInAccess text other → before ≡ other
+one_access text before other h g =
+    let parts = at_last space text (before ++ space ∷ kind_text h.kind) h.instance (other ++ space ∷ kind_text g.kind) g.instance
+    h.is (instance_free h.instance h.is_instance) g.is (instance_free g.instance g.is_instance) in
+    (at_last space (before ++ space ∷ kind_text h.kind) before (kind_text h.kind) other (kind_text g.kind) refl (kind_free h.kind) parts.0 (kind_free g.kind)).0

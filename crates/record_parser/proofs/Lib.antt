@@ -6,3 +6,4 @@ pub mod Options
 pub mod PlainDecimals
 pub mod Prefixes
 pub mod SignedDecimals
+pub mod Tests

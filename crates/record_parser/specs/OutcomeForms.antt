@@ -48,3 +48,8 @@ pub record IsOutcomeTrapText (text : List ℕ) : Type 0 where
   pub place : List ℕ
   pub is_place : IsPlaceText place
   pub is : text ≡ trap_name trap ++ space ∷ place
+
+-- the line of a race or of a trap, without its line feed
+pub data IsWordedOutcome (cells : List Declaration) (line : List ℕ) : Type 0 where
+  RaceLine : (text : List ℕ) → IsRaceText cells text → line ≡ codes "race" ++ space ∷ text → IsWordedOutcome cells line
+  TrapLine : (text : List ℕ) → IsOutcomeTrapText text → line ≡ codes "trap" ++ space ∷ text → IsWordedOutcome cells line

@@ -4,7 +4,7 @@ ghost use Rattle.std.specs.Prelude.{◌≡◌, ◌↔◌, ◌≤◌, ◌++◌, �
 ghost use Rattle.record_parser.specs.LogForms.{space};
 ghost use Rattle.std.specs.Bool.{OnFalse, OnTrue};
 ghost use Rattle.pipe_model.specs.Language.CheckingRules.{cell_total};
-ghost use Rattle.record_parser.specs.OutcomeForms.{EndsInAccess, IsInstanceText, IsOutcomeTrapText, IsPlaceText, IsRaceText};
+ghost use Rattle.record_parser.specs.OutcomeForms.{EndsInAccess, IsInstanceText, IsOutcomeTrapText, IsPlaceText, IsRaceText, IsWordedOutcome};
 ghost use Rattle.record_parser.specs.RecordLines.{IsOutcomeLine};
 
 use crate::names::{cell_field, kind_field, trap_field};
@@ -20,10 +20,13 @@ fn is_instance(bytes: &[u8]) -> bool
     let Some((first, second)) = split_at_first(bytes, b'/') else {
         return false;
     };
-    if iteration_field(first).is_none() {
+    let Some(_iteration) = iteration_field(first) else {
         return false;
-    }
-    signed_field(second).is_some()
+    };
+    let Some(_number) = signed_field(second) else {
+        return false;
+    };
+    true
 }
 
 // Returns what is before the access at the end, if there is one there.
@@ -40,9 +43,9 @@ fn without_access(bytes: &[u8]) -> Option<&[u8]>
     let Some((before, kind)) = split_at_last(others, b' ') else {
         return None;
     };
-    if kind_field(kind).is_none() {
+    let Some(_kind) = kind_field(kind) else {
         return None;
-    }
+    };
     Some(before)
 }
 
@@ -58,7 +61,10 @@ fn is_race(cells: &[Declaration], bytes: &[u8]) -> bool
     let Some(name) = without_access(once) else {
         return false;
     };
-    cell_field(cells, name).is_some()
+    let Some(_cell) = cell_field(cells, name) else {
+        return false;
+    };
+    true
 }
 
 fn is_at(bytes: &[u8]) -> bool
@@ -75,7 +81,10 @@ fn is_at_instance(bytes: &[u8]) -> bool
     let Some((first, second)) = split_at_first(bytes, b' ') else {
         return false;
     };
-    is_at(first) && is_instance(second)
+    if !is_at(first) {
+        return false;
+    }
+    is_instance(second)
 }
 
 fn is_in_part(bytes: &[u8]) -> bool
@@ -94,7 +103,10 @@ fn is_place(bytes: &[u8]) -> bool
     ensures yes { OnTrue result (IsPlaceText bytes.now) }
     ensures no { OnFalse result (IsPlaceText bytes.now → ⊥) }
 {
-    is_in_part(bytes) || is_at_instance(bytes)
+    if is_in_part(bytes) {
+        return true;
+    }
+    is_at_instance(bytes)
 }
 
 // Whether these are a trap and its place.
@@ -105,8 +117,50 @@ fn is_outcome_trap(bytes: &[u8]) -> bool
     let Some((trap, place)) = split_at_first(bytes, b' ') else {
         return false;
     };
-    if trap_field(trap).is_none() {
+    let Some(_trap) = trap_field(trap) else {
         return false;
-    }
+    };
     is_place(place)
+}
+
+fn is_race_word(bytes: &[u8]) -> bool
+    ensures { IsTrue result ↔ (bytes.now ≡ codes "race") }
+{
+    bytes == b"race".as_slice()
+}
+
+fn is_trap_word(bytes: &[u8]) -> bool
+    ensures { IsTrue result ↔ (bytes.now ≡ codes "trap") }
+{
+    bytes == b"trap".as_slice()
+}
+
+// Whether the line is one of a race or a trap.
+fn is_worded(cells: &[Declaration], line: &[u8]) -> bool
+    requires few { cell_total cells.now ≤ 65536 }
+    ensures yes { OnTrue result (IsWordedOutcome cells.now line.now) }
+    ensures no { OnFalse result (IsWordedOutcome cells.now line.now → ⊥) }
+{
+    let Some((word, fields)) = split_at_first(line, b' ') else {
+        return false;
+    };
+    if is_race_word(word) {
+        return is_race(cells, fields);
+    }
+    if is_trap_word(word) {
+        return is_outcome_trap(fields);
+    }
+    false
+}
+
+/// Returns whether this is a line of a run's outcome, without its line feed.
+pub fn is_outcome_line(cells: &[Declaration], line: &[u8]) -> bool
+    requires few { cell_total cells.now ≤ 65536 }
+    ensures yes { OnTrue result (IsOutcomeLine cells.now line.now) }
+    ensures no { OnFalse result (IsOutcomeLine cells.now line.now → ⊥) }
+{
+    let Some(_number) = signed_field(line) else {
+        return is_worded(cells, line);
+    };
+    true
 }

@@ -1,7 +1,7 @@
 use Rattle.std.proofs.Common.{◌≡◌, ◌∙◌, ◌++◌, ap, sym, inl, inr, true, false}
 use Rattle.std.specs.Prelude.{codes}
-use Rattle.record_parser.specs.LogForms.{word_text}
-use Rattle.record_parser.proofs.FreeFields.{no_space}
+use Rattle.record_parser.specs.LogForms.{space, word_text}
+use Rattle.record_parser.proofs.Divisions.{never_divided}
 use Rattle.record_parser.proofs.LogLines.{divided}
 use Rattle.record_parser.proofs.log_line.event_of_word.Goals as goal
 
@@ -14,5 +14,5 @@ returns-then-is_stop-clause-some c = record {
 pub returns-clause-none : goal.returns-clause-none
 returns-clause-none c = λ e h. elim (divided c.args.cells.now c.args.line.now e h) [
   | inl s ↦ (let z : true ≡ false = sym (c.is_stop.ensures.1 s.1) ∙ c.if-is_stop.false in absurd (cc))
-  | inr d ↦ no_space c.args.line.now (word_text d.word) d.fields c.requires.word d.text
+  | inr d ↦ never_divided space c.args.line.now (word_text d.word) d.fields c.requires.word d.text
 ]
