@@ -3,7 +3,10 @@ pub mod Divisions
 pub mod FreeFields
 pub mod LogLines
 pub mod Options
+pub mod OutcomeLines
 pub mod PlainDecimals
 pub mod Prefixes
+pub mod ReadLines
 pub mod SignedDecimals
 pub mod Tests
+pub mod TextLines

@@ -87,13 +87,17 @@ pub record IsRecord (cells : List Declaration) (lines : List (List ℕ)) (events
   pub outcome : All (IsOutcomeLine cells) passed
   pub read : AllZip (IsLogLine cells) log events
 
--- the n lines before this one are a record; it is no log line, and, if there is none before it, no line of an outcome
+-- the line is no log line, and, if there is no event before it, no line of an outcome
+pub record CannotFollow (cells : List Declaration) (before : List Event) (line : List ℕ) : Type 0 where
+  pub no_event : (e : Event) → IsLogLine cells line e → ⊥
+  pub no_outcome : before ≡ [] → IsOutcomeLine cells line → ⊥
+
+-- the first n lines are a record, and the next line cannot follow them
 pub record IsFirstBadLine (cells : List Declaration) (lines : List (List ℕ)) (n : ℕ) : Type 0 where
   pub within : n < length lines
   pub before : List Event
   pub record_before : IsRecord cells (take n lines) before
-  pub no_event : (e : Event) → IsLogLine cells (slice_index_or lines n []) e → ⊥
-  pub no_outcome : before ≡ [] → IsOutcomeLine cells (slice_index_or lines n []) → ⊥
+  pub bad : CannotFollow cells before (slice_index_or lines n [])
 
 -- why a text is no record
 pub data IsFaultOf (cells : List Declaration) (bytes : List ℕ) : RecordFault → Type 0 where

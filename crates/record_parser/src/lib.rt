@@ -8,4 +8,5 @@ mod log_word;
 mod names;
 mod numbers;
 mod outcome_line;
+pub mod parse;
 mod split;
