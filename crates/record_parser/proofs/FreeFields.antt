@@ -1,5 +1,5 @@
 -- Fields have no space in them, so a text is divided at its spaces in one way.
-use Rattle.std.proofs.Common.{◌≡◌, ◌≢◌, ◌∙◌, ap, sym, subst, refl, arith, ℕ, ℤ, pos, negsuc, zero, suc, ◌+◌, ◌<◌, ◌≤◌, ◌^◌, List, [], ◌∷◌, ◌++◌, Bool, true, false, length, get_or, FitsSigned}
+use Rattle.std.proofs.Common.{◌≡◌, ◌≢◌, sym, subst, refl, arith, ℕ, ℤ, pos, negsuc, suc, ◌<◌, ◌^◌, List, [], ◌∷◌, ◌++◌, Bool, true, false, FitsSigned}
 use Rattle.std.specs.Prelude.{◌==◌, ◌&&◌, not}
 use Rattle.std.specs.Fmt.{decimal, signed_decimal}
 use Rattle.std.specs.Int.{IsInRange}
@@ -34,6 +34,7 @@ free_by_test b (x ∷ xs) e = free_cons b x xs (λ same. (let z : (x == b) ≡ t
     by : (t : Bool) → t ≡ true → (not t && list_all (λ x. not (x == b)) xs) ≡ true → ⊥
     by true z f = absurd (cc)
     by false z f = absurd (cc)
+
     rest : (t : Bool) → (t && list_all (λ x. not (x == b)) xs) ≡ true → list_all (λ x. not (x == b)) xs ≡ true
     rest true f = f
     rest false f = absurd (cc)

@@ -1,11 +1,10 @@
 -- The line of an event is its word and its fields.
-use Rattle.std.proofs.Common.{◌≡◌, ◌∙◌, ap, sym, subst, refl, arith, inl, inr, ℕ, ℤ, List, [], ◌∷◌, ◌++◌, length, if◌then◌else◌}
+use Rattle.std.proofs.Common.{◌≡◌, ◌∙◌, ap, sym, refl, arith, inl, inr, ℕ, List, [], ◌∷◌, ◌++◌, length, if◌then◌else◌}
 use Rattle.std.specs.Prelude.{◌⊎◌, codes}
 use Rattle.std.specs.Fmt.{decimal, signed_decimal}
 use Rattle.std.specs.Str.{bytes_eq}
 use Rattle.std.proofs.lemmas.List.{append_cancel_right, length-append}
 use mathlib.Core.List.{append_assoc}
-use Rattle.pipe_model.specs.declared.access.Access.{Access as Cell_access}
 use Rattle.pipe_model.specs.declared.access.AccessKind.TheVariants as kinds
 use Rattle.pipe_model.specs.declared.column.ColumnEnd.TheVariants as ends
 use Rattle.pipe_model.specs.declared.event.Event.{Event}
@@ -15,7 +14,7 @@ use Rattle.pipe_model.specs.declared.tree.Declaration.{Declaration}
 use Rattle.pipe_model.specs.declared.tree.StageKind.TheVariants as stages
 use Rattle.pipe_model.specs.Texts.{kind_text, trap_name}
 use Rattle.race_report.specs.CellNames.{cell_name}
-use Rattle.record_parser.specs.LogForms.{Accesses, Advances, Begins, Closes, Ends, Enters, HasFields, Traps, space, stage_text, word_text}
+use Rattle.record_parser.specs.LogForms.{Accesses, Advances, Begins, Closes, Ends, Enters, HasFields, Traps, space, word_text}
 use Rattle.record_parser.specs.RecordLines.{IsLogLine, line_feed}
 use Rattle.record_parser.specs.declared.log_word.LogWord.{LogWord}
 use Rattle.record_parser.specs.declared.log_word.LogWord.TheVariants as words

@@ -1,5 +1,5 @@
 -- Results that may be missing.
-use Rattle.std.proofs.Common.{◌≡◌, refl, Option, Some, None}
+use Rattle.std.proofs.Common.{Option, Some, None}
 use Rattle.std.specs.Prelude.{IfNone, IfSome}
 
 pub some_both : {T : Type 0} {P Q R : T → Type 0} (o : Option T) → IfSome o P → IfSome o Q → ((x : T) → P x → Q x → R x) → IfSome o R

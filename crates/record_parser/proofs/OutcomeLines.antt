@@ -1,19 +1,18 @@
 -- The line of a race or a trap is its word and its parts.
-use Rattle.std.proofs.Common.{◌≡◌, ◌∙◌, ap, sym, subst, refl, ℕ, ℤ, List, [], ◌∷◌, ◌++◌, FitsSigned}
+use Rattle.std.proofs.Common.{◌≡◌, ◌∙◌, ap, sym, refl, ℕ, ℤ, List, [], ◌∷◌, ◌++◌, FitsSigned}
 use Rattle.std.specs.Prelude.{codes}
 use Rattle.std.specs.Fmt.{decimal, signed_decimal}
 use Rattle.std.proofs.lemmas.List.{append_cancel_right}
 use mathlib.Core.List.{append_assoc}
 use mir.Syntax.{w64}
 use Rattle.pipe_model.specs.declared.report.Report.{Report}
-use Rattle.pipe_model.specs.declared.trap.TrapAt.{TrapAt}
 use Rattle.pipe_model.specs.declared.trap.TrapPlace.{TrapPlace}
 use Rattle.pipe_model.specs.declared.trap.TrapPlace.TheVariants as places
 use Rattle.pipe_model.specs.declared.tree.Declaration.{Declaration}
-use Rattle.pipe_model.specs.Texts.{instance_text, kind_text, race_line, trap_line, trap_name, trap_place}
+use Rattle.pipe_model.specs.Texts.{instance_text, kind_text, race_line, trap_name, trap_place}
 use Rattle.race_report.specs.CellNames.{cell_name}
 use Rattle.record_parser.specs.LogForms.{space}
-use Rattle.record_parser.specs.OutcomeForms.{AtInstance, EndsInAccess, InFinal, InInit, IsInstanceText, IsOutcomeTrapText, IsPlaceText, IsRaceText, IsWordedOutcome, RaceLine, TrapLine, slash}
+use Rattle.record_parser.specs.OutcomeForms.{AtInstance, InFinal, InInit, IsInstanceText, IsOutcomeTrapText, IsPlaceText, IsRaceText, IsWordedOutcome, RaceLine, TrapLine, slash}
 use Rattle.record_parser.specs.RecordLines.{IsIteration, IsOutcomeLine, IsOutput, IsPlaceInRanges, IsRace, IsTrap, line_feed}
 
 cut : (a b c : List ℕ) → (a ++ space ∷ b) ++ c ≡ a ++ space ∷ (b ++ c)
@@ -53,10 +52,13 @@ race_of_parts cells line text h e = IsRace (record {
   where
     name : List ℕ
     name = cell_name cells h.cell
+
     first : List ℕ
     first = decimal h.earlier.is_instance.iteration ++ slash ∷ signed_decimal h.earlier.is_instance.number
+
     second : List ℕ
     second = decimal h.later.is_instance.iteration ++ slash ∷ signed_decimal h.later.is_instance.number
+
     whole : text ≡ (((name ++ space ∷ kind_text h.earlier.kind) ++ space ∷ first) ++ space ∷ kind_text h.later.kind) ++ space ∷ second
     whole = h.later.is ∙ ap (λ i. (h.once ++ space ∷ kind_text h.later.kind) ++ space ∷ i) h.later.is_instance.is
         ∙ ap (λ o. (o ++ space ∷ kind_text h.later.kind) ++ space ∷ second)

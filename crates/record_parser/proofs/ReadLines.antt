@@ -1,5 +1,5 @@
 -- Records, line after line.
-use Rattle.std.proofs.Common.{◌≡◌, ◌∙◌, ap, sym, subst, refl, arith, inl, inr, ℕ, zero, suc, ◌+◌, ◌<◌, ◌≤◌, List, [], ◌∷◌, ◌++◌, All, length, take, get_or}
+use Rattle.std.proofs.Common.{◌≡◌, ◌∙◌, ap, sym, subst, refl, arith, ℕ, ◌+◌, ◌<◌, ◌≤◌, List, [], ◌∷◌, ◌++◌, length, take}
 use Rattle.std.specs.Prelude.{slice_index_or}
 use Rattle.std.specs.List.{AllZip}
 use Rattle.std.proofs.lemmas.List.{length-append}
@@ -8,7 +8,7 @@ use Rattle.std.proofs.Math.Seq.{get_or-append_seam, take-append_seam}
 use mathlib.Core.List.{append-nil, append_assoc}
 use Rattle.pipe_model.specs.declared.event.Event.{Event}
 use Rattle.pipe_model.specs.declared.tree.Declaration.{Declaration}
-use Rattle.record_parser.specs.RecordLines.{CannotFollow, IsFaultOf, IsFirstBadLine, IsLogLine, IsOutcomeLine, IsRecord, lines_of}
+use Rattle.record_parser.specs.RecordLines.{CannotFollow, IsFirstBadLine, IsLogLine, IsOutcomeLine, IsRecord, lines_of}
 
 -- ---- one more line
 

@@ -1,5 +1,5 @@
 -- The first line of a text.
-use Rattle.std.proofs.Common.{◌≡◌, ◌≢◌, ◌∙◌, ap, sym, subst, refl, arith, ℕ, zero, suc, ◌+◌, ◌<◌, ◌≤◌, List, [], ◌∷◌, ◌++◌, Bool, true, false, length, if◌then◌else◌}
+use Rattle.std.proofs.Common.{◌≡◌, ◌≢◌, ap, refl, arith, ℕ, ◌<◌, List, [], ◌∷◌, ◌++◌, false, length}
 use Rattle.std.specs.Prelude.{◌==◌}
 use Rattle.record_parser.specs.ByteDivisions.{IsFreeOf}
 use Rattle.record_parser.specs.RecordLines.{line_feed, lines_of, onto_first}

@@ -1,5 +1,5 @@
 -- The line of an event: a word, and then its fields, each after a space.
-use Rattle.std.specs.Prelude.{◌≡◌, ℕ, ℤ, List, [], ◌∷◌, ◌++◌, FitsSigned, codes}
+use Rattle.std.specs.Prelude.{◌≡◌, ℕ, ℤ, List, ◌∷◌, ◌++◌, FitsSigned, codes}
 use Rattle.std.specs.Fmt.{decimal, signed_decimal}
 use mir.Syntax.{w64}
 use Rattle.pipe_model.specs.declared.access.AccessKind.{AccessKind}

@@ -1,5 +1,5 @@
 -- The lines of a run's outcome, by their parts.
-use Rattle.std.specs.Prelude.{◌≡◌, ℕ, ℤ, List, [], ◌∷◌, ◌++◌, FitsSigned, codes}
+use Rattle.std.specs.Prelude.{◌≡◌, ℕ, ℤ, List, ◌∷◌, ◌++◌, FitsSigned, codes}
 use Rattle.std.specs.Fmt.{decimal, signed_decimal}
 use mir.Syntax.{w64}
 use Rattle.pipe_model.specs.declared.access.AccessKind.{AccessKind}

@@ -13,6 +13,7 @@ use pipe_io::decimal::number_up_to;
 
 // The greatest number of `i64`, and one more, whose negative is the least one.
 const GREATEST: u64 = 9_223_372_036_854_775_807;
+
 const PAST_GREATEST: u64 = 9_223_372_036_854_775_808;
 
 // Whether all bytes are digits.

@@ -1,4 +1,4 @@
-use Rattle.std.proofs.Common.{◌≡◌, ◌∙◌, ◌∷◌, ◌++◌, sym}
+use Rattle.std.proofs.Common.{◌∷◌, ◌++◌}
 use Rattle.std.specs.Fmt.{decimal, signed_decimal}
 use Rattle.race_report.specs.CellNames.{cell_name}
 use Rattle.record_parser.specs.LogForms.{space}

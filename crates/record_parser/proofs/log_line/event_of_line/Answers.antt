@@ -1,4 +1,4 @@
-use Rattle.std.proofs.Common.{◌≡◌, ◌∙◌, ◌++◌, ◌∷◌, ap, sym, subst, inl, inr, refl}
+use Rattle.std.proofs.Common.{◌∙◌, ◌++◌, ◌∷◌, ap, sym, subst, inl, inr, refl}
 use Rattle.std.specs.Prelude.{codes}
 use Rattle.record_parser.specs.LogForms.{HasFields, space, word_text}
 use Rattle.record_parser.proofs.Divisions.{at_first, never_divided}

@@ -1,4 +1,4 @@
-use Rattle.std.proofs.Common.{◌≡◌, ℤ, ap, ap₂, sym, subst}
+use Rattle.std.proofs.Common.{◌≡◌, ℤ, ap₂, sym, subst}
 use Rattle.std.proofs.lemmas.Int.{to_z-of_z}
 use mir.Syntax.{w64}
 use mir.Val.{of_z, to_z}

@@ -1,4 +1,3 @@
-use Rattle.std.proofs.Common.{◌≡◌, ◌∙◌, ◌∷◌, sym}
 use Rattle.std.specs.Fmt.{decimal, signed_decimal}
 use Rattle.record_parser.specs.LogForms.{space}
 use Rattle.record_parser.proofs.Divisions.{at_first, never_divided}

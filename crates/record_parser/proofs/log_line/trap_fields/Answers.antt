@@ -1,4 +1,3 @@
-use Rattle.std.proofs.Common.{◌≡◌, ◌∙◌, ◌∷◌, sym}
 use Rattle.std.specs.Fmt.{decimal}
 use Rattle.pipe_model.specs.Texts.{trap_name}
 use Rattle.record_parser.specs.LogForms.{space}

@@ -1,4 +1,4 @@
-use Rattle.std.proofs.Common.{◌≡◌, ◌+◌, drop, true}
+use Rattle.std.proofs.Common.{◌+◌, drop}
 use Rattle.record_parser.proofs.DeclaredNames.{names_after, others_after, split_declared, total_after}
 use Rattle.record_parser.proofs.names.declared_field.Goals as goal
 

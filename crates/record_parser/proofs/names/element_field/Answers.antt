@@ -1,4 +1,4 @@
-use Rattle.std.proofs.Common.{◌≡◌, ◌∙◌, ◌++◌, ap, sym}
+use Rattle.std.proofs.Common.{◌∙◌, ◌++◌, ap, sym}
 use Rattle.race_report.specs.CellNames.{element_index}
 use Rattle.record_parser.proofs.Options.{some_map}
 use Rattle.record_parser.proofs.Prefixes.{has_prefix, no_prefix}

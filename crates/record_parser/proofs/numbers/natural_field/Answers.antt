@@ -1,4 +1,4 @@
-use Rattle.std.proofs.Common.{◌≡◌, ◌∙◌, ◌≤◌, ◌<◌, ◌^◌, ℕ, ap, sym, arith, true, false}
+use Rattle.std.proofs.Common.{◌≡◌, ◌∙◌, ap, sym, arith, true, false}
 use Rattle.std.specs.Fmt.{decimal}
 use Rattle.pipe_model.specs.Language.Lexis.{number_of}
 use Rattle.record_parser.specs.PlainDecimals.{is_plain_decimal}

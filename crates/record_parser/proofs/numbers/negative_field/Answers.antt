@@ -1,5 +1,4 @@
-use Rattle.std.proofs.Common.{◌≡◌, ◌∙◌, ◌+◌, ap, sym, arith}
-use Rattle.std.specs.Fmt.{decimal}
+use Rattle.std.proofs.Common.{◌∙◌, ◌+◌, ap, sym, arith}
 use Rattle.pipe_model.specs.Language.Lexis.{number_of}
 use Rattle.record_parser.proofs.PlainDecimals.{value_is}
 use Rattle.record_parser.proofs.SignedDecimals.{negative_is}

@@ -1,4 +1,3 @@
-use Rattle.std.proofs.Common.{◌≡◌, ◌∷◌, ◌++◌}
 use Rattle.std.specs.Fmt.{decimal, signed_decimal}
 use Rattle.record_parser.specs.OutcomeForms.{slash}
 use Rattle.record_parser.proofs.Divisions.{at_first, never_divided}

@@ -1,4 +1,4 @@
-use Rattle.std.proofs.Common.{◌≡◌, ◌∙◌, ◌++◌, ◌∷◌, ap, sym, subst}
+use Rattle.std.proofs.Common.{◌∙◌, ◌++◌, ◌∷◌, ap, sym, subst}
 use Rattle.pipe_model.specs.Texts.{trap_name}
 use Rattle.record_parser.specs.LogForms.{space}
 use Rattle.record_parser.specs.OutcomeForms.{IsPlaceText}

@@ -1,4 +1,4 @@
-use Rattle.std.proofs.Common.{◌≡◌, sym, subst}
+use Rattle.std.proofs.Common.{sym, subst}
 use Rattle.race_report.specs.CellNames.{cell_name}
 use Rattle.record_parser.specs.OutcomeForms.{EndsInAccess}
 use Rattle.record_parser.proofs.FreeFields.{one_access}

@@ -1,4 +1,4 @@
-use Rattle.std.proofs.Common.{◌≡◌, ◌∷◌, ◌++◌, sym, subst}
+use Rattle.std.proofs.Common.{◌∷◌, ◌++◌, sym, subst}
 use Rattle.pipe_model.specs.Texts.{kind_text}
 use Rattle.record_parser.specs.LogForms.{space}
 use Rattle.record_parser.specs.OutcomeForms.{IsInstanceText}

@@ -1,4 +1,4 @@
-use Rattle.std.proofs.Common.{◌≡◌, ◌∙◌, ap}
+use Rattle.std.proofs.Common.{◌∙◌, ap}
 use Rattle.record_parser.specs.RecordLines.{lines_of}
 use Rattle.record_parser.proofs.TextLines.{line_then, only_line}
 use Rattle.record_parser.proofs.parse.first_line.Goals as goal

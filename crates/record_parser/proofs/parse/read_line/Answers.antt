@@ -1,6 +1,5 @@
-use Rattle.std.proofs.Common.{◌≡◌, ◌∙◌, ◌++◌, ◌∷◌, [], List, ap, sym, subst, arith, length}
+use Rattle.std.proofs.Common.{◌≡◌, ◌++◌, ◌∷◌, [], sym, subst, arith, length}
 use Rattle.std.proofs.lemmas.List.{nil_from_length}
-use Rattle.pipe_model.specs.declared.event.Event.{Event}
 use Rattle.record_parser.specs.RecordLines.{IsRecord}
 use Rattle.record_parser.proofs.ReadLines.{with_event, with_outcome}
 use Rattle.record_parser.proofs.Tests.{false_map, true_map}
