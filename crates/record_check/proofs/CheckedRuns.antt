@@ -141,8 +141,10 @@ checked_run p limit es all b finished columns accesses reports kind r going ends
   where
     run : Run p limit all (state_after all)
     run = subst (λ l. Run p limit l (state_after l)) (sym are) (with_stop_run p limit es b r going)
+
     accessed : accesses ≡ accesses_after all
     accessed = same ∙ sym (with_stop_accesses es b) ∙ ap accesses_after (sym are)
+
     by_found : reports ≡ found_reports (columns_after all) (starts_of all) (accesses_after all)
     by_found = found ∙ can.found ∙ ap (found_reports (columns_after all) (starts_of all)) accessed
 
@@ -151,8 +153,7 @@ pub all_followed : (p : Pipeline) (limit : ℕ) (events : List Event) (n k : ℕ
     → (k ≡ length (take n events)) × Run p limit (take n events) (state_after (take n events))
 all_followed p limit events n k first l h =
     let within = h.within in
-    let long = length-take-le n events first.within in
-    (
+    let long = length-take-le n events first.within in (
       omega (arith, within, l, long),
       subst (λ es. Run p limit es (state_after es)) (take_all k (take n events) (omega (arith, l, long))) h.run,
     )

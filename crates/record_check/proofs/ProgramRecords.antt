@@ -28,7 +28,7 @@ loop_run (NoLoop trap_is) none = absurd (both_ways trap_is none)
 loop_run (OfLoop none r) f = r
 
 -- after a trap of `init` there are no events
-no_events : {w : WholeProgram} {limit : ℕ} {es : List Event} {s : State} → ProgramRun w limit es s → is_some (init_trap w) ≡ true → length es ≡ 0
+pub no_events : {w : WholeProgram} {limit : ℕ} {es : List Event} {s : State} → ProgramRun w limit es s → is_some (init_trap w) ≡ true → length es ≡ 0
 no_events (NoLoop trap_is) t = refl
 no_events (OfLoop none r) t = absurd (both_ways t none)
 

@@ -68,9 +68,13 @@ fn check_prepared(
     )
 }
 
-/// Checks whether the events are a run of an accepted program under this throttling limit, and finds
-/// its races. `NotAllowed(k)` is returned exactly if the first `k` events are a run and the first
-/// `k + 1` are not. Returns an error only if memory runs out.
+/// Checks whether the events are a run of a program under this throttling limit, which is at least 1. If
+/// they are, the result has the kind of the run, its log with its own columns, and a race of each racy
+/// cell of the run's own dag, rising by cell. `NotAllowed(k)` is returned exactly if the first `k` events
+/// are a run and the first `k + 1` are not. There are fewer than 2^32 events.
+///
+/// # Errors
+/// Out of memory.
 pub fn check_record(
     alloc: Global,
     checked: &Checked,
@@ -80,11 +84,11 @@ pub fn check_record(
     events: &Events,
 ) -> Result<RecordAnswer, NoMemory>
     requires code { IsCodeOf (tree_of checked.now) code.now }
-    requires accepted { BreaksNoRule (tree_of checked.now) }
     requires throttle { 0 < throttle }
     requires short { length events.now < 2 ^ 32 }
     ensures { IfOk result (IsRecordAnswer (whole_of (tree_of checked.now) input.now) throttle events.now) }
 {
+    let _program = checked.program();
     let prepared = Prepared {
         checked,
         code,

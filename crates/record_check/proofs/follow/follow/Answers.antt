@@ -15,7 +15,7 @@ returns-then-not-has_turn-clause-followed g c =
     followed_to g.B.PlayedCode.code g.B.PlayedCode.cells c.args.player.now v c.args.events.now c.loop-k.k c.loop-k.invariant.0 c.loop-k.invariant.1 c.loop-k.invariant.2
     (omega (arith, l))
     (λ w. never_follows v c.args.events.now c.loop-k.k e (Begin 0) c.loop-k.invariant.1 l refl (c.requires.going c.loop-k.k (Begin 0) l)
-        (λ q. let z : None ≡ Some e = sym none ∙ turn ∙ q in cc))
+    (λ q. let z : None ≡ Some e = sym none ∙ turn ∙ q in cc))
 
 pub take_turn-requires-clause-turn : goal.take_turn-requires-clause-turn
 take_turn-requires-clause-turn g c =
@@ -42,7 +42,7 @@ returns-then-not-same_event-clause-followed g c =
     followed_to g.B.PlayedCode.code g.B.PlayedCode.cells c.args.player.now v c.args.events.now c.loop-k.k c.loop-k.invariant.0 c.loop-k.invariant.1 c.loop-k.invariant.2
     (omega (arith, l))
     (λ w. never_follows v c.args.events.now c.loop-k.k e (Begin 0) c.loop-k.invariant.1 l refl (c.requires.going c.loop-k.k (Begin 0) l)
-        (λ q. c.if-not-same_event.ensures.no (made ∙ same_made (event c.turn_for-turn.result) x.0 e x.1 (turn ∙ q))))
+    (λ q. c.if-not-same_event.ensures.no (made ∙ same_made (event c.turn_for-turn.result) x.0 e x.1 (turn ∙ q))))
 
 pub loop-k-preserved : goal.loop-k-preserved
 loop-k-preserved g c =
@@ -52,10 +52,9 @@ loop-k-preserved g c =
     let x = some_event (event c.turn_for-turn.result) (sym c.has_turn.ensures ∙ c.if-not-has_turn.false) in
     let grown = c.in_ok-take_turn.ensures.event x.0 x.1 in
     let made = made_event v.events c.take_turn.new.self.events c.events.result.now c.args.events.now c.loop-k.k x.0 (Begin 0) c.loop-k.invariant.1 l
-    grown c.events.ensures in
-    (
+    grown c.events.ensures in (
       c.in_ok-take_turn.ensures.play,
       made_front v.events c.take_turn.new.self.events c.args.events.now c.loop-k.k x.0 (Begin 0) c.loop-k.invariant.1 l grown
-      (sym c.if-not-same_event.ensures.yes ∙ made),
+          (sym c.if-not-same_event.ensures.yes ∙ made),
       keeps_both c.args.player.now v c.take_turn.new.self c.loop-k.invariant.2 c.in_ok-take_turn.ensures.keeps,
     )
