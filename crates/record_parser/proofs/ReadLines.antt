@@ -4,6 +4,7 @@ use Rattle.std.specs.Prelude.{slice_index_or}
 use Rattle.std.specs.List.{AllZip}
 use Rattle.std.proofs.lemmas.List.{length-append}
 use Rattle.std.proofs.lemmas.List.Elements.{All-push}
+use Rattle.std.proofs.lemmas.Slice.Zip.{AllZip-long}
 use Rattle.std.proofs.Math.Seq.{get_or-append_seam, take-append_seam}
 use mathlib.Core.List.{append-nil, append_assoc}
 use Rattle.pipe_model.specs.declared.event.Event.{Event}
@@ -96,3 +97,13 @@ pub all_read : (cells : List Declaration) (text rest : List ℕ) (number : ℕ) 
     → IsRecord cells (lines_of text) events
 all_read cells text rest number events h e =
     subst (λ ls. IsRecord cells ls events) (sym (h.lines ∙ ap (λ r. h.done ++ lines_of r) e ∙ append-nil h.done)) h.record_done
+
+-- there are at most as many events as bytes
+pub events_are_few : (cells : List Declaration) (text rest : List ℕ) (number : ℕ) (events : List Event) → HasRead cells text rest number events
+    → length events ≤ length text
+events_are_few cells text rest number events h =
+    let long = AllZip-long (IsLogLine cells) h.record_done.log events h.record_done.read in
+    let parts = ap length h.record_done.parts in
+    let count = h.count in
+    let bound = h.bound in
+    omega (arith, long, parts, length-append h.record_done.passed h.record_done.log, count, bound)

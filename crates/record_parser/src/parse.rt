@@ -62,6 +62,7 @@ fn read_lines(alloc: Global, cells: &[Declaration], text: &[u8]) -> Result<Event
     requires few { cell_total cells.now ≤ 65536 }
     requires short { length text.now ≤ bounds.LONGEST_RECORD }
     ensures read { IfOk result (IsRecord cells.now (lines_of text.now)) }
+    ensures few { IfOk result (λ events. length events ≤ length text.now) }
     ensures fault { IfErr result (IsFaultOf cells.now text.now) }
 {
     let mut events = Events::new(alloc);
@@ -92,6 +93,7 @@ fn read_lines(alloc: Global, cells: &[Declaration], text: &[u8]) -> Result<Event
 pub fn parse_record(alloc: Global, bytes: &[u8], checked: &Checked) -> Result<Events, RecordFault>
     ensures read { IfOk result (IsRecord checked.now.cells (lines_of bytes.now)) }
     ensures short { IfOk result (λ events. length bytes.now ≤ bounds.LONGEST_RECORD) }
+    ensures few { IfOk result (λ events. length events ≤ length bytes.now) }
     ensures fault { IfErr result (IsFaultOf checked.now.cells bytes.now) }
 {
     let _count = checked.cell_count();

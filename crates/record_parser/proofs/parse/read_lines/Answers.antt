@@ -1,5 +1,5 @@
 use Rattle.record_parser.specs.RecordLines.{HasBadLine, IsOutOfMemory}
-use Rattle.record_parser.proofs.ReadLines.{bad_line, one_more}
+use Rattle.record_parser.proofs.ReadLines.{bad_line, events_are_few, one_more}
 use Rattle.record_parser.proofs.Tests.{when_false, when_true}
 use Rattle.record_parser.proofs.parse.read_lines.Goals as goal
 
@@ -17,3 +17,6 @@ loop-rest-preserved c =
     one_more c.args.cells.now c.args.text.now c.loop-rest.rest.now c.first_line.result.line.now c.first_line.result.following.now c.loop-rest.number c.loop-rest.events
     c.read_line.new.events c.loop-rest.invariant c.first_line.ensures.lines c.first_line.ensures.shorter
     (when_true c.in-Ok.is_known c.in-Ok.ensures.yes c.if-not-is_known.false)
+
+pub returns-clause-few : goal.returns-clause-few
+returns-clause-few c = events_are_few c.args.cells.now c.args.text.now c.loop-rest.rest.now c.loop-rest.number c.loop-rest.events c.loop-rest.invariant
