@@ -1,5 +1,5 @@
 -- Fields have no space in them, so a text is divided at its spaces in one way.
-use Rattle.std.proofs.Common.{◌≡◌, ◌≢◌, sym, subst, refl, arith, ℕ, ℤ, pos, negsuc, suc, ◌<◌, ◌^◌, List, [], ◌∷◌, ◌++◌, Bool, true, false, FitsSigned}
+use Rattle.std.proofs.Common.{◌≡◌, ◌≢◌, ◌∙◌, ap, sym, subst, refl, arith, ℕ, ℤ, pos, negsuc, suc, ◌<◌, ◌^◌, List, [], ◌∷◌, ◌++◌, Bool, true, false, FitsSigned}
 use Rattle.std.specs.Prelude.{◌==◌, ◌&&◌, not}
 use Rattle.std.specs.Fmt.{decimal, signed_decimal}
 use Rattle.std.specs.Int.{IsInRange}
@@ -12,11 +12,12 @@ use Rattle.pipe_model.specs.declared.access.AccessKind.{AccessKind}
 use Rattle.pipe_model.specs.declared.access.AccessKind.TheVariants as kinds
 use Rattle.pipe_model.specs.declared.trap.Trap.{Trap as Trap_name}
 use Rattle.pipe_model.specs.declared.trap.Trap.TheVariants as traps
-use Rattle.pipe_model.specs.declared.tree.StageKind.{StageKind}
+
 use Rattle.pipe_model.specs.declared.tree.StageKind.TheVariants as stages
+use Rattle.pipe_model.specs.Language.Lexis.{is_letter}
 use Rattle.pipe_model.specs.Texts.{kind_text, trap_name}
 use Rattle.record_parser.specs.ByteDivisions.{IsFreeOf}
-use Rattle.record_parser.specs.LogForms.{space, stage_text, word_text}
+use Rattle.record_parser.specs.LogForms.{space, word_text}
 use Rattle.record_parser.specs.declared.log_word.LogWord.{LogWord}
 use Rattle.record_parser.specs.declared.log_word.LogWord.TheVariants as words
 use Rattle.record_parser.specs.RecordLines.{IsIteration}
@@ -39,33 +40,50 @@ free_by_test b (x ∷ xs) e = free_cons b x xs (λ same. (let z : (x == b) ≡ t
     rest true f = f
     rest false f = absurd (cc)
 
-pub kind_free : (kind : AccessKind) → IsFreeOf space (kind_text kind)
-kind_free kinds.Read = free_by_test space (kind_text kinds.Read) refl
-kind_free kinds.Write = free_by_test space (kind_text kinds.Write) refl
+-- a text of letters
+letters_free : (b : ℕ) (xs : List ℕ) → is_letter b ≡ false → list_all is_letter xs ≡ true → IsFreeOf b xs
+letters_free b [] other e = λ k d l. absurd (omega (arith, l))
+letters_free b (x ∷ xs) other e =
+    let parts = and_parts (is_letter x) (list_all is_letter xs) e in
+    free_cons b x xs (λ same. (let z : true ≡ false = sym parts.0 ∙ ap is_letter same ∙ other in absurd (cc))) (letters_free b xs other parts.1)
+  where
+    and_parts : (s t : Bool) → (s && t) ≡ true → (s ≡ true) × (t ≡ true)
+    and_parts true t f = (refl, f)
+    and_parts false t f = absurd (cc)
 
-pub stage_free : (kind : StageKind) → IsFreeOf space (stage_text kind)
-stage_free stages.Wait = free_by_test space (stage_text stages.Wait) refl
-stage_free stages.Continue = free_by_test space (stage_text stages.Continue) refl
+kind_letters : (kind : AccessKind) → list_all is_letter (kind_text kind) ≡ true
+kind_letters kinds.Read = refl
+kind_letters kinds.Write = refl
 
-pub word_free : (w : LogWord) → IsFreeOf space (word_text w)
-word_free words.Begin = free_by_test space (word_text words.Begin) refl
-word_free words.Enter = free_by_test space (word_text words.Enter) refl
-word_free words.End = free_by_test space (word_text words.End) refl
-word_free words.Closed = free_by_test space (word_text words.Closed) refl
-word_free words.Trap = free_by_test space (word_text words.Trap) refl
-word_free (words.Access kind) = kind_free kind
-word_free (words.Stage kind) = stage_free kind
+word_letters : (w : LogWord) → list_all is_letter (word_text w) ≡ true
+word_letters words.Begin = refl
+word_letters words.Enter = refl
+word_letters words.End = refl
+word_letters words.Closed = refl
+word_letters words.Trap = refl
+word_letters (words.Access kind) = kind_letters kind
+word_letters (words.Stage stages.Wait) = refl
+word_letters (words.Stage stages.Continue) = refl
 
-pub trap_free : (t : Trap_name) → IsFreeOf space (trap_name t)
-trap_free traps.Overflow = free_by_test space (trap_name traps.Overflow) refl
-trap_free traps.DivZero = free_by_test space (trap_name traps.DivZero) refl
-trap_free traps.Index = free_by_test space (trap_name traps.Index) refl
-trap_free traps.Budget = free_by_test space (trap_name traps.Budget) refl
-trap_free traps.StageOrder = free_by_test space (trap_name traps.StageOrder) refl
-trap_free traps.StageLimit = free_by_test space (trap_name traps.StageLimit) refl
-trap_free traps.InputEnd = free_by_test space (trap_name traps.InputEnd) refl
-trap_free traps.IterLimit = free_by_test space (trap_name traps.IterLimit) refl
-trap_free traps.OutputLimit = free_by_test space (trap_name traps.OutputLimit) refl
+trap_letters : (t : Trap_name) → list_all is_letter (trap_name t) ≡ true
+trap_letters traps.Overflow = refl
+trap_letters traps.DivZero = refl
+trap_letters traps.Index = refl
+trap_letters traps.Budget = refl
+trap_letters traps.StageOrder = refl
+trap_letters traps.StageLimit = refl
+trap_letters traps.InputEnd = refl
+trap_letters traps.IterLimit = refl
+trap_letters traps.OutputLimit = refl
+
+pub kind_free : (b : ℕ) (kind : AccessKind) → is_letter b ≡ false → IsFreeOf b (kind_text kind)
+kind_free b kind other = letters_free b (kind_text kind) other (kind_letters kind)
+
+pub word_free : (b : ℕ) (w : LogWord) → is_letter b ≡ false → IsFreeOf b (word_text w)
+word_free b w other = letters_free b (word_text w) other (word_letters w)
+
+pub trap_free : (b : ℕ) (t : Trap_name) → is_letter b ≡ false → IsFreeOf b (trap_name t)
+trap_free b t other = letters_free b (trap_name t) other (trap_letters t)
 
 -- ---- numbers
 
@@ -100,4 +118,4 @@ pub one_access : (text before other : List ℕ) → EndsInAccess text before →
 one_access text before other h g =
     let parts = at_last space text (before ++ space ∷ kind_text h.kind) h.instance (other ++ space ∷ kind_text g.kind) g.instance
     h.is (instance_free h.instance h.is_instance) g.is (instance_free g.instance g.is_instance) in
-    (at_last space (before ++ space ∷ kind_text h.kind) before (kind_text h.kind) other (kind_text g.kind) refl (kind_free h.kind) parts.0 (kind_free g.kind)).0
+    (at_last space (before ++ space ∷ kind_text h.kind) before (kind_text h.kind) other (kind_text g.kind) refl (kind_free space h.kind refl) parts.0 (kind_free space g.kind refl)).0

@@ -3,9 +3,11 @@ pub mod Divisions
 pub mod FreeFields
 pub mod LogLines
 pub mod Options
+pub mod OneEvent
 pub mod OutcomeLines
 pub mod PlainDecimals
 pub mod Prefixes
+pub mod ReadBack
 pub mod ReadLines
 pub mod SignedDecimals
 pub mod Tests

@@ -2,4 +2,5 @@ pub mod ByteDivisions
 pub mod LogForms
 pub mod OutcomeForms
 pub mod PlainDecimals
+pub mod ReadingLaws
 pub mod RecordLines

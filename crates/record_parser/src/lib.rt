@@ -3,6 +3,7 @@
 
 pub mod bounds;
 pub mod fault;
+pub mod law;
 mod log_line;
 mod log_word;
 mod names;

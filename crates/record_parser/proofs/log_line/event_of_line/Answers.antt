@@ -12,7 +12,7 @@ returns-in_default-log_word-clause-none c = λ e h. elim (divided c.args.cells.n
   | inl s ↦ never_divided space (codes "stop") c.in-Some.first.now c.in-Some.fields.now (free_by_test space (codes "stop") refl) (sym s.1 ∙ c.in-Some.ensures.parts)
   | inr d ↦ (
       let parts = at_first space c.args.line.now c.in-Some.first.now c.in-Some.fields.now (word_text d.word) d.fields
-      c.in-Some.ensures.parts c.in-Some.ensures.first d.text (word_free d.word) in
+      c.in-Some.ensures.parts c.in-Some.ensures.first d.text (word_free space d.word refl) in
       c.in_default-log_word.ensures.none d.word parts.0)
 ]
 
@@ -28,7 +28,7 @@ returns-clause-none c =
       | inl s ↦ never_divided space (codes "stop") c.in-Some.first.now c.in-Some.fields.now (free_by_test space (codes "stop") refl) (sym s.1 ∙ c.in-Some.ensures.parts)
       | inr d ↦ (
           let parts = at_first space c.args.line.now c.in-Some.first.now c.in-Some.fields.now (word_text d.word) d.fields
-          c.in-Some.ensures.parts c.in-Some.ensures.first d.text (word_free d.word) in
+          c.in-Some.ensures.parts c.in-Some.ensures.first d.text (word_free space d.word refl) in
           let word = one_word d.word c.in-Some-log_word.word (sym parts.0 ∙ c.in-Some-log_word.ensures.some) in
           none e (subst (λ w. HasFields c.args.cells.now c.in-Some.fields.now w e) word
           (subst (λ f. HasFields c.args.cells.now f d.word e) (sym parts.1) d.has)))

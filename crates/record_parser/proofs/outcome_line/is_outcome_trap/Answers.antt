@@ -1,4 +1,4 @@
-use Rattle.std.proofs.Common.{◌∙◌, ◌++◌, ◌∷◌, ap, sym, subst}
+use Rattle.std.proofs.Common.{◌∙◌, ◌++◌, ◌∷◌, ap, sym, subst, refl}
 use Rattle.pipe_model.specs.Texts.{trap_name}
 use Rattle.record_parser.specs.LogForms.{space}
 use Rattle.record_parser.specs.OutcomeForms.{IsPlaceText}
@@ -13,7 +13,7 @@ returns-in_default-clause-no c = λ h. never_divided space c.args.bytes.now (tra
 pub returns-in_default-trap_field-clause-no : goal.returns-in_default-trap_field-clause-no
 returns-in_default-trap_field-clause-no c = λ h.
     let parts = at_first space c.args.bytes.now c.in-Some.trap.now c.in-Some.place.now (trap_name h.trap) h.place
-    c.in-Some.ensures.parts c.in-Some.ensures.first h.is (trap_free h.trap) in
+    c.in-Some.ensures.parts c.in-Some.ensures.first h.is (trap_free space h.trap refl) in
     c.in_default-trap_field.ensures.none h.trap parts.0
 
 pub returns-clause-yes : goal.returns-clause-yes
@@ -27,5 +27,5 @@ returns-clause-yes c = true_map c.is_place.result c.is_place.ensures.yes (λ h. 
 pub returns-clause-no : goal.returns-clause-no
 returns-clause-no c = false_map c.is_place.result c.is_place.ensures.no (λ no h.
     let parts = at_first space c.args.bytes.now c.in-Some.trap.now c.in-Some.place.now (trap_name h.trap) h.place
-    c.in-Some.ensures.parts c.in-Some.ensures.first h.is (trap_free h.trap) in
+    c.in-Some.ensures.parts c.in-Some.ensures.first h.is (trap_free space h.trap refl) in
     no (subst IsPlaceText (sym parts.1) h.is_place))

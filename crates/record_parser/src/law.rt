@@ -1,0 +1,13 @@
+//! Laws of the reading of records.
+
+ghost use Rattle.record_parser.specs.ReadingLaws.{LogsAreReadAsTheirEvents, LogsHaveNoBadLine};
+
+/// If a record is the text of a run log, its events are those of the log.
+pub fn logs_are_read_as_their_events()
+    ensures { LogsAreReadAsTheirEvents }
+{}
+
+/// The text of a run log has no bad line.
+pub fn logs_have_no_bad_line()
+    ensures { LogsHaveNoBadLine }
+{}
