@@ -6,6 +6,7 @@ use pipe_model::access::{Access, AccessKind, CellId};
 use pipe_model::column::ColumnEnd;
 use pipe_model::event::Event;
 use pipe_model::event::Event::{Advance, Begin, Enter, Finish, Stop};
+use pipe_model::memory::NoMemory;
 use pipe_model::node::Kind;
 use pipe_model::trap::Trap;
 use record_parser::bounds::LONGEST_RECORD;
@@ -100,14 +101,19 @@ fn first_bad_line_is_found(rt: HostRuntime) -> Result<(), Fail> {
     Ok(())
 }
 
+// Line feeds.
+fn feeds(alloc: Global, count: usize) -> Result<Vec<u8>, NoMemory> {
+    Ok(Vec::from_elem(alloc, b'\n', count)?)
+}
+
 #[test]
 fn long_texts_are_refused(rt: HostRuntime) -> Result<(), Fail> {
     let alloc = rt.alloc();
     let checked = accepted(alloc, SOURCE.as_bytes())?;
-    let text = Vec::from_elem(alloc, b'\n', LONGEST_RECORD + 1)?;
-    let longest = &text.as_slice()[..LONGEST_RECORD];
-    assert_eq!(rt; read(alloc, &checked, longest)?, Err(0));
-    match parse_record(alloc, text.as_slice(), &checked) {
+    let longest = feeds(alloc, LONGEST_RECORD)?;
+    assert_eq!(rt; read(alloc, &checked, longest.as_slice())?, Err(0));
+    let longer = feeds(alloc, LONGEST_RECORD + 1)?;
+    match parse_record(alloc, longer.as_slice(), &checked) {
         Err(RecordFault::TooLong) => Ok(()),
         _ => Err(Fail::new(format_args!("the text is not too long"))),
     }
