@@ -12,7 +12,6 @@ use Rattle.pipe_model.specs.declared.access.AccessKind.{AccessKind}
 use Rattle.pipe_model.specs.declared.access.AccessKind.TheVariants as kinds
 use Rattle.pipe_model.specs.declared.trap.Trap.{Trap as Trap_name}
 use Rattle.pipe_model.specs.declared.trap.Trap.TheVariants as traps
-
 use Rattle.pipe_model.specs.declared.tree.StageKind.TheVariants as stages
 use Rattle.pipe_model.specs.Language.Lexis.{is_letter}
 use Rattle.pipe_model.specs.Texts.{kind_text, trap_name}
@@ -40,12 +39,12 @@ free_by_test b (x ∷ xs) e = free_cons b x xs (λ same. (let z : (x == b) ≡ t
     rest true f = f
     rest false f = absurd (cc)
 
--- a text of letters
-letters_free : (b : ℕ) (xs : List ℕ) → is_letter b ≡ false → list_all is_letter xs ≡ true → IsFreeOf b xs
-letters_free b [] other e = λ k d l. absurd (omega (arith, l))
-letters_free b (x ∷ xs) other e =
-    let parts = and_parts (is_letter x) (list_all is_letter xs) e in
-    free_cons b x xs (λ same. (let z : true ≡ false = sym parts.0 ∙ ap is_letter same ∙ other in absurd (cc))) (letters_free b xs other parts.1)
+-- a text of bytes of one kind is free of the others
+pub free_by : (p : ℕ → Bool) (b : ℕ) (xs : List ℕ) → p b ≡ false → list_all p xs ≡ true → IsFreeOf b xs
+free_by p b [] other e = λ k d l. absurd (omega (arith, l))
+free_by p b (x ∷ xs) other e =
+    let parts = and_parts (p x) (list_all p xs) e in
+    free_cons b x xs (λ same. (let z : true ≡ false = sym parts.0 ∙ ap p same ∙ other in absurd (cc))) (free_by p b xs other parts.1)
   where
     and_parts : (s t : Bool) → (s && t) ≡ true → (s ≡ true) × (t ≡ true)
     and_parts true t f = (refl, f)
@@ -77,13 +76,13 @@ trap_letters traps.IterLimit = refl
 trap_letters traps.OutputLimit = refl
 
 pub kind_free : (b : ℕ) (kind : AccessKind) → is_letter b ≡ false → IsFreeOf b (kind_text kind)
-kind_free b kind other = letters_free b (kind_text kind) other (kind_letters kind)
+kind_free b kind other = free_by is_letter b (kind_text kind) other (kind_letters kind)
 
 pub word_free : (b : ℕ) (w : LogWord) → is_letter b ≡ false → IsFreeOf b (word_text w)
-word_free b w other = letters_free b (word_text w) other (word_letters w)
+word_free b w other = free_by is_letter b (word_text w) other (word_letters w)
 
 pub trap_free : (b : ℕ) (t : Trap_name) → is_letter b ≡ false → IsFreeOf b (trap_name t)
-trap_free b t other = letters_free b (trap_name t) other (trap_letters t)
+trap_free b t other = free_by is_letter b (trap_name t) other (trap_letters t)
 
 -- ---- numbers
 

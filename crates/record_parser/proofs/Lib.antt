@@ -6,9 +6,11 @@ pub mod Options
 pub mod OneEvent
 pub mod OutcomeLines
 pub mod PlainDecimals
+pub mod PlainNames
 pub mod Prefixes
 pub mod ReadBack
 pub mod ReadLines
 pub mod SignedDecimals
+pub mod SourceNames
 pub mod Tests
 pub mod TextLines

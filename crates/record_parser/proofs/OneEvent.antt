@@ -1,8 +1,7 @@
 -- A line is that of one event, and of no outcome.
-use Rattle.std.proofs.Common.{◌≡◌, ◌≢◌, ◌∙◌, ap, ap₂, sym, subst, refl, arith, inl, inr, ℕ, ℤ, ◌<◌, ◌≤◌, ◌^◌, List, [], ◌∷◌, ◌++◌, true, false, FitsSigned, length, get_or, if◌then◌else◌}
+use Rattle.std.proofs.Common.{◌≡◌, ◌∙◌, ap, ap₂, sym, subst, refl, arith, inl, inr, ℕ, ℤ, ◌<◌, List, ◌∷◌, ◌++◌, true, FitsSigned, length, get_or, if◌then◌else◌}
 use Rattle.std.specs.Prelude.{codes}
 use Rattle.std.specs.Fmt.{decimal, signed_decimal}
-use Rattle.std.specs.Int.{IsInRange}
 use Rattle.std.specs.Str.{bytes_eq}
 use Rattle.std.proofs.lemmas.Fmt.{signed_decimal_injective}
 use mir.Syntax.{w64}
@@ -21,12 +20,12 @@ use Rattle.race_report.specs.CellNames.{cell_name}
 use Rattle.record_parser.specs.ByteDivisions.{IsFreeOf}
 use Rattle.record_parser.specs.LogForms.{Accesses, Advances, Begins, Closes, Ends, Enters, HasFields, Traps, space, word_text}
 use Rattle.record_parser.specs.OutcomeForms.{IsOutcomeTrapText, IsWordedOutcome, RaceLine, TrapLine}
-use Rattle.record_parser.specs.ReadingLaws.{HasPlainNames}
-use Rattle.record_parser.specs.RecordLines.{IsIteration, IsLogLine, IsOutcomeLine, IsOutput, IsRace, IsTrap}
+use Rattle.record_parser.proofs.PlainNames.{HasPlainNames}
+use Rattle.record_parser.specs.RecordLines.{IsIteration, IsLogLine, IsOutcomeLine}
 use Rattle.record_parser.specs.declared.log_word.LogWord.{LogWord}
 use Rattle.record_parser.specs.declared.log_word.LogWord.TheVariants as words
-use Rattle.record_parser.proofs.Divisions.{at_first, at_last, free_head, never_divided, not_free}
-use Rattle.record_parser.proofs.FreeFields.{decimal_free, free_by_test, iteration_free, no_digit, no_sign, signed_free, trap_free, word_free}
+use Rattle.record_parser.proofs.Divisions.{at_first, at_last, never_divided}
+use Rattle.record_parser.proofs.FreeFields.{free_by_test, iteration_free, no_digit, no_sign, signed_free, trap_free, word_free}
 use Rattle.record_parser.proofs.LogLines.{divided, one_word}
 use Rattle.record_parser.proofs.OutcomeLines.{worded}
 use Rattle.record_parser.proofs.PlainDecimals.{value_is}

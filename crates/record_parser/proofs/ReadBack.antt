@@ -1,12 +1,10 @@
 -- The text of a run log is read as its events.
-use Rattle.std.proofs.Common.{◌≡◌, ◌≢◌, ◌∙◌, ap, ap₂, sym, subst, refl, arith, ℕ, ℤ, zero, suc, ◌+◌, ◌<◌, ◌≤◌, List, [], ◌∷◌, ◌++◌, All, FitsSigned, length, take, get_or}
+use Rattle.std.proofs.Common.{◌≡◌, ◌≢◌, ◌∙◌, ap, ap₂, sym, subst, refl, arith, ℕ, zero, suc, ◌<◌, List, [], ◌∷◌, ◌++◌, All, length}
 use Rattle.std.specs.Prelude.{codes, slice_index_or}
 use Rattle.std.specs.Fmt.{decimal, signed_decimal}
 use Rattle.std.specs.Int.{IsInRange}
 use Rattle.std.specs.List.{AllZip}
-use Rattle.std.proofs.lemmas.Slice.Zip.{AllZip-long}
 use mathlib.Core.List.{append_assoc}
-use mir.Syntax.{w64}
 use Rattle.pipe_model.specs.declared.column.ColumnEnd.TheVariants as ends
 use Rattle.pipe_model.specs.declared.event.Event.{Event}
 use Rattle.pipe_model.specs.declared.event.Event.TheVariants as events
@@ -15,11 +13,13 @@ use Rattle.pipe_model.specs.declared.tree.Declaration.{Declaration}
 use Rattle.pipe_model.specs.declared.tree.StageKind.TheVariants as stages
 use Rattle.pipe_model.specs.Texts.{trap_name}
 use Rattle.race_report.specs.CellNames.{cell_name}
-use Rattle.run_record.specs.LogLines.{log_line, log_text}
+use Rattle.run_record.specs.LogLines.{log_text}
 use Rattle.record_parser.specs.ByteDivisions.{IsFreeOf}
 use Rattle.record_parser.specs.LogForms.{Accesses, Advances, Begins, Closes, Ends, Enters, HasFields, Traps, space, word_text}
-use Rattle.record_parser.specs.ReadingLaws.{HasLine, HasPlainNames, LogsAreReadAsTheirEvents, LogsHaveNoBadLine}
-use Rattle.record_parser.specs.RecordLines.{IsFirstBadLine, IsInRanges, IsLogLine, IsOutcomeLine, IsRecord, line_feed, lines_of}
+use Rattle.record_parser.specs.ReadingLaws.{HasLine, LogsAreReadAsTheirEvents, LogsHaveNoBadLine}
+use Rattle.record_parser.proofs.PlainNames.{HasPlainNames}
+use Rattle.record_parser.proofs.SourceNames.{accepted_names}
+use Rattle.record_parser.specs.RecordLines.{IsInRanges, IsLogLine, IsOutcomeLine, line_feed, lines_of}
 use Rattle.record_parser.specs.declared.log_word.LogWord.{LogWord}
 use Rattle.record_parser.specs.declared.log_word.LogWord.TheVariants as words
 use Rattle.record_parser.proofs.Divisions.{free_append, free_cons}
@@ -121,7 +121,9 @@ none_passed cells lines (p ∷ ps) log (x ∷ es) h e o =
     absurd (no_outcome cells p x (subst (λ ls. AllZip (IsLogLine cells) ls (x ∷ es)) e h).0 (all_head (IsOutcomeLine cells) p ps o))
 
 pub logs_are_read_as_their_events : LogsAreReadAsTheirEvents
-logs_are_read_as_their_events cells es others plain r h read =
+logs_are_read_as_their_events source tree es others accepted r h read =
+    let cells = tree.cells in
+    let plain = accepted_names source tree accepted in
     let lines = lines_of (log_text cells es) in
     let zip = lines_are cells es plain r h in
     let same = none_passed cells lines read.passed read.log es zip read.parts read.outcome in
@@ -136,6 +138,7 @@ line_at cells (x ∷ xs) (e ∷ es) zero h l = (e, h.0)
 line_at cells (x ∷ xs) (e ∷ es) (suc n) h l = line_at cells xs es n h.1 (omega (arith, l))
 
 pub logs_have_no_bad_line : LogsHaveNoBadLine
-logs_have_no_bad_line cells es n plain r h bad =
-    let found = line_at cells (lines_of (log_text cells es)) es n (lines_are cells es plain r h) bad.within in
+logs_have_no_bad_line source tree es n accepted r h bad =
+    let cells = tree.cells in
+    let found = line_at cells (lines_of (log_text cells es)) es n (lines_are cells es (accepted_names source tree accepted) r h) bad.within in
     bad.bad.no_event found.0 found.1
