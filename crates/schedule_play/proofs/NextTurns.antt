@@ -1,8 +1,9 @@
 -- Which iterations have a next event, by what a schedule keeps.
-use Rattle.std.proofs.Common.{◌≡◌, ◌∙◌, ap, sym, subst, refl, arith, inl, inr, ℕ, ℤ, zero, suc, ◌+◌, ◌<◌, ◌≤◌, List, [], ◌∷◌, ◌++◌, Bool, true, false, ◌&&◌, ◌||◌, if◌then◌else◌, Option, Some, None, nat_eq, length, ◌-◌}
+use Rattle.std.proofs.Common.{◌≡◌, ◌∙◌, ap, sym, subst, refl, arith, inl, inr, ℕ, zero, suc, ◌+◌, ◌<◌, List, [], ◌∷◌, ◌++◌, Bool, true, false, ◌&&◌, ◌||◌, if◌then◌else◌, Option, None, nat_eq, length}
 use Rattle.std.specs.Prelude.{is_some}
 use Rattle.std.specs.List.{list_any}
-use Rattle.std.proofs.lemmas.Bool.{cases_order}
+use Rattle.std.proofs.lemmas.Bool.{cases_lt}
+use Rattle.std.proofs.Math.ListN.{get_or-eq_default}
 use Rattle.pipe_model.specs.declared.node.Node.{Node}
 use Rattle.pipe_model.specs.declared.status.Status.{Status}
 use Rattle.pipe_model.specs.declared.status.Status.TheVariants as statuses
@@ -11,7 +12,11 @@ use Rattle.pipe_model.specs.Pipelines.Behaviour.{Action}
 use Rattle.pipe_model.specs.Pipelines.Pipeline.{Pipeline}
 use Rattle.pipe_model.specs.Runs.NextEvents.{event_if, event_of_frame, event_of_status, may_enter, next_event}
 use Rattle.pipe_model.specs.Runs.State.{Frame, State, frame_at}
-use Rattle.schedule_play.specs.ScheduleStates.{IsScheduleOf, ScheduleState}
+use Rattle.frame_book.specs.BookStates.{BookState, item_or}
+use Rattle.run_laws.proofs.RunStates.Frames.{frame_at_exists}
+use Rattle.stage_code.specs.FlatCode.{FlatCode}
+use Rattle.schedule_play.specs.HeldInstances.{HeldState}
+use Rattle.schedule_play.specs.PlayStates.{FitsStatus, IsPlay, PlayState, pipeline_played, run_state}
 use Rattle.schedule_play.specs.declared.turns.Alive.{Alive}
 use Rattle.schedule_play.specs.declared.turns.Standing.TheVariants.{MayEnter, MustWait}
 use Rattle.schedule_play.specs.Turns.{alive_entry, alive_from, alive_iterations, may_go}
@@ -44,6 +49,7 @@ own_entry p s i (statuses.Pending k n) nodes t = by (may_enter s.frames i k n)
   where
     same : nat_eq i i ≡ true
     same = grind arith
+
     by : (b : Bool) → list_any (goes i) (record { iteration = i; number = n; standing = if b then MayEnter else MustWait } ∷ []) ≡ is_some (event_if b (events.Enter i))
     by true = rw same refl
     by false = rw same refl
@@ -87,3 +93,33 @@ pub has_next_is : (p : Pipeline) (s : State) (i : ℕ) (kept : List Alive) → k
 has_next_is p s i kept e =
     let z : 0 + i ≡ i = omega arith in
     ap (list_any (goes i)) e ∙ next_from p s i 0 i s.frames z
+
+-- ---- running instances
+
+by_status : (code : FlatCode) (cells : ℕ) (b : BookState) (p : Pipeline) (s : State) (i : ℕ) (w : Status) (trace : List Action) (kept : Option HeldState)
+    → FitsStatus code cells b i w trace kept → is_some kept ≡ true → is_some (event_of_status p s i w trace) ≡ true
+by_status code cells b p s i statuses.Running trace kept h e = refl
+by_status code cells b p s i (statuses.Pending k n) trace kept h e = absurd (no_none (h.0) e)
+  where
+    no_none : {o : Option HeldState} → o ≡ None → is_some o ≡ true → ⊥
+    no_none n t = let z : false ≡ true = ap is_some (sym n) ∙ t in cc
+by_status code cells b p s i (statuses.Completed x) trace kept h e = absurd (no_none h e)
+  where
+    no_none : {o : Option HeldState} → o ≡ None → is_some o ≡ true → ⊥
+    no_none n t = let z : false ≡ true = ap is_some (sym n) ∙ t in cc
+
+-- an iteration whose instance runs has a next event
+pub running_has_next : (code : FlatCode) (cells : ℕ) (v : PlayState) (i : ℕ) → IsPlay code cells v → is_some (item_or None v.running i) ≡ true
+    → is_some (next_event (pipeline_played v) (run_state v) i) ≡ true
+running_has_next code cells v i h e = elim (cases_lt i (length (run_state v).frames)) [
+  | inl less ↦ (
+      let found = frame_at_exists (run_state v).frames i less in
+      ap (λ o. is_some (event_of_frame (pipeline_played v) (run_state v) i o)) found.1
+      ∙ by_status code cells v.book (pipeline_played v) (run_state v) i found.0.status found.0.trace (item_or None v.running i)
+      (h.running.each i found.0 found.1) e)
+  | inr past ↦ (
+      let count = h.running.count in
+      let none : item_or None v.running i ≡ None = get_or-eq_default v.running None (omega (arith, count, past)) in
+      let z : false ≡ true = ap is_some (sym none) ∙ e in
+      cc)
+]

@@ -78,7 +78,9 @@ fn has_room(alive: &[Alive], workers: u32) -> bool
 pub fn has_next(alive: &[Alive], iteration: u32) -> bool
     ensures { result ≡ list_any (λ (a : Kept). nat_eq a.iteration iteration && may_go true a.standing) alive.now }
 {
-    alive.iter().any(|a| a.iteration == iteration && a.standing.may_go(true))
+    alive
+        .iter()
+        .any(|a| a.iteration == iteration && a.standing.may_go(true))
 }
 
 // Returns how many iterations have a turn.

@@ -1,4 +1,4 @@
-use Rattle.std.proofs.Common.{◌≡◌, ◌∙◌, ap, sym}
+use Rattle.std.proofs.Common.{◌∙◌, ap}
 use Rattle.schedule_play.specs.ScheduleStates.{ScheduleState}
 use Rattle.schedule_play.proofs.NextTurns.{has_next_is}
 use Rattle.schedule_play.proofs.schedule.Schedule.has_next.Goals as goal
