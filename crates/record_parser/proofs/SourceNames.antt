@@ -60,9 +60,6 @@ name_free b x other h = free_by is_name_byte b x other (name_bytes x h.symbol)
 
 -- ---- elements
 
-bracket : ℕ
-bracket = 91
-
 element_free : (d : Declaration) (k : ℕ) → k < 2 ^ 64 → IsName d.name → IsFreeOf line_feed (element_name d k)
 element_free d k small h = free_append line_feed d.name (element_index d.size k) (name_free line_feed d.name refl h) (by d.size)
   where

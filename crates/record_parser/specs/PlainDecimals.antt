@@ -3,11 +3,11 @@ use Rattle.std.specs.Prelude.{ℕ, Bool, false, not, List, [], ◌∷◌, ◌==�
 use Rattle.std.specs.List.{list_all}
 use Rattle.pipe_model.specs.Language.Lexis.{is_digit}
 
--- the list has no element
-abbrev pub is_nil : List ℕ → Bool
-is_nil bytes = length bytes == 0
+-- the byte `0`
+abbrev pub zero_digit : ℕ
+zero_digit = 48
 
 -- one or more digits, of which the first is no zero unless it is the only one
 abbrev pub is_plain_decimal : List ℕ → Bool
 is_plain_decimal [] = false
-is_plain_decimal (b ∷ bs) = list_all is_digit (b ∷ bs) && (not (b == 48) || is_nil bs)
+is_plain_decimal (b ∷ bs) = list_all is_digit (b ∷ bs) && (not (b == zero_digit) || (length bs == 0))

@@ -1,8 +1,9 @@
 //! The names of cells, traps and kinds of access.
 
-ghost use Rattle.std.specs.Prelude.{◌≡◌, ◌<◌, ◌≤◌, ◌+◌, ◌++◌, ◌∷◌, [], ℕ, IfNone, IfSome};
+ghost use Rattle.std.specs.Prelude.{◌≡◌, ◌<◌, ◌≤◌, ◌+◌, ◌++◌, ℕ, IfNone, IfSome, codes};
 ghost use Rattle.std.specs.Fmt.{decimal};
 ghost use Rattle.pipe_model.specs.Language.CheckingRules.{cell_total};
+ghost use Rattle.pipe_model.specs.declared.bounds.TheConstants.{MOST_CELLS};
 ghost use Rattle.pipe_model.specs.Language.Programs.{declared_size};
 ghost use Rattle.pipe_model.specs.Texts.{kind_text, trap_name};
 ghost use Rattle.pipe_model.specs.declared.access.AccessKind.{AccessKind as PlainKind};
@@ -28,9 +29,9 @@ fn size_of(declaration: &Declaration) -> u64
 
 // Returns the index in brackets, if it is below `size`.
 fn bracketed(bytes: &[u8], size: u64) -> Option<u64>
-    ensures some { IfSome result (λ k. bytes.now ≡ 91 ∷ (decimal k ++ 93 ∷ [])) }
+    ensures some { IfSome result (λ k. bytes.now ≡ codes "[" ++ (decimal k ++ codes "]")) }
     ensures below { IfSome result (λ k. k < size) }
-    ensures none { IfNone result ((k : ℕ) → k < size → bytes.now ≡ 91 ∷ (decimal k ++ 93 ∷ []) → ⊥) }
+    ensures none { IfNone result ((k : ℕ) → k < size → bytes.now ≡ codes "[" ++ (decimal k ++ codes "]") → ⊥) }
 {
     let Some((b'[', inner)) = bytes.split_first() else {
         return None;
@@ -48,7 +49,8 @@ fn bracketed(bytes: &[u8], size: u64) -> Option<u64>
 fn index_field(declaration: &Declaration, bytes: &[u8]) -> Option<u64>
     ensures some { IfSome result (λ k. bytes.now ≡ element_index declaration.now.size k) }
     ensures below { IfSome result (λ k. k < declared_size declaration.now.size) }
-    ensures none { IfNone result ((k : ℕ) → k < declared_size declaration.now.size → bytes.now ≡ element_index declaration.now.size k → ⊥) }
+    ensures none { IfNone result ((k : ℕ) → k < declared_size declaration.now.size
+        → bytes.now ≡ element_index declaration.now.size k → ⊥) }
 {
     if declaration.size.is_some() {
         return bracketed(bytes, size_of(declaration));
@@ -63,7 +65,8 @@ fn index_field(declaration: &Declaration, bytes: &[u8]) -> Option<u64>
 fn element_field(declaration: &Declaration, bytes: &[u8]) -> Option<u64>
     ensures some { IfSome result (λ k. bytes.now ≡ element_name declaration.now k) }
     ensures below { IfSome result (λ k. k < declared_size declaration.now.size) }
-    ensures none { IfNone result ((k : ℕ) → k < declared_size declaration.now.size → bytes.now ≡ element_name declaration.now k → ⊥) }
+    ensures none { IfNone result ((k : ℕ) → k < declared_size declaration.now.size
+        → bytes.now ≡ element_name declaration.now k → ⊥) }
 {
     let Some(after) = bytes.strip_prefix(declaration.name.as_bytes()) else {
         return None;
@@ -73,7 +76,7 @@ fn element_field(declaration: &Declaration, bytes: &[u8]) -> Option<u64>
 
 // Returns the index of the declared cell with this name, counted from 0 over all declarations.
 fn declared_field(cells: &[Declaration], bytes: &[u8]) -> Option<u64>
-    requires few { cell_total cells.now ≤ 65536 }
+    requires few { cell_total cells.now ≤ MOST_CELLS }
     ensures some { IfSome result (λ k. bytes.now ≡ declared_name cells.now k) }
     ensures below { IfSome result (λ k. k < cell_total cells.now) }
     ensures none { IfNone result ((k : ℕ) → k < cell_total cells.now → bytes.now ≡ declared_name cells.now k → ⊥) }
@@ -90,7 +93,7 @@ fn declared_field(cells: &[Declaration], bytes: &[u8]) -> Option<u64>
 
 /// Returns the cell with this name. Returns `None` if there is none.
 pub fn cell_field(cells: &[Declaration], bytes: &[u8]) -> Option<CellId>
-    requires few { cell_total cells.now ≤ 65536 }
+    requires few { cell_total cells.now ≤ MOST_CELLS }
     ensures some { IfSome result (λ c. bytes.now ≡ cell_name cells.now c.0) }
     ensures there { IfSome result (λ c. IsCell cells.now c.0) }
     ensures none { IfNone result ((c : ℕ) → IsCell cells.now c → bytes.now ≡ cell_name cells.now c → ⊥) }

@@ -5,6 +5,7 @@ ghost use Rattle.std.specs.Fmt.{decimal, signed_decimal};
 ghost use Rattle.std.specs.List.{list_all};
 ghost use mir.Syntax.{w64};
 ghost use Rattle.pipe_model.specs.Language.Lexis.{is_digit};
+ghost use Rattle.pipe_io.specs.InputFile.{minus};
 ghost use Rattle.record_parser.specs.PlainDecimals.{is_plain_decimal};
 ghost use Rattle.record_parser.specs.declared.bounds.TheConstants.{LAST_ITERATION};
 
@@ -59,8 +60,8 @@ pub fn iteration_field(bytes: &[u8]) -> Option<u32>
 
 // Returns the negative number whose magnitude the bytes are in plain decimal.
 fn negative_field(bytes: &[u8]) -> Option<i64>
-    ensures some { IfSome result (λ z. 45 ∷ bytes.now ≡ signed_decimal z) }
-    ensures none { IfNone result ((z : ℤ) → FitsSigned w64 z → 45 ∷ bytes.now ≡ signed_decimal z → ⊥) }
+    ensures some { IfSome result (λ z. minus ∷ bytes.now ≡ signed_decimal z) }
+    ensures none { IfNone result ((z : ℤ) → FitsSigned w64 z → minus ∷ bytes.now ≡ signed_decimal z → ⊥) }
 {
     let Some(magnitude) = natural_field(bytes, PAST_GREATEST) else {
         return None;

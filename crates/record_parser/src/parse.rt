@@ -3,6 +3,7 @@
 ghost use Rattle.std.specs.Prelude.{◌≡◌, ◌≢◌, ◌<◌, ◌≤◌, ◌+◌, ◌++◌, ◌∷◌, [], IfErr, IfOk, List, ℕ, length};
 ghost use Rattle.pipe_model.specs.declared.event.Event.{Event as PlainEvent};
 ghost use Rattle.pipe_model.specs.Language.CheckingRules.{cell_total};
+ghost use Rattle.pipe_model.specs.declared.bounds.TheConstants.{MOST_CELLS};
 ghost use Rattle.record_parser.specs.RecordLines.{CannotFollow, IsFaultOf, IsRecord, lines_of};
 ghost use Rattle.record_parser.specs.declared.bounds.TheConstants as bounds;
 ghost use Rattle.std.specs.Bool.{OnFalse, OnTrue};
@@ -43,8 +44,9 @@ fn first_line(text: &[u8]) -> Divided<'_>
 // Adds the event of a line; a line of an outcome before the first event is passed over. Returns whether
 // the line is one of these.
 fn read_line(events: &mut Events, cells: &[Declaration], line: &[u8]) -> Result<bool, NoMemory>
-    requires few { cell_total cells.now ≤ 65536 }
-    ensures yes { IfOk result (λ b. OnTrue b ((lines : List (List ℕ)) → IsRecord cells.now lines events.old → IsRecord cells.now (lines ++ line.now ∷ []) events.new)) }
+    requires few { cell_total cells.now ≤ MOST_CELLS }
+    ensures yes { IfOk result (λ b. OnTrue b ((lines : List (List ℕ)) → IsRecord cells.now lines events.old
+        → IsRecord cells.now (lines ++ line.now ∷ []) events.new)) }
     ensures no { IfOk result (λ b. OnFalse b (CannotFollow cells.now events.old line.now)) }
 {
     if let Some(event) = event_of_line(cells, line) {
@@ -59,7 +61,7 @@ fn read_line(events: &mut Events, cells: &[Declaration], line: &[u8]) -> Result<
 
 // Reads the lines of a text that is not too long.
 fn read_lines(alloc: Global, cells: &[Declaration], text: &[u8]) -> Result<Events, RecordFault>
-    requires few { cell_total cells.now ≤ 65536 }
+    requires few { cell_total cells.now ≤ MOST_CELLS }
     requires short { length text.now ≤ bounds.LONGEST_RECORD }
     ensures read { IfOk result (IsRecord cells.now (lines_of text.now)) }
     ensures few { IfOk result (λ events. length events ≤ length text.now) }
