@@ -4,6 +4,7 @@ pub mod FreeFields
 pub mod LogLines
 pub mod Options
 pub mod OneEvent
+pub mod OneReading
 pub mod OutcomeLines
 pub mod PlainDecimals
 pub mod PlainNames

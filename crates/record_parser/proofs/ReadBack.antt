@@ -130,7 +130,7 @@ logs_are_read_as_their_events source tree es others accepted r h read =
     same_events cells lines es others plain zip (subst (λ ls. AllZip (IsLogLine cells) ls others) (sym same) read.read)
 
 -- each line is that of an event
-line_at : (cells : List Declaration) (lines : List (List ℕ)) (es : List Event) (n : ℕ) → AllZip (IsLogLine cells) lines es → n < length lines
+pub line_at : (cells : List Declaration) (lines : List (List ℕ)) (es : List Event) (n : ℕ) → AllZip (IsLogLine cells) lines es → n < length lines
     → (e : Event) × IsLogLine cells (slice_index_or lines n []) e
 line_at cells [] es n h l = absurd (omega (arith, l))
 line_at cells (x ∷ xs) [] n h l = absurd h

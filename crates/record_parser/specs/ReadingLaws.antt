@@ -4,6 +4,7 @@ use Rattle.pipe_model.specs.declared.event.Event.{Event}
 use Rattle.pipe_model.specs.declared.event.Event.TheVariants.{Begin, Access, Advance, Enter, Finish, Stop}
 use Rattle.pipe_model.specs.declared.node.Kind.{Kind}
 use Rattle.pipe_model.specs.declared.node.Kind.TheVariants.{Zero, Wait, Continue}
+use Rattle.pipe_model.specs.declared.tree.Declaration.{Declaration}
 use Rattle.pipe_model.specs.Language.SourceRefusals.{IsAccepted}
 use Rattle.pipe_model.specs.Language.SyntaxTree.{SyntaxTree}
 use Rattle.run_record.specs.LogLines.{log_text}
@@ -35,3 +36,13 @@ abbrev pub LogsHaveNoBadLine : Type 0
 LogsHaveNoBadLine =
     (source : List ℕ) (tree : SyntaxTree) (events : List Event) (n : ℕ) → IsAccepted source tree → All (IsInRanges tree.cells) events → All HasLine events
     → IsFirstBadLine tree.cells (lines_of (log_text tree.cells events)) n → ⊥
+
+-- a record has no bad line
+abbrev pub RecordsHaveNoBadLine : Type 0
+RecordsHaveNoBadLine =
+    (cells : List Declaration) (lines : List (List ℕ)) (events : List Event) (n : ℕ) → IsRecord cells lines events → IsFirstBadLine cells lines n → ⊥
+
+-- a text has one first bad line at most
+abbrev pub TextsHaveOneBadLine : Type 0
+TextsHaveOneBadLine =
+    (cells : List Declaration) (lines : List (List ℕ)) (n m : ℕ) → IsFirstBadLine cells lines n → IsFirstBadLine cells lines m → n ≡ m
