@@ -391,7 +391,7 @@ fn execute<R: Threads + Wait + Sync, F: Files, G: Gate + Sync>(
 /// `format` prints the canonical text of an accepted source's program. `bench` runs a generated program
 /// on a generated input twice, with 1 and with 8 workers, and prints a summary. A worker of `run` or
 /// `bench` asks the gate before each stage instance. Returns an error only if memory runs out; a run
-/// that was stopped for want of memory ends so too.
+/// that was stopped because memory ran out ends so too.
 pub fn cilkp<R: Threads + Wait + Sync, F: Files, S: Sink, G: Gate + Sync>(
     rt: &R,
     alloc: Global,

@@ -1,6 +1,7 @@
 pub mod PendingAccess
 pub mod UnderWay
 pub mod TurnCandidates
+pub mod NextTurns
 pub mod ChangedEntries
 pub mod ScheduleEvents
 pub mod Playing

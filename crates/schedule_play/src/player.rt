@@ -1,6 +1,6 @@
 //! A run that is made event by event, on one thread.
 
-ghost use Rattle.std.specs.Prelude.{◌≡◌, ◌≢◌, ◌↔◌, ◌<◌, ◌≤◌, ◌+◌, ℕ, List, ◌++◌, ◌∷◌, [], IfOk, IfSome, IsTrue, None, Some, length, option_map};
+ghost use Rattle.std.specs.Prelude.{◌≡◌, ◌≢◌, ◌↔◌, ◌<◌, ◌≤◌, ◌+◌, ℕ, List, ◌++◌, ◌∷◌, [], IfOk, IfSome, IsTrue, None, Some, is_some, length, option_map, true};
 ghost use Rattle.cell_store.specs.ShardState.{IsStateAfter};
 ghost use Rattle.frame_book.specs.BookStates.{item_or};
 ghost use Rattle.pipe_model.specs.Language.CheckingRules.{cell_total};
@@ -248,6 +248,44 @@ impl<B: PlayedCode> Player<B> {
             ≡ option_map Some (chosen choice (candidates (pipeline_played self.now) self.now.book.limit workers (run_state self.now))) }
     {
         self.schedule.choose(workers, choice)
+    }
+
+    // Whether an instance of an iteration runs.
+    fn is_running(&self, iteration: u32) -> bool
+        ensures { IsTrue result → is_some (item_or None self.now.running iteration) ≡ true }
+    {
+        let index = iteration as usize;
+        index < self.running.len() && self.running[index].is_some()
+    }
+
+    // Whether an iteration has a next event. A running instance has one, so the schedule, which looks
+    // through all iterations that are alive, is not asked at each access.
+    fn has_next(&self, iteration: u32) -> bool
+        requires play { IsPlay B.code B.cells self.now }
+        ensures { result ≡ is_some (next_event (pipeline_played self.now) (run_state self.now) iteration) }
+    {
+        if self.is_running(iteration) {
+            return true;
+        }
+        self.schedule.has_next(iteration)
+    }
+
+    /// Returns whether a turn has an event.
+    pub fn has_turn(&self, turn: Turn) -> bool
+        requires play { IsPlay B.code B.cells self.now }
+        ensures { result ≡ is_some (turn_event (pipeline_played self.now) self.now.book.limit (run_state self.now) turn) }
+    {
+        match turn {
+            Turn::Next(iteration) => self.has_next(iteration),
+            Turn::Begin => self.schedule.may_begin(),
+        }
+    }
+
+    /// Returns the events so far.
+    pub fn events(&self) -> &[Event]
+        ensures { result.now ≡ self.now.events }
+    {
+        self.events.as_slice()
     }
 
     /// Returns whether the run is finished: the loop is closed, and all iterations have ended.

@@ -5,7 +5,7 @@ ghost use Rattle.pipe_model.specs.declared.event.Event.TheVariants as events;
 ghost use Rattle.pipe_model.specs.Pipelines.Pipeline.{Pipeline};
 ghost use Rattle.pipe_model.specs.Runs.Allowed.{ControlAllows, IsRunning, MayAdvance, MayEnter};
 ghost use Rattle.pipe_model.specs.Pipelines.Behaviour.{closes_at_once};
-ghost use Rattle.pipe_model.specs.Runs.NextEvents.{may_enter, next_begin};
+ghost use Rattle.pipe_model.specs.Runs.NextEvents.{may_enter, next_begin, next_event};
 ghost use Rattle.pipe_model.specs.Runs.Schedules.{candidates, chosen};
 ghost use Rattle.pipe_model.specs.Runs.StageEnds.{stage_end_events};
 ghost use Rattle.pipe_model.specs.Runs.State.{State, initial_state, next_state};
@@ -13,7 +13,7 @@ ghost use Rattle.schedule_play.specs.ScheduleStates.{IsScheduleOf, goes_on};
 ghost use Rattle.schedule_play.specs.Turns.{turn_event};
 
 use crate::changes::{Change, change_each, passes_left};
-use crate::turns::{Alive, Standing, Turn, choose};
+use crate::turns::{Alive, Standing, Turn, choose, has_next};
 use pipe_model::column::ColumnEnd;
 use pipe_model::event::Event;
 use pipe_model::memory::NoMemory;
@@ -83,6 +83,13 @@ impl Schedule {
         ensures { (s : State) → IsScheduleOf s self.now → result ≡ is_some (next_begin self.now.limit s) }
     {
         self.alive.len() < self.limit as usize && self.continues
+    }
+
+    /// Returns whether an iteration has a next event.
+    pub fn has_next(&self, iteration: u32) -> bool
+        ensures { (p : Pipeline) (s : State) → IsScheduleOf s self.now → result ≡ is_some (next_event p s iteration) }
+    {
+        has_next(self.alive.as_slice(), iteration)
     }
 
     /// Returns whose turn it is by this choice, if at most `workers` instances may run. Returns `None`

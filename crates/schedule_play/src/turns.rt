@@ -1,7 +1,8 @@
 //! The turns that a choice chooses between: the next events of the iterations, and the beginning of
 //! the next one.
 
-ghost use Rattle.std.specs.Prelude.{◌≡◌, ◌&&◌, ◌<◌, ◌^◌, ℕ, count_by, length, nat_lt, is_some, option_map, slice_index_or, Some};
+ghost use Rattle.std.specs.Prelude.{◌≡◌, ◌&&◌, ◌<◌, ◌^◌, ℕ, count_by, length, nat_eq, nat_lt, true, is_some, option_map, slice_index_or, Some};
+ghost use Rattle.std.specs.List.{list_any};
 ghost use Rattle.pipe_model.specs.Pipelines.Pipeline.{Pipeline};
 ghost use Rattle.pipe_model.specs.Runs.NextEvents.{next_begin};
 ghost use Rattle.pipe_model.specs.Runs.Schedules.{candidates, chosen};
@@ -70,6 +71,16 @@ fn has_room(alive: &[Alive], workers: u32) -> bool
 {
     let running = alive.iter().filter(|a| a.standing.is_running()).count();
     running < workers as usize
+}
+
+/// Returns whether the iteration with this number has a next event: it runs an instance, or may enter
+/// the stage that it has named.
+pub fn has_next(alive: &[Alive], iteration: u32) -> bool
+    ensures { result ≡ list_any (λ (a : Kept). nat_eq a.iteration iteration && may_go true a.standing) alive.now }
+{
+    alive
+        .iter()
+        .any(|a| a.iteration == iteration && a.standing.may_go(true))
 }
 
 // Returns how many iterations have a turn.

@@ -1,0 +1,4 @@
+pub mod CheckedLoops
+pub mod CheckedRecords
+pub mod FollowedEvents
+pub mod RecordLaws

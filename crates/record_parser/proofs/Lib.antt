@@ -1,0 +1,17 @@
+pub mod DeclaredNames
+pub mod Divisions
+pub mod FreeFields
+pub mod LogLines
+pub mod Options
+pub mod OneEvent
+pub mod OneReading
+pub mod OutcomeLines
+pub mod PlainDecimals
+pub mod PlainNames
+pub mod Prefixes
+pub mod ReadBack
+pub mod ReadLines
+pub mod SignedDecimals
+pub mod SourceNames
+pub mod Tests
+pub mod TextLines

@@ -1,0 +1,9 @@
+use Rattle.std.proofs.Common.{◌∙◌, ap}
+use Rattle.schedule_play.specs.ScheduleStates.{ScheduleState}
+use Rattle.schedule_play.proofs.NextTurns.{has_next_is}
+use Rattle.schedule_play.proofs.schedule.Schedule.has_next.Goals as goal
+
+pub returns : goal.returns
+returns c = λ p s h.
+    c.has_next.ensures ∙ has_next_is p s c.args.iteration c.as_slice.result.now
+    (c.as_slice.ensures.value ∙ ap (λ (v : ScheduleState). v.alive) c.self.view_is ∙ h.alive)
