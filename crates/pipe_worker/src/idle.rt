@@ -5,9 +5,9 @@ use std::sync::Wait;
 use std::thread::Parker;
 use std::time::Duration;
 
-// How many short pauses come before the long ones. They last some twenty microseconds in all, and do
+// How many short pauses come before the long ones. They last some ten microseconds in all, and do
 // not give the processor to others.
-const SHORT_PAUSES: u32 = 12;
+const SHORT_PAUSES: u32 = 8;
 
 // The microseconds of the first long pause, and of the longest.
 const FIRST_SLEEP: u64 = 25;
