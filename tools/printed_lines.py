@@ -74,9 +74,11 @@ class Explainer:
         return refusals.meaning(line, self.files)
 
     def _about_source(self, sentence: str, offsets: Sequence[int]) -> Meaning:
+        """Returns a meaning that is about places of the source."""
         return Meaning(sentence, self.files.source, sorted(set(offsets)))
 
     def _race(self, cell: str, kind: str, i: str, s: str, other_kind: str, j: str, t: str) -> Meaning:
+        """Explains a race line."""
         source = self.files.source
         offsets = source.accesses(cell, kind, int(s)) + source.accesses(cell, other_kind, int(t))
         verbs = {"read": "reads", "write": "writes"}
@@ -85,17 +87,20 @@ class Explainer:
         return self._about_source(f"{first} {described(cell)} and {second} it, and nothing orders the two: {remedy}.", offsets)
 
     def _trap(self, name: str, i: Optional[str], s: Optional[str], part: Optional[str]) -> Optional[Meaning]:
+        """Explains the line of a trap that follows the output."""
         if name not in TRAPS:
             return None
         where = f"`{part}`" if part else f"stage {s} of iteration {i}"
         return self._trap_meaning(name, where, part or "pipe_while", int(s) if s else None)
 
     def _event_trap(self, i: str, name: str) -> Optional[Meaning]:
+        """Explains a trap in a log."""
         stage = self._stages.get(i)
         where = f"iteration {i}" if stage is None else f"stage {stage} of iteration {i}"
         return self._trap_meaning(name, where, "pipe_while", stage) if name in TRAPS else None
 
     def _trap_meaning(self, name: str, where: str, part: str, stage: Optional[int]) -> Meaning:
+        """Explains a trap in a stage or a part, by its limit and what may cause it there."""
         source = self.files.source
         value, offset = source.limit(LIMITS[name]) if name in LIMITS else (None, None)
         causes = source.offsets(part, stage, lambda index: may_trap(source, index, name))
@@ -104,6 +109,7 @@ class Explainer:
         return self._about_source(sentence, causes if offset is None else [offset] + causes)
 
     def _access(self, kind: str, i: str, cell: str, value: str) -> Meaning:
+        """Explains a read or a write in a log."""
         sentences = {
             ("read", "output"): f"Iteration {i} is about to emit, and {value} numbers were emitted before.",
             ("write", "output"): f"Iteration {i} emits {value}.",
@@ -115,6 +121,7 @@ class Explainer:
         return self._about_source(sentence, self.files.source.accesses(cell, kind, self._stages.get(i)))
 
     def _named_stage(self, word: str, i: str, s: str) -> Meaning:
+        """Explains the end of a stage instance in a log, and notes the stage that the iteration has named."""
         source, texts = self.files.source, self.files.source.symbols
         offsets = source.offsets("pipe_while", self._stages.get(i), lambda index: texts[index].text == f"pipe_{word}")
         self._named[i] = (int(s), offsets)
@@ -122,6 +129,7 @@ class Explainer:
         return self._about_source(f"The stage instance of iteration {i} ends, and it may go on in stage {s} {waits}.", offsets)
 
     def _iteration(self, event: str, i: str) -> Meaning:
+        """Explains an event of a log that has only an iteration, and notes the stage in which the iteration is."""
         source = self.files.source
         loop = source.offsets("pipe_while", None, lambda index: source.symbols[index].text == "pipe_while")
         if event == "begin":
@@ -138,6 +146,7 @@ class Explainer:
 
     @staticmethod
     def _summary(word: Optional[str], count: Optional[str], workers: Optional[str], last: Optional[str]) -> Meaning:
+        """Explains a line of the summary of `bench`."""
         if word is not None:
             return Meaning(SUMMARIES[word].format(count))
         return Meaning(f"The last number that the run of `bench` with {workers} workers emitted is {last} (0 if it emitted none).")
@@ -152,11 +161,13 @@ def race_remedy(cell: str, first: Tuple[int, int], second: Tuple[int, int]) -> s
     """Returns what to do about a race of two instances, each an iteration and a stage."""
     (before, stage), (after, later_stage) = sorted((first, second))
     own = "" if cell in ("output", "input") else ", or give each iteration a local (`let`) or an element of its own"
+    between = " (one between the two that skips the stage, or traps before it, does not wait there)" if after - before > 1 else ""
     if later_stage >= stage:
-        return f"let every iteration enter stage {later_stage} by `pipe_wait({later_stage})`, so that they go through it one by one{own}"
+        order = "so that they go through it one by one"
+        return f"let every iteration enter stage {later_stage} by `pipe_wait({later_stage})`, {order}{between}{own}"
     return (
         f"iteration {after} may make its access only after iteration {before} has passed stage {stage}, so in stage {stage} or a later one"
-        f" that every iteration enters by `pipe_wait`{own}"
+        f" that every iteration enters by `pipe_wait`{between}{own}"
     )
 
 

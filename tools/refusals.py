@@ -10,11 +10,12 @@ REFUSED = re.compile(r"refused (source|check|input) ([A-Za-z]+) at ([0-9]+)")
 LIMIT_OUT = re.compile(r"refused check LimitOut ([1-5])")
 MISSING = re.compile(r"refused missing (.*)")
 FAULT = re.compile(r"fault read (.*)")
+COMMENT_WITH_RETURN = re.compile(rb"//[^\n]*\r[^\n]")
 
 BYTE_ORDER_MARK = b"\xef\xbb\xbf"
 WIDE_BYTE_ORDER_MARKS = (b"\xff\xfe", b"\xfe\xff")
 MARK_SENTENCE = "The file begins with a byte order mark, which is refused as a bad byte: save it as plain text without one."
-RETURN_SENTENCE = "A carriage return is a blank and ends no comment: end lines with a line feed (in your editor, `Unix` line ends)."
+RETURN_SENTENCE = "A carriage return alone is a blank, which ends no comment: save the file with line feeds (`Unix` line ends)."
 
 WHOLE = {
     "refused usage": "The words are no command: `./cilkp` without words prints the commands; their numbers have ranges.",
@@ -80,8 +81,8 @@ def refusal(where: str, kind: str, offset: int, files: Files) -> Optional[Meanin
     text = files.input if where == "input" else files.source
     special = {
         "source BadByte": lambda: source_byte(files.source, offset),
-        "source Unexpected": lambda: unexpected(files.source, offset),
-        "check Unknown": lambda: unknown(files.source, offset),
+        "source Unexpected": lambda: unexpected(files.source, offset) + return_note(files.source, offset),
+        "check Unknown": lambda: unknown(files.source, offset) + return_note(files.source, offset),
         "check Twice": lambda: twice(files.source, offset),
         "input BadByte": lambda: input_byte(files.input, offset),
     }
@@ -120,6 +121,12 @@ def source_byte(source: Source, offset: int) -> str:
     return f"`{source.text_at(offset)}` begins no symbol of the language: the signs are `! = ( ) [ ] {{ }} , ;` and the operators."
 
 
+def return_note(source: Source, offset: int) -> str:
+    """Returns a note on a comment before an offset that goes on after a carriage return, or an empty text."""
+    comment = COMMENT_WITH_RETURN.search(source.data, 0, offset)
+    return f" The comment on line {source.place(comment.start()).line} may be longer than it looks. {RETURN_SENTENCE}" if comment else ""
+
+
 def unexpected(source: Source, offset: int) -> str:
     """Returns why a symbol cannot be where it is."""
     if offset >= len(source.data):
@@ -148,8 +155,6 @@ def source_end(source: Source) -> str:
     """Returns why a source ends too early."""
     if not source.symbols:
         return "The source is empty, or has only comments: a program begins with `limits`."
-    if b"\r" in source.data.replace(b"\r\n", b""):
-        return f"The source ends too early, since it has carriage returns without line feeds. {RETURN_SENTENCE}"
     depth = sum((symbol.text == "{") - (symbol.text == "}") for symbol in source.symbols)
     if depth > 0:
         return f"The source ends too early, with {depth} open `{{`: a `}}` is missing."
