@@ -1,0 +1,2 @@
+" Sources of the pipeline language.
+autocmd BufRead,BufNewFile *.pipe setfiletype pipe
