@@ -279,6 +279,6 @@ lowered_is_grid tree input k n w =
 
 pub lowered_waves_are_grids : LoweredWavesAreGrids
 lowered_waves_are_grids tree input w h =
-    let limits = wave_limits tree h in
+    let limits = wave_limits tree h.obeys in
     let r = ready tree limits.0 w limits.1 in
     lowered_is_grid tree input limits.0 r.0 r.1

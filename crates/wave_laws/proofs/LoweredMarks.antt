@@ -27,7 +27,7 @@ body_unbroken tree u =
 
 pub lowered_waves_break_no_rule : LoweredWavesBreakNoRule
 lowered_waves_break_no_rule tree w h =
-    let both = limits_and_marks (first_limit_out tree.limits) (first_fault 0 (marks_of tree)) h in
+    let both = limits_and_marks (first_limit_out tree.limits) (first_fault 0 (marks_of tree)) h.obeys in
     let all = unbroken 0 (marks_of tree) both.1 in
     let cells = marks_of_cells [] tree.cells in
     let init = marks_of_statements (opening regions.Init tree.cells) tree.init in
@@ -44,4 +44,4 @@ lowered_waves_break_no_rule tree w h =
     unbroken_both cells (init ++ (new_test ++ (new_body ++ last))) (unbroken_left cells _ all)
     (unbroken_both init (new_test ++ (new_body ++ last)) (unbroken_left init _ after_cells)
     (refl, unbroken_both new_body last (body_unbroken tree old_body) (unbroken_right body last after_test))) in
-    ap (λ o. limit_fault_or o (first_fault 0 (marks_of (lowered tree)))) both.0 ∙ faultless 0 (marks_of (lowered tree)) marks
+    record { obeys = ap (λ o. limit_fault_or o (first_fault 0 (marks_of (lowered tree)))) both.0 ∙ faultless 0 (marks_of (lowered tree)) marks }

@@ -1,6 +1,6 @@
 -- Laws of wave loops.
 use Rattle.std.specs.Prelude.{◌≡◌, ◌↔◌, ◌<◌, ◌≤◌, ◌≢◌, ℕ, ℤ, List, None, map, length}
-use Rattle.pipe_model.specs.Language.CheckingRules.{fault_of}
+use Rattle.pipe_model.specs.Language.CheckingRules.{BreaksNoRule}
 use Rattle.pipe_model.specs.Language.Programs.{natural}
 use Rattle.pipe_model.specs.Language.ProgramsOfTrees.{whole_of}
 use Rattle.pipe_model.specs.Language.SourceSpelling.{SourceSpells}
@@ -25,7 +25,7 @@ pub record IsTheGrid (program wave : SyntaxTree) (input : List ℤ) : Type 0 whe
 
 -- the serial elision of the lowered program is the grid
 abbrev pub LoweredWavesAreGrids : Type 0
-LoweredWavesAreGrids = (tree : SyntaxTree) (input : List ℤ) → IsWave tree → fault_of tree ≡ None → IsTheGrid (lowered tree) tree input
+LoweredWavesAreGrids = (tree : SyntaxTree) (input : List ℤ) → IsWave tree → BreaksNoRule tree → IsTheGrid (lowered tree) tree input
 
 -- the elision of a program that is the grid has a race exactly if the grid's dag has one
 abbrev pub LoweredRacesAreThoseOfTheGrid : Type 0
@@ -42,9 +42,9 @@ PointsPrecede =
     → r < natural tree.limits.stages → q < natural tree.limits.stages → at c r ≢ at d q
     → Precedes (grid_nodes tree input) (at c r) (at d q) ↔ ((c ≤ d) × (r ≤ q))
 
--- the checker finds no fault in the lowered program
+-- the lowered program breaks no rule of the checker
 abbrev pub LoweredWavesBreakNoRule : Type 0
-LoweredWavesBreakNoRule = (tree : SyntaxTree) → IsWave tree → fault_of tree ≡ None → fault_of (lowered tree) ≡ None
+LoweredWavesBreakNoRule = (tree : SyntaxTree) → IsWave tree → BreaksNoRule tree → BreaksNoRule (lowered tree)
 
 -- the most marks, nodes of expressions and statements of a program that is lowered
 abbrev pub LARGEST_WAVE : ℕ
@@ -64,4 +64,4 @@ FaultlessProgramsAreWaves = (tree : SyntaxTree) → wave_fault tree ≡ None →
 
 -- a wave loop that breaks no rule has no such fault
 abbrev pub WavesHaveNoFault : Type 0
-WavesHaveNoFault = (tree : SyntaxTree) → IsWave tree → fault_of tree ≡ None → wave_fault tree ≡ None
+WavesHaveNoFault = (tree : SyntaxTree) → IsWave tree → BreaksNoRule tree → wave_fault tree ≡ None

@@ -23,7 +23,7 @@ pub fn points_precede()
     ensures { PointsPrecede }
 {}
 
-/// The checker finds no fault in a lowered wave loop.
+/// A lowered wave loop breaks no rule of the checker.
 #[tactic(auto, using(crate::proofs::LoweredMarks::lowered_waves_break_no_rule))]
 pub fn lowered_waves_break_no_rule()
     ensures { LoweredWavesBreakNoRule }

@@ -1,7 +1,7 @@
 //! Lowers a wave loop, or finds the first fault that makes a program none.
 
 ghost use Rattle.std.specs.Prelude.{◌≡◌, ◌≤◌, ℤ, List, None, Some, IfErr, IfOk, OnOk, pos};
-ghost use Rattle.pipe_model.specs.Language.CheckingRules.{fault_of};
+ghost use Rattle.pipe_model.specs.Language.CheckingRules.{BreaksNoRule};
 ghost use Rattle.pipe_model.specs.Language.SpellablePrograms.{IsSpellable, size_of};
 ghost use Rattle.pipe_model.specs.Language.SyntaxTree.{Number as NumberOf, tree_of};
 ghost use Rattle.wave_laws.specs.WaveLaws.{IsTheGrid, LARGEST_WAVE};
@@ -59,7 +59,7 @@ fn check_wave(program: &Program) -> Result<(), WaveFault>
 // Returns the program with the lowered loop.
 fn lower(alloc: Global, program: &Program) -> Result<Program, NoMemory>
     requires wave { IsWave (tree_of program.now) }
-    requires obeys { fault_of (tree_of program.now) ≡ None }
+    requires obeys { BreaksNoRule (tree_of program.now) }
     ensures { IfOk result (λ p. tree_of p ≡ lowered (tree_of program.now)) }
 {
     Ok(Program {
@@ -73,16 +73,16 @@ fn lower(alloc: Global, program: &Program) -> Result<Program, NoMemory>
 }
 
 /// Lowers a wave loop to a pipeline with one wait for each row. The serial elision of the result is
-/// the grid of the loop, and the checker finds no fault in the result.
+/// the grid of the loop, and the result breaks no rule of the checker.
 ///
 /// # Errors
 /// The first fault of the program as a wave loop, or out of memory.
 pub fn lower_wave(alloc: Global, program: &Program) -> Result<Program, WaveFault>
-    requires obeys { fault_of (tree_of program.now) ≡ None }
+    requires obeys { BreaksNoRule (tree_of program.now) }
     requires spellable { IsSpellable (tree_of program.now) }
     requires small { size_of (tree_of program.now) ≤ LARGEST_WAVE }
     ensures grid { IfOk result (λ p. (input : List ℤ) → IsTheGrid (tree_of p) (tree_of program.now) input) }
-    ensures obeys { IfOk result (λ p. fault_of (tree_of p) ≡ None) }
+    ensures obeys { IfOk result (λ p. BreaksNoRule (tree_of p)) }
     ensures spellable { IfOk result (λ p. IsSpellable (tree_of p)) }
     ensures lowered { IfOk result (λ p. tree_of p ≡ lowered (tree_of program.now)) }
     ensures ok { OnOk result (wave_fault (tree_of program.now) ≡ None) }

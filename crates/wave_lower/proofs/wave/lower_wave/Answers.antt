@@ -1,5 +1,5 @@
 use Rattle.std.proofs.Common.{◌≡◌, sym, subst, None}
-use Rattle.pipe_model.specs.Language.CheckingRules.{fault_of}
+use Rattle.pipe_model.specs.Language.CheckingRules.{BreaksNoRule}
 use Rattle.pipe_model.specs.Language.SpellablePrograms.{IsSpellable}
 use Rattle.pipe_model.specs.Language.SyntaxTree.{tree_of}
 use Rattle.wave_laws.specs.WaveLaws.{IsTheGrid}
@@ -22,7 +22,7 @@ pub returns-clause-obeys : goal.returns-clause-obeys
 returns-clause-obeys c =
     let tree = tree_of c.args.program.now in
     let wave = faultless_programs_are_waves tree c.in_ok-check_wave.ensures.ok in
-    subst (λ p. fault_of p ≡ None) (sym c.in_ok-lower.ensures) (lowered_waves_break_no_rule tree wave c.requires.obeys)
+    subst BreaksNoRule (sym c.in_ok-lower.ensures) (lowered_waves_break_no_rule tree wave c.requires.obeys)
 
 pub returns-clause-spellable : goal.returns-clause-spellable
 returns-clause-spellable c =
