@@ -17,7 +17,10 @@ const ROWS: [(&str, WaveFault); 11] = [
     ("pipe_while (1) { let row = 1; }", WaveFault::NoRow),
     ("pipe_while (1) { let rows = 0; }", WaveFault::NoRow),
     // HasStage.
-    ("pipe_while (1) { pipe_wait(1); let row = 0; }", WaveFault::NoRow),
+    (
+        "pipe_while (1) { pipe_wait(1); let row = 0; }",
+        WaveFault::NoRow,
+    ),
     // RowSet, at an earlier mark.
     (
         "pipe_while (1) { let row = 0; row = n; if (n) { pipe_continue(); } }",

@@ -1,4 +1,4 @@
-use Rattle.std.proofs.Common.{◌≡◌, sym, subst, None}
+use Rattle.std.proofs.Common.{sym, subst}
 use Rattle.pipe_model.specs.Language.CheckingRules.{BreaksNoRule}
 use Rattle.pipe_model.specs.Language.SpellablePrograms.{IsSpellable}
 use Rattle.pipe_model.specs.Language.SyntaxTree.{tree_of}
