@@ -1,2 +1,3 @@
 pub mod Waves
 pub mod WaveLaws
+pub mod WaveExamples
