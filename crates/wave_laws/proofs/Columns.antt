@@ -1,5 +1,6 @@
 -- An iteration of the lowered program has the joined traces of the points of its column.
-use Rattle.std.proofs.Common.{◌≡◌, ◌∙◌, sym, ap, refl, subst, ℕ, zero, suc, ℤ, pos, negsuc, Bool, true, false, List, [], ◌∷◌, ◌++◌, ◌<◌, ◌+◌, ◌^◌, arith, inl, inr}
+use Rattle.std.proofs.Common.{◌≡◌, ◌∙◌, sym, ap, refl, subst, ℕ, zero, suc, ℤ, pos, negsuc, Bool, true, false, List, [], ◌∷◌, ◌++◌, ◌<◌}
+use Rattle.std.proofs.Common.{◌+◌, ◌^◌, arith, inl, inr}
 use Rattle.std.specs.Prelude.{int_lt}
 use Rattle.std.proofs.lemmas.Bool.{cases_Bool, lt-ltb, le-ltb}
 use Rattle.pipe_model.specs.declared.access.Access.{Access}
@@ -19,11 +20,13 @@ use Rattle.wave_laws.specs.Waves.Grid.{column_points}
 use Rattle.wave_laws.specs.Waves.LoweredLoops.{lowered_test, lowered_turn}
 use Rattle.wave_laws.specs.Waves.Points.{at_row, is_trap, point_trace, steps, steps_after, steps_before}
 use Rattle.wave_laws.specs.Waves.WaveLoops.{AllHaveNoStage, AllKeepRow, rest_of, row}
-use Rattle.wave_laws.proofs.Splices.{IsOpen, AreAColumn, joined, splice, spliced, splice-trapped, same_end, straight-steps, bind-steps, point_is_open, open_nodes}
+use Rattle.wave_laws.proofs.Splices.{IsOpen, AreAColumn, joined, splice, spliced, splice-trapped, same_end, straight-steps, bind-steps}
+use Rattle.wave_laws.proofs.Splices.{point_is_open, open_nodes}
 use Rattle.wave_laws.proofs.Turns.{below, turns_from, next_turn, last_turn}
 use Rattle.wave_laws.proofs.Rows.{IsInRow, row_left, straight_point}
 
-pub bind-assoc : {A B C : Type 0} (d : Interaction A) (f : A → Interaction B) (g : B → Interaction C) → bind (bind d f) g ≡ bind d (λ x. bind (f x) g)
+pub bind-assoc : {A B C : Type 0} (d : Interaction A) (f : A → Interaction B) (g : B → Interaction C)
+    → bind (bind d f) g ≡ bind d (λ x. bind (f x) g)
 bind-assoc (Return a) f g = refl
 bind-assoc (Raise t) f g = refl
 bind-assoc (Step d) f g = λ i. Step (bind-assoc d f g i)
@@ -72,7 +75,8 @@ iteration_closes setting body h = rw h refl
 ends_last : (setting : Setting) (rest : Statements) (k n : ℕ) (after : Environment) → IsInRow k after
     → after_row setting rest k (suc n) k after ≡ steps 4 (Return ends.End)
 ends_last setting rest k n after h =
-    ap (λ env. bind (turns_from setting rest k (suc n) env) ending) (row_left k after h) ∙ ap (λ d. bind d ending) (last_turn setting rest k n)
+    ap (λ env. bind (turns_from setting rest k (suc n) env) ending) (row_left k after h)
+    ∙ ap (λ d. bind d ending) (last_turn setting rest k n)
 
 -- after another row the next one follows
 goes_on : (setting : Setting) (rest : Statements) (k n r : ℕ) → r < k → r + 1 < setting.world.stages → r + 1 < 2 ^ 63
@@ -86,7 +90,8 @@ goes_on setting rest k n r l room small after h =
     ∙ ap (λ d. bind d ending) (next_turn setting rest k n r l room small)
     ∙ ap (λ d. steps 9 (interactions.Stage Wait (pos (r + 1)) (steps 4 d))) (bind-assoc ex go ending)
     ∙ ap (λ b. steps 9 (interactions.Stage Wait (pos (r + 1)) (steps b (bind ex (after_row setting rest k n (r + 1)))))) (sym four)
-    ∙ ap (λ d. steps 9 (interactions.Stage Wait (pos (r + 1)) d)) (sym (bind-steps (steps_before (r + 1)) ex (after_row setting rest k n (r + 1))))
+    ∙ ap (λ d. steps 9 (interactions.Stage Wait (pos (r + 1)) d))
+    (sym (bind-steps (steps_before (r + 1)) ex (after_row setting rest k n (r + 1))))
   where
     suc_is : (m : ℕ) → m + 1 ≡ suc m
     suc_is m = omega arith
@@ -112,11 +117,14 @@ row_trace tree input k n c r before =
 
 point_straight : (tree : SyntaxTree) (input : List ℤ) (k c r : ℕ) → HasRows tree k
     → IsStraight (IsInRow r) (steps (steps_before r) (execute_all (setting_of tree input c) (rest_of tree.body) (at_row r)))
-point_straight tree input k c r w = straight-steps (steps_before r) (straight_point (setting_of tree input c) (rest_of tree.body) r w.straight w.unset)
+point_straight tree input k c r w = straight-steps (steps_before r)
+    (straight_point (setting_of tree input c) (rest_of tree.body) r w.straight w.unset)
 
-pub trace_is_open : (tree : SyntaxTree) (input : List ℤ) (k c r : ℕ) (before : List Access) → HasRows tree k → IsOpen (point_trace tree input c r before)
+pub trace_is_open : (tree : SyntaxTree) (input : List ℤ) (k c r : ℕ) (before : List Access) → HasRows tree k
+    → IsOpen (point_trace tree input c r before)
 trace_is_open tree input k c r before w =
-    point_is_open (store_of tree) (natural tree.limits.steps) (natural tree.limits.steps) (steps_after (natural tree.limits.stages) r) before
+    point_is_open (store_of tree) (natural tree.limits.steps) (natural tree.limits.steps)
+    (steps_after (natural tree.limits.stages) r) before
     (point_straight tree input k c r w)
 
 -- the last row
@@ -154,7 +162,8 @@ join_next r t (u ∷ us) more h e = elim (cases_Bool (is_trap (trace_end t))) [
 pub column_points_are_a_column : (tree : SyntaxTree) (input : List ℤ) (k c j r : ℕ) (before : List Access) → HasRows tree k
     → AreAColumn (column_points tree input c (suc j) r before)
 column_points_are_a_column tree input k c zero r before w =
-    rw (unless_nothing {A = List Action} (is_trap (trace_end (point_trace tree input c r before)))) (open_nodes (point_trace tree input c r before) (trace_is_open tree input k c r before w))
+    rw (unless_nothing {A = List Action} (is_trap (trace_end (point_trace tree input c r before))))
+    (open_nodes (point_trace tree input c r before) (trace_is_open tree input k c r before w))
 column_points_are_a_column tree input k c (suc j) r before w =
     let t = point_trace tree input c r before in
     let o = trace_is_open tree input k c r before w in
@@ -172,7 +181,8 @@ column_is_joined tree input k zero c j r before w e l = absurd (omega (arith, l)
 column_is_joined tree input k (suc n) c zero r before w e l =
     let same : r ≡ k = omega (arith, e) in
     let nothing = unless_nothing {A = List Action} (is_trap (trace_end (point_trace tree input c r before))) in
-    subst (λ m. row_trace tree input k (suc n) c m before ≡ point_trace tree input c m before) (sym same) (last_row tree input k n c before w)
+    subst (λ m. row_trace tree input k (suc n) c m before ≡ point_trace tree input c m before) (sym same)
+    (last_row tree input k n c before w)
     ∙ sym (ap (λ l. joined r (point_trace tree input c r before ∷ l)) nothing)
 column_is_joined tree input k (suc n) c (suc j) r before w e l =
     let t = point_trace tree input c r before in

@@ -5,14 +5,17 @@ use Rattle.std.proofs.lemmas.Bool.{false≢true}
 use Rattle.std.specs.Cmp.Lexicographic.{bytes_decides}
 use Rattle.std.proofs.lemmas.Bool.Decides.{Decides-int_eq}
 use Rattle.pipe_model.specs.declared.region.Region.TheVariants as regions
-use Rattle.pipe_model.specs.Language.Marks.{Scope, marks_of, marks_of_cells, marks_of_expression, marks_of_statement, marks_of_statements, after_block, after_statement, opening}
+use Rattle.pipe_model.specs.Language.Marks.{Scope, marks_of, marks_of_cells, marks_of_expression, marks_of_statement, marks_of_statements}
+use Rattle.pipe_model.specs.Language.Marks.{after_block, after_statement, opening}
 use Rattle.pipe_model.specs.Language.SyntaxTree as syntax
-use Rattle.pipe_model.specs.Language.SyntaxTree.{Expression, Number, Statement, Let, Assign, AssignElement, Emit, If, While, NextStage, Statements, Empty, Then, SyntaxTree}
+use Rattle.pipe_model.specs.Language.SyntaxTree.{Expression, Number, Statement, Let, Assign, AssignElement, Emit, If, While, NextStage}
+use Rattle.pipe_model.specs.Language.SyntaxTree.{Statements, Empty, Then, SyntaxTree}
 use Rattle.wave_laws.proofs.Flags.{AreFalse, false_left, false_right, none_true}
 use Rattle.wave_laws.proofs.StageWords.{NoneIsStage, none_is_stage, stage_left, stage_right}
 use Rattle.wave_laws.specs.WaveLaws.{FaultlessProgramsAreWaves}
 use Rattle.wave_laws.specs.Waves.MarkFlags.{flags_of_statement, flags_of_statements, no_flags}
-use Rattle.wave_laws.specs.Waves.WaveFaults.{BadTest, NoRow, WaveRefusal, begins_with_row, declares_row, first_row_set, first_stage, is_number, row_fault, stage_fault_or}
+use Rattle.wave_laws.specs.Waves.WaveFaults.{BadTest, NoRow, WaveRefusal, begins_with_row, declares_row, first_row_set, first_stage}
+use Rattle.wave_laws.specs.Waves.WaveFaults.{is_number, row_fault, stage_fault_or}
 use Rattle.wave_laws.specs.Waves.WaveLoops.{AllHaveNoStage, AllKeepRow, HasNoStage, KeepsRow, rest_of, row, row_declaration}
 
 -- ---- the row
@@ -24,8 +27,10 @@ mutual
   sets_none (AssignElement x i e) h = tt
   sets_none (Emit e) h = tt
   sets_none (If e a b) h =
-      let both = false_right (no_flags e) (flags_of_statements false true a ++ flags_of_statements false true b) h in
-      (set_none a (false_left _ (flags_of_statements false true b) both), set_none b (false_right (flags_of_statements false true a) _ both))
+      let both = false_right (no_flags e) (flags_of_statements false true a ++ flags_of_statements false true b) h in (
+        set_none a (false_left _ (flags_of_statements false true b) both),
+        set_none b (false_right (flags_of_statements false true a) _ both),
+      )
   sets_none (While e a) h = set_none a (false_right (no_flags e) _ h)
   sets_none (syntax.Stage kind e) h = tt
   sets_none (NextStage kind) h = tt
@@ -44,7 +49,8 @@ mutual
   names_none scope (AssignElement x i e) h = tt
   names_none scope (Emit e) h = tt
   names_none scope (If e a b) h =
-      let both = stage_right (marks_of_expression scope e) (marks_of_statements scope a ++ marks_of_statements (after_block scope a) b) h in (
+      let both =
+      stage_right (marks_of_expression scope e) (marks_of_statements scope a ++ marks_of_statements (after_block scope a) b) h in (
         name_none scope a (stage_left _ (marks_of_statements (after_block scope a) b) both),
         name_none (after_block scope a) b (stage_right (marks_of_statements scope a) _ both),
       )

@@ -19,6 +19,7 @@ lowered_races_are_those_of_the_grid program wave input g =
     let traces = loop_traces (whole_of program input) in
     let nodes : map column_of traces ≡ grid_nodes wave input =
     sym (nodes_of_ended traces) ∙ ap (map (λ (column : Column). column.nodes)) g.columns in
-    let same : IsRaceFree (map column_of traces) (loop_accesses (whole_of program input)) ≡ IsRaceFree (grid_nodes wave input) (grid_accesses wave input) =
+    let same : IsRaceFree (map column_of traces) (loop_accesses (whole_of program input))
+    ≡ IsRaceFree (grid_nodes wave input) (grid_accesses wave input) =
     λ i. IsRaceFree (nodes i) (g.accesses i) in
     ((λ h. subst (λ (t : Type 0). t) same h), (λ h. subst (λ (t : Type 0). t) (sym same) h))

@@ -1,5 +1,6 @@
 -- The serial elision of a lowered wave loop is the grid.
-use Rattle.std.proofs.Common.{◌≡◌, ◌∙◌, sym, ap, refl, subst, ℕ, zero, suc, ℤ, pos, negsuc, Bool, true, false, not, ◌&&◌, List, [], ◌∷◌, ◌++◌, map, Option, Some, None, is_some, if◌then◌else◌, ◌<◌, ◌≤◌, ◌+◌, ◌-◌, ◌*◌, ◌^◌, arith}
+use Rattle.std.proofs.Common.{◌≡◌, ◌∙◌, sym, ap, refl, subst, ℕ, zero, suc, ℤ, pos, negsuc, Bool, true, false, not, ◌&&◌, List, [], ◌∷◌}
+use Rattle.std.proofs.Common.{◌++◌, map, Option, Some, None, is_some, if◌then◌else◌, ◌<◌, ◌≤◌, ◌+◌, ◌-◌, ◌*◌, ◌^◌, arith}
 use Rattle.std.specs.Prelude.{int_lt}
 use Rattle.std.proofs.Math.IntN.{◌-ℤ◌}
 use Rattle.std.proofs.lemmas.Bool.{false≢true, lt-ltb, le-ltb, ltb-false, not-true}
@@ -32,8 +33,10 @@ use Rattle.wave_laws.specs.Waves.GridResults.{column_of_points, columns_trap, gr
 use Rattle.wave_laws.specs.Waves.LoweredLoops.{lowered, lowered_body, lowered_test, lowered_turn}
 use Rattle.wave_laws.specs.Waves.Points.{point_trace, steps}
 use Rattle.wave_laws.specs.Waves.WaveLoops.{IsWave, rest_of, row}
-use Rattle.wave_laws.proofs.Splices.{AreAColumn, joined, joined_accesses, joined_located, joined_column, joined_end, joined_closes, joined_trap}
-use Rattle.wave_laws.proofs.Columns.{HasRows, body_below, column_is_joined, column_points_are_a_column, iteration_begins, iteration_closes, trace_is_open, unless_nothing}
+use Rattle.wave_laws.proofs.Splices.{AreAColumn, joined, joined_accesses, joined_located, joined_column, joined_end, joined_closes}
+use Rattle.wave_laws.proofs.Splices.{joined_trap}
+use Rattle.wave_laws.proofs.Columns.{HasRows, body_below, column_is_joined, column_points_are_a_column, iteration_begins, iteration_closes}
+use Rattle.wave_laws.proofs.Columns.{trace_is_open, unless_nothing}
 
 -- what is known of the limits of a wave loop
 pub record AreWaveLimits (tree : SyntaxTree) (k : ℕ) : Type 0 where
@@ -47,7 +50,8 @@ no_limit_out None rest h = refl
 no_limit_out (Some which) rest h = absurd (cc)
 
 all_in_range : (a b c d e : Bool)
-    → if◌then◌else◌ {A = Option ℕ} (not a) (Some 1) (if not b then Some 2 else (if c then Some 3 else (if not d then Some 4 else (if e then Some 5 else None)))) ≡ None
+    → if◌then◌else◌ {A = Option ℕ} (not a) (Some 1)
+    (if not b then Some 2 else (if c then Some 3 else (if not d then Some 4 else (if e then Some 5 else None)))) ≡ None
     → (a ≡ true) × (b ≡ true) × (d ≡ true)
 all_in_range true true false true e h = (refl, refl, refl)
 all_in_range true true false false e h = absurd (cc)
@@ -101,7 +105,8 @@ pub record IsReady (tree : SyntaxTree) (k n : ℕ) : Type 0 where
 -- the lowered body with this bound on the row
 abbrev body_with : ℤ → Statements → Statements
 body_with z rest =
-    Then (Let row (Unary operator_codes.NEGATIVE (Number (pos 1)))) (Then (While (Binary operator_codes.LESS (Name row) (Number z)) (lowered_turn rest)) Empty)
+    Then (Let row (Unary operator_codes.NEGATIVE (Number (pos 1))))
+    (Then (While (Binary operator_codes.LESS (Name row) (Number z)) (lowered_turn rest)) Empty)
 
 one_more : (k b : ℕ) → suc k * (suc b + 1) ≡ suc (suc k * b + suc (2 * k))
 one_more k b = grind arith
@@ -138,11 +143,13 @@ lowered_trace tree input c before = serial_trace (store_of tree) ((lowered_loop 
 abbrev column : SyntaxTree → List ℤ → ℕ → List Access → List (List Action)
 column tree input c before = column_points tree input c (natural tree.limits.stages) 0 before
 
-iteration_is : (tree : SyntaxTree) (input : List ℤ) (k n c : ℕ) (before : List Access) → IsReady tree k n → c < natural tree.limits.iterations
+iteration_is : (tree : SyntaxTree) (input : List ℤ) (k n c : ℕ) (before : List Access) → IsReady tree k n
+    → c < natural tree.limits.iterations
     → lowered_trace tree input c before ≡ joined 0 (column tree input c before)
 iteration_is tree input k n c before w l =
     let budget = natural tree.limits.steps in
-    let lower : int_lt (pos c) tree.limits.iterations ≡ true = ap (λ z. int_lt (pos c) z) w.iterations ∙ lt-ltb c (natural tree.limits.iterations) l in
+    let lower : int_lt (pos c) tree.limits.iterations ≡ true = ap (λ z. int_lt (pos c) z) w.iterations
+    ∙ lt-ltb c (natural tree.limits.iterations) l in
     ap (λ body. serial_trace (store_of tree) (with_budget budget budget
     (run_iteration (setting_of tree input c) (lowered_test tree.limits.iterations) body)) before) w.body
     ∙ ap (λ d. serial_trace (store_of tree) (with_budget budget budget d) before)
@@ -159,14 +166,17 @@ closing_is tree input k n c before w e =
     ap (λ d. serial_trace (store_of tree) (with_budget budget budget d) before)
     (iteration_closes (setting_of tree input c) (lowered_body tree.limits.stages (rest_of tree.body)) not_lower)
 
-column_is_column : (tree : SyntaxTree) (input : List ℤ) (k n c : ℕ) (before : List Access) → IsReady tree k n → AreAColumn (column tree input c before)
+column_is_column : (tree : SyntaxTree) (input : List ℤ) (k n c : ℕ) (before : List Access) → IsReady tree k n
+    → AreAColumn (column tree input c before)
 column_is_column tree input k n c before w =
-    subst (λ m. AreAColumn (column_points tree input c m 0 before)) (sym w.stages) (column_points_are_a_column tree input k c k 0 before w.rows)
+    subst (λ m. AreAColumn (column_points tree input c m 0 before)) (sym w.stages)
+    (column_points_are_a_column tree input k c k 0 before w.rows)
 
 column_closes : (tree : SyntaxTree) (input : List ℤ) (k n c : ℕ) (before : List Access) → IsReady tree k n
     → closes_loop (joined 0 (column tree input c before)) ≡ ends_grid (column tree input c before)
 column_closes tree input k n c before w =
-    subst (λ m. closes_loop (joined 0 (column_points tree input c m 0 before)) ≡ ends_grid (column_points tree input c m 0 before)) (sym w.stages)
+    subst (λ m. closes_loop (joined 0 (column_points tree input c m 0 before)) ≡ ends_grid (column_points tree input c m 0 before))
+    (sym w.stages)
     (joined_closes 0 (point_trace tree input c 0 before) _ (trace_is_open tree input k c 0 before w.rows)
     (column_points_are_a_column tree input k c k 0 before w.rows))
 
@@ -175,7 +185,8 @@ map_unless f true xs = refl
 map_unless f false xs = refl
 
 -- the traces of the lowered program are those of the grid
-traces_are : (tree : SyntaxTree) (input : List ℤ) (k n m c : ℕ) (before : List Access) → IsReady tree k n → c + m ≡ natural tree.limits.iterations
+traces_are : (tree : SyntaxTree) (input : List ℤ) (k n m c : ℕ) (before : List Access) → IsReady tree k n
+    → c + m ≡ natural tree.limits.iterations
     → serial_traces_from (lowered_loop tree input) (suc m) c before ≡ map (joined 0) (columns_from tree input m c before)
 traces_are tree input k n zero c before w e =
     ap (λ t. t ∷ unless (closes_loop t) []) (closing_is tree input k n c before w (omega (arith, e)))
@@ -187,10 +198,12 @@ traces_are tree input k n (suc m) c before w e =
     (iteration_is tree input k n c before w (omega (arith, e)))
     ∙ ap (λ a. joined 0 points ∷ unless (closes_loop (joined 0 points)) (serial_traces_from p (suc m) (c + 1) (before ++ a)))
     (joined_accesses 0 points (column_is_column tree input k n c before w))
-    ∙ ap (λ b. joined 0 points ∷ unless b (serial_traces_from p (suc m) (c + 1) (before ++ points_accesses points))) (column_closes tree input k n c before w)
+    ∙ ap (λ b. joined 0 points ∷ unless b (serial_traces_from p (suc m) (c + 1) (before ++ points_accesses points)))
+    (column_closes tree input k n c before w)
     ∙ ap (λ l. joined 0 points ∷ unless (ends_grid points) l)
     (traces_are tree input k n m (c + 1) (before ++ points_accesses points) w (omega (arith, e)))
-    ∙ ap (λ l. joined 0 points ∷ l) (map_unless (joined 0) (ends_grid points) (columns_from tree input m (c + 1) (before ++ points_accesses points)))
+    ∙ ap (λ l. joined 0 points ∷ l)
+    (map_unless (joined 0) (ends_grid points) (columns_from tree input m (c + 1) (before ++ points_accesses points)))
 
 -- ---- columns, accesses and traps
 
@@ -208,7 +221,8 @@ stepped_nodes store budget left zero e before = refl
 stepped_nodes store budget zero (suc n) e before = refl
 stepped_nodes store budget (suc left) (suc n) e before = stepped_nodes store budget left n e before
 
-from_are_columns : (tree : SyntaxTree) (input : List ℤ) (k n m c : ℕ) (before : List Access) → IsReady tree k n → AreColumns (columns_from tree input m c before)
+from_are_columns : (tree : SyntaxTree) (input : List ℤ) (k n m c : ℕ) (before : List Access) → IsReady tree k n
+    → AreColumns (columns_from tree input m c before)
 from_are_columns tree input k n zero c before w =
     (stepped_nodes (store_of tree) (natural tree.limits.steps) (natural tree.limits.steps) 4 ends.Closed before, tt)
 from_are_columns tree input k n (suc m) c before w =
@@ -239,7 +253,8 @@ traps_are c (points ∷ more) h = λ i. first_of_both (one_trap c points h.0 i) 
 
 -- ---- the whole
 
-all_traces : (tree : SyntaxTree) (input : List ℤ) (k n : ℕ) → IsReady tree k n → loop_traces (whole_of (lowered tree) input) ≡ map (joined 0) (grid tree input)
+all_traces : (tree : SyntaxTree) (input : List ℤ) (k n : ℕ) → IsReady tree k n
+    → loop_traces (whole_of (lowered tree) input) ≡ map (joined 0) (grid tree input)
 all_traces tree input k n w =
     let c = natural tree.limits.iterations in
     let one : c + 1 ≡ suc c = omega arith in
@@ -256,7 +271,8 @@ final_with tree input accesses trap =
 
 abbrev whole_output : SyntaxTree → List ℤ → List NodeAccess → Option TrapAt → List ℤ
 whole_output tree input accesses trap =
-    output_of (store_of tree) (init_accesses (whole_of tree input) ++ (accesses_of accesses ++ accesses_in (final_with tree input accesses trap)))
+    output_of (store_of tree)
+    (init_accesses (whole_of tree input) ++ (accesses_of accesses ++ accesses_in (final_with tree input accesses trap)))
 
 abbrev whole_trap : SyntaxTree → List ℤ → List NodeAccess → Option TrapAt → Option TrapAt
 whole_trap tree input accesses trap =
@@ -265,7 +281,8 @@ whole_trap tree input accesses trap =
 lowered_is_grid : (tree : SyntaxTree) (input : List ℤ) (k n : ℕ) → IsReady tree k n → IsTheGrid (lowered tree) tree input
 lowered_is_grid tree input k n w =
     let all = all_traces tree input k n w in
-    let whole : AreColumns (grid tree input) = columns_unless _ _ (from_are_columns tree input k n (natural tree.limits.iterations) 0 _ w) in
+    let whole : AreColumns (grid tree input) = columns_unless _ _
+    (from_are_columns tree input k n (natural tree.limits.iterations) 0 _ w) in
     let accesses : loop_accesses (whole_of (lowered tree) input) ≡ grid_accesses tree input =
     ap (located_from 0) all ∙ located_are 0 (grid tree input) whole in
     let trap : first_trap 0 (loop_traces (whole_of (lowered tree) input)) ≡ columns_trap 0 (grid tree input) =

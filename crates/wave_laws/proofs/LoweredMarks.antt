@@ -2,7 +2,8 @@
 use Rattle.std.proofs.Common.{◌∙◌, sym, ap, refl, subst, [], ◌∷◌, ◌++◌, append-nil}
 use Rattle.pipe_model.specs.declared.region.Region.TheVariants as regions
 use Rattle.pipe_model.specs.Language.CheckingRules.{first_fault, first_limit_out, limit_fault_or}
-use Rattle.pipe_model.specs.Language.Marks.{Scope, Plain, StageWord, mark_at, after_let, marks_of, marks_of_cells, marks_of_expression, marks_of_statements, opening}
+use Rattle.pipe_model.specs.Language.Marks.{Scope, Plain, StageWord, mark_at, after_let, marks_of, marks_of_cells, marks_of_expression}
+use Rattle.pipe_model.specs.Language.Marks.{marks_of_statements, opening}
 use Rattle.pipe_model.specs.Language.SyntaxTree.{Then, SyntaxTree}
 use Rattle.wave_laws.proofs.UnbrokenMarks.{AreUnbroken, faultless, limits_and_marks, unbroken, unbroken_both, unbroken_left, unbroken_right}
 use Rattle.wave_laws.specs.WaveLaws.{LoweredWavesBreakNoRule}
@@ -22,7 +23,8 @@ body_unbroken tree u =
     let scope = row_scope tree in
     let plain = mark_at scope (Plain row) in
     let rest = marks_of_statements scope (rest_of tree.body) in
-    let turn : AreUnbroken (plain ∷ (plain ∷ (mark_at scope StageWord ∷ (plain ∷ (plain ∷ rest))))) = (refl, (refl, (refl, (refl, (refl, u.1))))) in
+    let turn : AreUnbroken (plain ∷ (plain ∷ (mark_at scope StageWord ∷ (plain ∷ (plain ∷ rest))))) =
+    (refl, (refl, (refl, (refl, (refl, u.1))))) in
     (u.0, subst AreUnbroken (sym (append-nil (plain ∷ (plain ∷ (mark_at scope StageWord ∷ (plain ∷ (plain ∷ rest))))))) turn)
 
 pub lowered_waves_break_no_rule : LoweredWavesBreakNoRule
@@ -44,4 +46,7 @@ lowered_waves_break_no_rule tree w h =
     unbroken_both cells (init ++ (new_test ++ (new_body ++ last))) (unbroken_left cells _ all)
     (unbroken_both init (new_test ++ (new_body ++ last)) (unbroken_left init _ after_cells)
     (refl, unbroken_both new_body last (body_unbroken tree old_body) (unbroken_right body last after_test))) in
-    record { obeys = ap (λ o. limit_fault_or o (first_fault 0 (marks_of (lowered tree)))) both.0 ∙ faultless 0 (marks_of (lowered tree)) marks }
+    record {
+      obeys = ap (λ o. limit_fault_or o (first_fault 0 (marks_of (lowered tree)))) both.0
+          ∙ faultless 0 (marks_of (lowered tree)) marks;
+    }

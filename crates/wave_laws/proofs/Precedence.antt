@@ -1,5 +1,6 @@
 -- Which points of a grid precede which.
-use Rattle.std.proofs.Common.{◌≡◌, ◌∙◌, sym, ap, refl, subst, ℕ, zero, suc, pos, List, [], ◌∷◌, map, length, ◌<◌, ◌≤◌, ◌+◌, ◌-◌, ◌≢◌, ◌⊎◌, inl, inr, arith}
+use Rattle.std.proofs.Common.{◌≡◌, ◌∙◌, sym, ap, refl, subst, ℕ, zero, suc, pos, List, [], ◌∷◌, map, length, ◌<◌, ◌≤◌, ◌+◌, ◌-◌, ◌≢◌, ◌⊎◌}
+use Rattle.std.proofs.Common.{inl, inr, arith}
 use Rattle.std.specs.Prelude.{◌≤ℤ◌, ◌<ℤ◌, T, Bool, true, false, nat_le}
 use Rattle.std.proofs.lemmas.Bool.{leb-true, lt-ltb, le-leb}
 use Rattle.pipe_model.specs.declared.column.Column.{Column}
@@ -17,7 +18,8 @@ use Rattle.wave_laws.specs.Waves.GridResults.{column_of_points, kind_in_row, poi
 abbrev IsGridColumn : List Node → Type 0
 IsGridColumn nodes = (k : ℕ) → k < length nodes → node_at nodes k ≡ node_of (kind_in_row k) (pos k)
 
-nodes_of_points : (r k : ℕ) (ts : List (List Action)) → k < length (point_nodes r ts) → node_at (point_nodes r ts) k ≡ node_of (kind_in_row (r + k)) (pos (r + k))
+nodes_of_points : (r k : ℕ) (ts : List (List Action)) → k < length (point_nodes r ts)
+    → node_at (point_nodes r ts) k ≡ node_of (kind_in_row (r + k)) (pos (r + k))
 nodes_of_points r k [] l = absurd (omega (arith, l))
 nodes_of_points r zero (t ∷ ts) l = let e : r ≡ r + 0 = omega arith in ap (λ n. node_of (kind_in_row n) (pos n)) e
 nodes_of_points r (suc k) (t ∷ ts) l =
@@ -61,7 +63,8 @@ cross_down left right j k gl gr (WaitCross j2 k2 l w last) =
 edge_forward : (cols : List (List Node)) (x y : NodeId) → ((i : ℕ) → IsGridColumn (nodes_at cols i)) → Edge cols x y
     → (x.iteration ≤ y.iteration) × (x.index ≤ y.index)
 edge_forward cols x y g (DownEdge i k l) = (omega arith, omega arith)
-edge_forward cols x y g (AcrossEdge i j k cross) = (omega arith, cross_down (nodes_at cols i) (nodes_at cols (i + 1)) j k (g i) (g (i + 1)) cross)
+edge_forward cols x y g (AcrossEdge i j k cross) =
+    (omega arith, cross_down (nodes_at cols i) (nodes_at cols (i + 1)) j k (g i) (g (i + 1)) cross)
 
 path_forward : (cols : List (List Node)) (x y : NodeId) → ((i : ℕ) → IsGridColumn (nodes_at cols i)) → Precedes cols x y
     → (x.iteration ≤ y.iteration) × (x.index ≤ y.index)
@@ -85,12 +88,14 @@ then_edge : (cols : List (List Node)) (x y z : NodeId) → Reaches cols x y → 
 then_edge cols x y z (inl e) edge = ByEdge (subst (λ v. Edge cols v z) (sym e) edge)
 then_edge cols x y z (inr p) edge = ByPath p edge
 
-down : (cols : List (List Node)) (x : NodeId) (i k j : ℕ) → k + j < length (nodes_at cols i) → Reaches cols x (at i k) → Reaches cols x (at i (k + j))
+down : (cols : List (List Node)) (x : NodeId) (i k j : ℕ) → k + j < length (nodes_at cols i) → Reaches cols x (at i k)
+    → Reaches cols x (at i (k + j))
 down cols x i k zero l p = let e : k ≡ k + 0 = omega arith in subst (λ m. Reaches cols x (at i m)) e p
 down cols x i k (suc j) l p =
     let e : k + j + 1 ≡ k + suc j = omega arith in
     let up = down cols x i k j (omega (arith, l)) p in
-    subst (λ m. Reaches cols x (at i m)) e (inr (then_edge cols x (at i (k + j)) (at i (k + j + 1)) up (DownEdge i (k + j) (omega (arith, l)))))
+    subst (λ m. Reaches cols x (at i m)) e
+    (inr (then_edge cols x (at i (k + j)) (at i (k + j + 1)) up (DownEdge i (k + j) (omega (arith, l)))))
 
 cross_in_row : (cols : List (List Node)) (n m i k : ℕ) → IsFull cols n m → i + 1 < n → k < m → Edge cols (at i k) (at (i + 1) k)
 cross_in_row cols n m i zero f l within =
@@ -114,7 +119,8 @@ cross_in_row cols n m i (suc k) f l within =
     same_number {v} {w} {r} e h =
         subst (λ (u : Node). u.number ≤ℤ w.number) (sym e) (subst (λ (u : Node). pos r ≤ℤ u.number) (sym h) (same_pos r))
 
-    less_number : (r j : ℕ) → r < j → {v w : Node} → v ≡ node_of (kind_in_row r) (pos r) → w ≡ node_of (kind_in_row j) (pos j) → v.number <ℤ w.number
+    less_number : (r j : ℕ) → r < j → {v w : Node} → v ≡ node_of (kind_in_row r) (pos r) → w ≡ node_of (kind_in_row j) (pos j)
+        → v.number <ℤ w.number
     less_number r j l {v} {w} e h =
         subst (λ (u : Node). u.number <ℤ w.number) (sym e) (subst (λ (u : Node). pos r <ℤ u.number) (sym h) (less_pos r j l))
 
@@ -131,7 +137,8 @@ reaches cols n m c r d q f ld lq lc lr =
     let a : c + (d - c) ≡ d = omega (arith, lc) in
     let b : r + (q - r) ≡ q = omega (arith, lr) in
     let full = f.full d ld in
-    let across = subst (λ e. Reaches cols (at c r) (at e r)) a (right cols n m c r (d - c) f (omega (arith, a, ld)) (omega (arith, lr, lq))) in
+    let across = subst (λ e. Reaches cols (at c r) (at e r)) a
+    (right cols n m c r (d - c) f (omega (arith, a, ld)) (omega (arith, lr, lq))) in
     subst (λ e. Reaches cols (at c r) (at d e)) b (down cols (at c r) d r (q - r) (omega (arith, b, full, lq)) across)
 
 not_same : (cols : List (List Node)) (x y : NodeId) → x ≢ y → Reaches cols x y → Precedes cols x y
@@ -141,7 +148,8 @@ not_same cols x y apart (inr p) = p
 pub points_precede : PointsPrecede
 points_precede tree input c r d q lc ld full lr lq apart =
     let cols = nodes_of (grid tree input) in
-    let f : IsFull cols (natural tree.limits.iterations) (natural tree.limits.stages) = record { grid = columns_are_grid (grid tree input); full = full } in (
+    let f : IsFull cols (natural tree.limits.iterations) (natural tree.limits.stages) = record
+    { grid = columns_are_grid (grid tree input); full = full } in (
       (λ p. path_forward cols (at c r) (at d q) f.grid p),
       (λ both. not_same cols (at c r) (at d q) apart
           (reaches cols (natural tree.limits.iterations) (natural tree.limits.stages) c r d q f ld lq both.0 both.1)),

@@ -2,11 +2,14 @@
 use Rattle.std.proofs.Common.{◌≡◌, ◌∙◌, ap, refl, ℕ, zero, suc, ℤ, pos, false, List, [], ◌∷◌, ◌++◌, take, length, Option, Some, None}
 use Rattle.std.specs.Str.{bytes_eq}
 use Rattle.std.specs.Ordering.{int_eq}
-use Rattle.pipe_model.specs.Language.Evaluation.{CellRange, Local, Setting, Environment, evaluate, execute, execute_all, assign, emit, leave_block, loop_turns, updated_locals}
+use Rattle.pipe_model.specs.Language.Evaluation.{CellRange, Local, Setting, Environment, evaluate, execute, execute_all, assign, emit}
+use Rattle.pipe_model.specs.Language.Evaluation.{leave_block, loop_turns, updated_locals}
 use Rattle.pipe_model.specs.Language.Interaction.{Interaction}
 use Rattle.pipe_model.specs.Language.SyntaxTree as syntax
-use Rattle.pipe_model.specs.Language.SyntaxTree.{Expression, Statement, Let, Assign, AssignElement, Emit, If, While, NextStage, Statements, Empty, Then}
-use Rattle.language_laws.proofs.Straight.{IsStraight, Returns, Raises, Steps, Gets, Sets, Anything, straight-bind, straight-evaluate, straight-element_of, either, either_by_zero}
+use Rattle.pipe_model.specs.Language.SyntaxTree.{Expression, Statement, Let, Assign, AssignElement, Emit, If, While, NextStage, Statements}
+use Rattle.pipe_model.specs.Language.SyntaxTree.{Empty, Then}
+use Rattle.language_laws.proofs.Straight.{IsStraight, Returns, Raises, Steps, Gets, Sets, Anything, straight-bind, straight-evaluate}
+use Rattle.language_laws.proofs.Straight.{straight-element_of, either, either_by_zero}
 use Rattle.wave_laws.specs.Waves.Points.{at_row}
 use Rattle.wave_laws.specs.Waves.WaveLoops.{AllHaveNoStage, AllKeepRow, HasNoStage, KeepsRow, row}
 
@@ -29,7 +32,8 @@ begins_shorter r [] after h k = absurd h
 begins_shorter r (l ∷ ls) [] h k = absurd k
 begins_shorter r (l ∷ ls) (m ∷ ms) h k = k
 
-begins_updated : (r : ℕ) (ls : List Local) (x : List ℕ) (v : ℤ) → bytes_eq row x ≡ false → BeginsWithRow r ls → BeginsWithRow r (updated_locals ls x v)
+begins_updated : (r : ℕ) (ls : List Local) (x : List ℕ) (v : ℤ) → bytes_eq row x ≡ false → BeginsWithRow r ls
+    → BeginsWithRow r (updated_locals ls x v)
 begins_updated r [] x v f h = absurd h
 begins_updated r (l ∷ ls) x v f h =
     let e : bytes_eq l.name x ≡ false = ap (λ (m : Local). bytes_eq m.name x) h ∙ f in
@@ -38,7 +42,8 @@ begins_updated r (l ∷ ls) x v f h =
 in_row_after : (r : ℕ) (before after : Environment) → IsInRow r before → IsInRow r after → IsInRow r (leave_block before after)
 in_row_after r before after h k = record { locals = begins_shorter r before.locals after.locals h.locals k.locals; stage = k.stage }
 
-straight-assign : (r : ℕ) (env : Environment) (o : Option ℤ) (range : Option CellRange) (x : List ℕ) (v : ℤ) → bytes_eq row x ≡ false → IsInRow r env
+straight-assign : (r : ℕ) (env : Environment) (o : Option ℤ) (range : Option CellRange) (x : List ℕ) (v : ℤ) → bytes_eq row x ≡ false
+    → IsInRow r env
     → IsStraight (IsInRow r) (assign env o range x v)
 straight-assign r env (Some old) range x v f h = Returns (record { locals = begins_updated r env.locals x v f h.locals; stage = h.stage })
 straight-assign r env None (Some range) x v f h = Sets _ _ (Returns h)
@@ -53,7 +58,8 @@ straight-turns : (r n : ℕ) (test : Environment → Interaction ℤ) (body : En
 straight-turns r zero test body tests bodies env h = Raises _
 straight-turns r (suc n) test body tests bodies env h =
     straight-bind (tests env) (λ v any. Steps (either_by_zero (IsInRow r) v _ _ (Returns h)
-    (straight-bind (bodies env h) (λ after k. straight-turns r n test body tests bodies (leave_block env after) (in_row_after r env after h k)))))
+    (straight-bind (bodies env h)
+    (λ after k. straight-turns r n test body tests bodies (leave_block env after) (in_row_after r env after h k)))))
 
 mutual
   straight-execute : (setting : Setting) (r : ℕ) (s : Statement) → HasNoStage s → KeepsRow s → (env : Environment) → IsInRow r env
@@ -69,7 +75,8 @@ mutual
       straight-bind (straight-evaluate setting env.locals i) (λ j any. straight-bind (straight-evaluate setting env.locals e)
       (λ v any2. Steps (straight-bind (straight-element_of (setting.cells x) j) (λ cell any3. Sets cell v (Returns h)))))
   straight-execute setting r (Emit e) n f env h =
-      straight-bind (straight-evaluate setting env.locals e) (λ v any. Steps (straight-bind (straight-emit setting.world.emits v) (λ done any2. Returns h)))
+      straight-bind (straight-evaluate setting env.locals e)
+      (λ v any. Steps (straight-bind (straight-emit setting.world.emits v) (λ done any2. Returns h)))
   straight-execute setting r (If e a b) n f env h =
       straight-bind (straight-evaluate setting env.locals e) (λ v any. Steps (straight-bind
       (either_by_zero (IsInRow r) v _ _ (straight-execute_all setting r b n.1 f.1 env h) (straight-execute_all setting r a n.0 f.0 env h))
@@ -80,7 +87,8 @@ mutual
   straight-execute setting r (syntax.Stage kind e) n f env h = absurd n
   straight-execute setting r (NextStage kind) n f env h = absurd n
 
-  pub straight-execute_all : (setting : Setting) (r : ℕ) (ss : Statements) → AllHaveNoStage ss → AllKeepRow ss → (env : Environment) → IsInRow r env
+  pub straight-execute_all : (setting : Setting) (r : ℕ) (ss : Statements) → AllHaveNoStage ss → AllKeepRow ss → (env : Environment)
+      → IsInRow r env
       → IsStraight (IsInRow r) (execute_all setting ss env)
   straight-execute_all setting r Empty n f env h = Returns h
   straight-execute_all setting r (Then s ss) n f env h =

@@ -1,5 +1,6 @@
 -- Traces of points, spliced into the trace of an iteration.
-use Rattle.std.proofs.Common.{◌≡◌, ◌∙◌, sym, ap, refl, ℕ, zero, suc, ℤ, pos, true, false, List, [], ◌∷◌, ◌++◌, append_assoc, append-nil, Option, Some, None, ◌+◌, arith, length}
+use Rattle.std.proofs.Common.{◌≡◌, ◌∙◌, sym, ap, refl, ℕ, zero, suc, ℤ, pos, true, false, List, [], ◌∷◌, ◌++◌, append_assoc, append-nil}
+use Rattle.std.proofs.Common.{Option, Some, None, ◌+◌, arith, length}
 use Rattle.std.proofs.lemmas.Bool.{false≢true}
 use Rattle.pipe_model.specs.declared.access.Access.{Access}
 use Rattle.pipe_model.specs.declared.column.ColumnEnd.{ColumnEnd}
@@ -10,7 +11,8 @@ use Rattle.pipe_model.specs.declared.trap.TrapAt.{TrapAt}
 use Rattle.pipe_model.specs.declared.trap.TrapPlace.{TrapPlace}
 use Rattle.pipe_model.specs.declared.trap.TrapPlace.TheVariants.{At}
 use Rattle.pipe_model.specs.Language.Interaction.{Interaction, Return, Step, Get, Set, Stage, bind, with_budget}
-use Rattle.pipe_model.specs.Pipelines.Behaviour.{Action, Accessed, Staged, Ended, read_access, write_access, accesses_in, nodes_in, node_of, column_of, trace_end, closes_loop}
+use Rattle.pipe_model.specs.Pipelines.Behaviour.{Action, Accessed, Staged, Ended, read_access, write_access, accesses_in, nodes_in, node_of}
+use Rattle.pipe_model.specs.Pipelines.Behaviour.{column_of, trace_end, closes_loop}
 use Rattle.pipe_model.specs.Pipelines.ElisionResults.{trap_at_end, first_of_both}
 use Rattle.pipe_model.specs.Pipelines.SerialElision.{serial_trace, located}
 use Rattle.pipe_model.specs.Pipelines.Store.{InitialStore, value_after}
@@ -108,12 +110,14 @@ spliced store budget left n k m next f g before (Gets {go} c s) hf hg =
     let a = read_access c v in
     let t = serial_trace store (with_budget budget left (bind (go v) g)) (before ++ a ∷ []) in
     ap (λ l. Accessed a ∷ l) (spliced store budget left n k m next f g (before ++ a ∷ []) (s v) hf hg
-    ∙ ap (λ l. splice t (Staged k m ∷ serial_trace store (with_budget budget budget next) l)) (append_assoc before (a ∷ []) (accesses_in t)))
+    ∙ ap (λ l. splice t (Staged k m ∷ serial_trace store (with_budget budget budget next) l))
+    (append_assoc before (a ∷ []) (accesses_in t)))
 spliced store budget left n k m next f g before (Sets {d} c v s) hf hg =
     let a = write_access c v in
     let t = serial_trace store (with_budget budget left (bind d g)) (before ++ a ∷ []) in
     ap (λ l. Accessed a ∷ l) (spliced store budget left n k m next f g (before ++ a ∷ []) s hf hg
-    ∙ ap (λ l. splice t (Staged k m ∷ serial_trace store (with_budget budget budget next) l)) (append_assoc before (a ∷ []) (accesses_in t)))
+    ∙ ap (λ l. splice t (Staged k m ∷ serial_trace store (with_budget budget budget next) l))
+    (append_assoc before (a ∷ []) (accesses_in t)))
 
 -- two trees that end alike do alike
 pub same_end : {A B : Type 0} {P : A → Type 0} {d : Interaction A} (f g : A → Interaction B) → IsStraight P d
@@ -143,7 +147,8 @@ point_is_open store budget left n before (Sets c v s) = point_is_open store budg
 
 -- ---- the parts of a spliced trace
 
-splice_accesses : (t more : List Action) → IsOpen t → is_trap (trace_end t) ≡ false → accesses_in (splice t more) ≡ accesses_in t ++ accesses_in more
+splice_accesses : (t more : List Action) → IsOpen t → is_trap (trace_end t) ≡ false
+    → accesses_in (splice t more) ≡ accesses_in t ++ accesses_in more
 splice_accesses [] more o h = absurd o
 splice_accesses (Accessed a ∷ is) more o h = ap (λ l. a ∷ l) (splice_accesses is more o h)
 splice_accesses (Staged k n ∷ is) more o h = absurd o
@@ -214,7 +219,8 @@ joined_located c r k (t ∷ []) h = sym (append-nil (located c k t))
 joined_located c r k (t ∷ (u ∷ us)) h =
     splice_located c k t _ h.0 h.1 ∙ ap (λ l. located c k t ++ l) (joined_located c (r + 1) (k + 1) (u ∷ us) h.2)
 
-pub joined_nodes : (r : ℕ) (t : List Action) (ts : List (List Action)) → AreAColumn (t ∷ ts) → nodes_in (joined r (t ∷ ts)) ≡ point_nodes (r + 1) ts
+pub joined_nodes : (r : ℕ) (t : List Action) (ts : List (List Action)) → AreAColumn (t ∷ ts)
+    → nodes_in (joined r (t ∷ ts)) ≡ point_nodes (r + 1) ts
 joined_nodes r t [] h = h
 joined_nodes r t (u ∷ us) h =
     splice_nodes t _ h.0 h.1 ∙ (let wait : kind_in_row (r + 1) ≡ Wait = rw (suc_is r) refl in
@@ -228,7 +234,8 @@ joined_end r [] h = absurd h
 joined_end r (t ∷ []) h = refl
 joined_end r (t ∷ (u ∷ us)) h = splice_ending t _ h.0 h.1 ∙ joined_end (r + 1) (u ∷ us) h.2
 
-pub joined_closes : (r : ℕ) (t : List Action) (ts : List (List Action)) → IsOpen t → AreAColumn (t ∷ ts) → closes_loop (joined r (t ∷ ts)) ≡ is_trap (trace_end t)
+pub joined_closes : (r : ℕ) (t : List Action) (ts : List (List Action)) → IsOpen t → AreAColumn (t ∷ ts)
+    → closes_loop (joined r (t ∷ ts)) ≡ is_trap (trace_end t)
 joined_closes r t [] o h = open_closes t o
 joined_closes r t (u ∷ us) o h = splice_closes t _ h.0 h.1 ∙ sym h.1
 
@@ -255,7 +262,8 @@ length_of_nodes : (r : ℕ) (ts : List (List Action)) → length (point_nodes r 
 length_of_nodes r [] = refl
 length_of_nodes r (t ∷ ts) = ap (λ n. suc n) (length_of_nodes (r + 1) ts)
 
-last_number : (r : ℕ) (t : List Action) (ts : List (List Action)) → (node_at (point_nodes r (t ∷ ts)) (length ts)).number ≡ pos (r + length ts)
+last_number : (r : ℕ) (t : List Action) (ts : List (List Action))
+    → (node_at (point_nodes r (t ∷ ts)) (length ts)).number ≡ pos (r + length ts)
 last_number r t [] = ap (λ n. pos n) (omega arith)
 last_number r t (u ∷ us) =
     let e : r + 1 + length us ≡ r + suc (length us) = omega arith in
@@ -271,13 +279,15 @@ last_trap c r t (u ∷ us) h =
     rw (no_trap (At (at c r) (pos r)) (trace_end t) h.1)
     (last_trap c (r + 1) u us h.2 ∙ ap (λ n. part_trap (At (at c n) (pos n)) (points_end (u ∷ us))) e)
 
-pub joined_column : (t : List Action) (ts : List (List Action)) → AreAColumn (t ∷ ts) → column_of (joined 0 (t ∷ ts)) ≡ point_nodes 0 (t ∷ ts)
+pub joined_column : (t : List Action) (ts : List (List Action)) → AreAColumn (t ∷ ts)
+    → column_of (joined 0 (t ∷ ts)) ≡ point_nodes 0 (t ∷ ts)
 joined_column t ts h = ap (λ l. node_of Zero (pos 0) ∷ l) (joined_nodes 0 t ts h)
 
 pub joined_trap : (c : ℕ) (t : List Action) (ts : List (List Action)) → AreAColumn (t ∷ ts)
     → trap_at_end c (joined 0 (t ∷ ts)) (trace_end (joined 0 (t ∷ ts))) ≡ points_trap c 0 (t ∷ ts)
 joined_trap c t ts h =
-    let n : length (nodes_in (joined 0 (t ∷ ts))) ≡ 0 + length ts = ap length (joined_nodes 0 t ts h) ∙ length_of_nodes 1 ts ∙ omega arith in
+    let n : length (nodes_in (joined 0 (t ∷ ts))) ≡ 0 + length ts = ap length (joined_nodes 0 t ts h) ∙ length_of_nodes 1 ts
+    ∙ omega arith in
     let zero_plus : 0 + length ts ≡ length ts = omega arith in
     trap_by_end c (joined 0 (t ∷ ts)) _
     ∙ rw (joined_column t ts h, n, joined_end 0 (t ∷ ts) h, zero_plus) (rw (last_number 0 t ts)

@@ -4,7 +4,8 @@ use Rattle.std.specs.Prelude.{int_lt, ◌+ℤ◌}
 use Rattle.std.proofs.lemmas.Bool.{lt-ltb, le-ltb}
 use Rattle.pipe_model.specs.declared.operator_codes.TheConstants as operator_codes
 use Rattle.pipe_model.specs.declared.node.Kind.TheVariants.{Wait}
-use Rattle.pipe_model.specs.Language.Evaluation.{Setting, Environment, evaluate, execute, execute_all, first_environment, is_i64, leave_block, loop_turns}
+use Rattle.pipe_model.specs.Language.Evaluation.{Setting, Environment, evaluate, execute, execute_all, first_environment, is_i64}
+use Rattle.pipe_model.specs.Language.Evaluation.{leave_block, loop_turns}
 use Rattle.pipe_model.specs.Language.Interaction.{Interaction, Return, Raise, Step, Get, Set, bind}
 use Rattle.pipe_model.specs.Language.Interaction as interactions
 use Rattle.pipe_model.specs.Language.SyntaxTree.{Expression, Number, Name, Binary, Statement, Assign, Statements}
@@ -51,10 +52,12 @@ pub next_turn : (setting : Setting) (rest : Statements) (k n r : ℕ) → r < k 
 next_turn setting rest k n r l room small =
     rw (lt_pos r k l, le_pos r 0 (omega arith), fits r small, lt_pos r (r + 1) (omega arith), lt-ltb (r + 1) setting.world.stages room)
     (ap (λ d. steps 9 (interactions.Stage Wait (pos (r + 1))
-    (bind (bind d (execute_all setting rest)) (λ after. turns_from setting rest k n (leave_block (at_row r) after))))) (row_counts setting r small))
+    (bind (bind d (execute_all setting rest))
+    (λ after. turns_from setting rest k n (leave_block (at_row r) after))))) (row_counts setting r small))
 
 -- after the last row, the loop ends
-pub last_turn : (setting : Setting) (rest : Statements) (k n : ℕ) → turns_from setting rest k (suc n) (at_row k) ≡ steps 4 (Return (at_row k))
+pub last_turn : (setting : Setting) (rest : Statements) (k n : ℕ)
+    → turns_from setting rest k (suc n) (at_row k) ≡ steps 4 (Return (at_row k))
 last_turn setting rest k n = rw (le_pos k k (omega arith)) refl
 
 -- the beginning of the lowered body

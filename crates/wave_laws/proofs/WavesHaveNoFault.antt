@@ -4,9 +4,11 @@ use Rattle.pipe_model.specs.declared.region.Region.TheVariants as regions
 use Rattle.pipe_model.specs.declared.tree.Declaration.{Declaration}
 use Rattle.pipe_model.specs.Language.CheckingRules.{PipeOutside, broken_at, first_fault, first_limit_out, has_stages}
 use Rattle.pipe_model.specs.Language.Marks as marks
-use Rattle.pipe_model.specs.Language.Marks.{Mark, Scope, StageWord, marks_of, marks_of_cells, marks_of_expression, marks_of_statement, marks_of_statements, after_block, after_statement, after_statements, opening}
+use Rattle.pipe_model.specs.Language.Marks.{Mark, Scope, StageWord, marks_of, marks_of_cells, marks_of_expression, marks_of_statement}
+use Rattle.pipe_model.specs.Language.Marks.{marks_of_statements, after_block, after_statement, after_statements, opening}
 use Rattle.pipe_model.specs.Language.SyntaxTree as syntax
-use Rattle.pipe_model.specs.Language.SyntaxTree.{Expression, Number, Statement, Let, Assign, AssignElement, Emit, If, While, NextStage, Statements, Empty, Then, SyntaxTree}
+use Rattle.pipe_model.specs.Language.SyntaxTree.{Expression, Number, Statement, Let, Assign, AssignElement, Emit, If, While, NextStage}
+use Rattle.pipe_model.specs.Language.SyntaxTree.{Statements, Empty, Then, SyntaxTree}
 use Rattle.wave_laws.proofs.Flags.{AreFalse, both_false, falses, none_flagged}
 use Rattle.wave_laws.proofs.StageWords.{NoneIsStage, false_for_stages, stage_both}
 use Rattle.wave_laws.proofs.UnbrokenMarks.{AreUnbroken, limits_and_marks, unbroken, unbroken_left, unbroken_right}
@@ -38,14 +40,17 @@ mutual
   region_after_all scope (Then s ss) = region_after_all (after_statement scope s) ss ∙ region_after scope s
 
 mutual
-  outside_names_none : (scope : Scope) (s : Statement) → has_stages scope.region ≡ false → AreUnbroken (marks_of_statement scope s) → HasNoStage s
+  outside_names_none : (scope : Scope) (s : Statement) → has_stages scope.region ≡ false → AreUnbroken (marks_of_statement scope s)
+      → HasNoStage s
   outside_names_none scope (Let x e) outside u = tt
   outside_names_none scope (Assign x e) outside u = tt
   outside_names_none scope (AssignElement x i e) outside u = tt
   outside_names_none scope (Emit e) outside u = tt
   outside_names_none scope (If e a b) outside u =
-      let blocks = unbroken_right (marks_of_expression scope e) (marks_of_statements scope a ++ marks_of_statements (after_block scope a) b) u in (
-        outside_name_none scope a outside (unbroken_left (marks_of_statements scope a) (marks_of_statements (after_block scope a) b) blocks),
+      let blocks = unbroken_right (marks_of_expression scope e)
+      (marks_of_statements scope a ++ marks_of_statements (after_block scope a) b) u in (
+        outside_name_none scope a outside
+            (unbroken_left (marks_of_statements scope a) (marks_of_statements (after_block scope a) b) blocks),
         outside_name_none (after_block scope a) b (ap has_stages (region_after_all scope a) ∙ outside)
             (unbroken_right (marks_of_statements scope a) (marks_of_statements (after_block scope a) b) blocks),
       )
@@ -54,7 +59,8 @@ mutual
   outside_names_none scope (syntax.Stage kind e) outside u = stage_is_broken scope outside u.0
   outside_names_none scope (NextStage kind) outside u = stage_is_broken scope outside u.0
 
-  outside_name_none : (scope : Scope) (ss : Statements) → has_stages scope.region ≡ false → AreUnbroken (marks_of_statements scope ss) → AllHaveNoStage ss
+  outside_name_none : (scope : Scope) (ss : Statements) → has_stages scope.region ≡ false → AreUnbroken (marks_of_statements scope ss)
+      → AllHaveNoStage ss
   outside_name_none scope Empty outside u = tt
   outside_name_none scope (Then s ss) outside u = (
     outside_names_none scope s outside (unbroken_left (marks_of_statement scope s) (marks_of_statements (after_statement scope s) ss) u),
@@ -79,7 +85,8 @@ mutual
 
   unset_all : (ss : Statements) → AllKeepRow ss → AreFalse (flags_of_statements false true ss)
   unset_all Empty h = tt
-  unset_all (Then s ss) h = both_false (flags_of_statement false true s) (flags_of_statements false true ss) (unset_one s h.0) (unset_all ss h.1)
+  unset_all (Then s ss) h =
+      both_false (flags_of_statement false true s) (flags_of_statements false true ss) (unset_one s h.0) (unset_all ss h.1)
 
 -- ---- stages
 
@@ -87,8 +94,10 @@ in_expression : (scope : Scope) (e : Expression) → NoneIsStage (marks_of_expre
 in_expression scope (Number n) = tt
 in_expression scope (syntax.Name x) = (refl, tt)
 in_expression scope (syntax.Element x i) = (refl, in_expression scope i)
-in_expression scope (syntax.And a b) = stage_both (marks_of_expression scope a) (marks_of_expression scope b) (in_expression scope a) (in_expression scope b)
-in_expression scope (syntax.Or a b) = stage_both (marks_of_expression scope a) (marks_of_expression scope b) (in_expression scope a) (in_expression scope b)
+in_expression scope (syntax.And a b) =
+    stage_both (marks_of_expression scope a) (marks_of_expression scope b) (in_expression scope a) (in_expression scope b)
+in_expression scope (syntax.Or a b) =
+    stage_both (marks_of_expression scope a) (marks_of_expression scope b) (in_expression scope a) (in_expression scope b)
 in_expression scope (syntax.Binary code a b) =
     stage_both (marks_of_expression scope a) (marks_of_expression scope b) (in_expression scope a) (in_expression scope b)
 in_expression scope (syntax.Unary code a) = in_expression scope a
@@ -104,7 +113,8 @@ mutual
       (refl, stage_both (marks_of_expression scope i) (marks_of_expression scope e) (in_expression scope i) (in_expression scope e))
   in_statement scope (Emit e) h = in_expression scope e
   in_statement scope (If e a b) h =
-      stage_both (marks_of_expression scope e) (marks_of_statements scope a ++ marks_of_statements (after_block scope a) b) (in_expression scope e)
+      stage_both (marks_of_expression scope e) (marks_of_statements scope a ++ marks_of_statements (after_block scope a) b)
+      (in_expression scope e)
       (stage_both (marks_of_statements scope a) (marks_of_statements (after_block scope a) b) (in_statements scope a h.0)
       (in_statements (after_block scope a) b h.1))
   in_statement scope (While e a) h =
@@ -131,10 +141,12 @@ waves_have_no_fault tree w h =
     let test = marks_of_expression (opening regions.Test tree.cells) tree.test in
     let body = marks_of_statements (opening regions.Body tree.cells) tree.body in
     let last = marks_of_statements (opening regions.Last tree.cells) tree.last in
-    let all : AreUnbroken (marks_of tree) = unbroken 0 (marks_of tree) ((limits_and_marks (first_limit_out tree.limits) (first_fault 0 (marks_of tree)) h.obeys).1) in
+    let all : AreUnbroken (marks_of tree) = unbroken 0 (marks_of tree)
+    ((limits_and_marks (first_limit_out tree.limits) (first_fault 0 (marks_of tree)) h.obeys).1) in
     let parts = unbroken_right cells (init ++ (test ++ (body ++ last))) all in
     let end = unbroken_right body last (unbroken_right test (body ++ last) (unbroken_right init (test ++ (body ++ last)) parts)) in
-    let init_none = outside_name_none (opening regions.Init tree.cells) tree.init refl (unbroken_left init (test ++ (body ++ last)) parts) in
+    let init_none = outside_name_none (opening regions.Init tree.cells) tree.init refl
+    (unbroken_left init (test ++ (body ++ last)) parts) in
     let last_none = outside_name_none (opening regions.Last tree.cells) tree.last refl end in
     let whole : AllHaveNoStage (Then row_declaration (rest_of tree.body)) = (tt, w.straight) in
     let body_none : AllHaveNoStage tree.body = subst AllHaveNoStage (sym w.body) whole in
@@ -147,7 +159,8 @@ waves_have_no_fault tree w h =
     let whole_unset : AllKeepRow (Then row_declaration (rest_of tree.body)) = (tt, w.unset) in
     let body_unset : AllKeepRow tree.body = subst AllKeepRow (sym w.body) whole_unset in
     let stage : first_stage tree ≡ None = falses 0 _ (false_for_stages (marks_of tree) none) in
-    let set : first_row_set tree ≡ None = falses (marks_before_body tree) (flags_of_statements false true tree.body) (unset_all tree.body body_unset) in
+    let set : first_row_set tree ≡ None = falses (marks_before_body tree) (flags_of_statements false true tree.body)
+    (unset_all tree.body body_unset) in
     let one : is_number (pos 1) tree.test ≡ true = ap (is_number (pos 1)) w.test in
     let begins : begins_with_row tree.body ≡ true = ap begins_with_row w.body in
     rw (one, begins, stage, set) refl

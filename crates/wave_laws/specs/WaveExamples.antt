@@ -1,5 +1,5 @@
 -- Worked examples: small wave loops with their grids.
-use Rattle.std.specs.Prelude.{◌≡◌, ℕ, ℤ, pos, List, [], ◌∷◌, Option, Some, None}
+use Rattle.std.specs.Prelude.{◌≡◌, ℤ, pos, List, [], ◌∷◌, Option, Some, None}
 use Rattle.pipe_model.specs.declared.column.Column.{Column}
 use Rattle.pipe_model.specs.declared.column.ColumnEnd.{ColumnEnd}
 use Rattle.pipe_model.specs.declared.column.ColumnEnd.TheVariants as ends
@@ -52,5 +52,6 @@ LoweredWavesAreNoWaves = wave_fault (lowered (counted_points (pos 32))) ≡ Some
 -- `row = row + 1;` in place of `s = s + 1;`: the marks are those of the cell, of the `let`, and of the target
 abbrev pub SetRowsAreFaults : Type 0
 SetRowsAreFaults =
-    wave_fault (record (counted_points (pos 32)) { body = Then row_declaration (Then (Assign row (plus (Name row) (Number (pos 1)))) Empty) })
+    wave_fault (record (counted_points (pos 32))
+    { body = Then row_declaration (Then (Assign row (plus (Name row) (Number (pos 1)))) Empty) })
     ≡ Some (RowSet 2)

@@ -3,7 +3,9 @@
 ghost use Rattle.std.specs.Prelude.{◌≡◌, ◌≤ℤ◌, IfOk, pos};
 ghost use Rattle.pipe_model.specs.declared.operator_codes.TheConstants as operator_codes;
 ghost use Rattle.pipe_model.specs.declared.tree.StageKind.TheVariants as kinds;
-ghost use Rattle.pipe_model.specs.Language.SyntaxTree.{Empty, If as IfOf, Let as LetOf, NextStage, Then, While as WhileOf, Name as NameOf, Number as NumberOf, Unary as UnaryOf, binary_expression, expression_of, statement_of, statements_of};
+ghost use Rattle.pipe_model.specs.Language.SyntaxTree.{Empty, If as IfOf, Let as LetOf, NextStage, Then, While as WhileOf, Name as NameOf};
+ghost use Rattle.pipe_model.specs.Language.SyntaxTree.{Number as NumberOf, Unary as UnaryOf, binary_expression, expression_of};
+ghost use Rattle.pipe_model.specs.Language.SyntaxTree.{statement_of, statements_of};
 ghost use Rattle.wave_laws.specs.Waves.LoweredLoops.{counts_row, lowered_body, lowered_test, lowered_turn, waits_for_left};
 ghost use Rattle.wave_laws.specs.Waves.WaveLoops as rows;
 

@@ -80,7 +80,8 @@ trap_before_final tree input = first_of_both (init_trap (whole_of tree input)) (
 -- the trace of `final`, which does not run after a trap
 abbrev pub grid_final : SyntaxTree → List ℤ → List Action
 grid_final tree input = unless (is_some (trap_before_final tree input))
-    (serial_trace (store_of tree) (whole_of tree input).last (init_accesses (whole_of tree input) ++ accesses_of (grid_accesses tree input)))
+    (serial_trace (store_of tree) (whole_of tree input).last
+    (init_accesses (whole_of tree input) ++ accesses_of (grid_accesses tree input)))
 
 abbrev pub grid_output : SyntaxTree → List ℤ → List ℤ
 grid_output tree input = output_of (store_of tree)

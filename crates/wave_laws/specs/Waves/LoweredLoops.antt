@@ -8,7 +8,8 @@ use Rattle.std.specs.Prelude.{ℤ, pos}
 use Rattle.std.proofs.Math.IntN.{◌-ℤ◌}
 use Rattle.pipe_model.specs.declared.operator_codes.TheConstants as operator_codes
 use Rattle.pipe_model.specs.declared.tree.StageKind.TheVariants as kinds
-use Rattle.pipe_model.specs.Language.SyntaxTree.{Expression, Number, Name, Binary, Unary, Iter, Statement, Let, Assign, If, While, NextStage, Statements, Empty, Then, SyntaxTree}
+use Rattle.pipe_model.specs.Language.SyntaxTree.{Expression, Number, Name, Binary, Unary, Iter, Statement, Let, Assign, If, While}
+use Rattle.pipe_model.specs.Language.SyntaxTree.{NextStage, Statements, Empty, Then, SyntaxTree}
 use Rattle.wave_laws.specs.Waves.WaveLoops.{row, rest_of}
 
 -- `iter() < iterations`

@@ -3,8 +3,11 @@ use Rattle.std.specs.Prelude.{ℕ, ℤ, pos, Bool, true, false, not, ◌&&◌, O
 use Rattle.std.specs.Ordering.{int_eq}
 use Rattle.std.specs.Str.{bytes_eq}
 use Rattle.pipe_model.specs.declared.region.Region.TheVariants as regions
-use Rattle.pipe_model.specs.Language.Marks.{Mark, Occurrence, DeclaredCell, DeclaredLocal, Plain, Indexed, IterWord, StageWord, marks_of, marks_of_cells, marks_of_expression, marks_of_statements, opening}
-use Rattle.pipe_model.specs.Language.SyntaxTree.{Expression, Number, Name, Element, And, Or, Binary, Unary, More, Take, Iter, Statement, Let, Assign, AssignElement, Emit, If, While, Stage, NextStage, Statements, Empty, Then, SyntaxTree}
+use Rattle.pipe_model.specs.Language.Marks.{Mark, Occurrence, DeclaredCell, DeclaredLocal, Plain, Indexed, IterWord, StageWord, marks_of}
+use Rattle.pipe_model.specs.Language.Marks.{marks_of_cells, marks_of_expression, marks_of_statements, opening}
+use Rattle.pipe_model.specs.Language.SyntaxTree.{Expression, Number, Name, Element, And, Or, Binary, Unary, More, Take, Iter, Statement}
+use Rattle.pipe_model.specs.Language.SyntaxTree.{Let, Assign, AssignElement, Emit, If, While, Stage, NextStage, Statements, Empty, Then}
+use Rattle.pipe_model.specs.Language.SyntaxTree.{SyntaxTree}
 use Rattle.wave_laws.specs.Waves.MarkFlags.{first_true, flags_of_statements}
 use Rattle.wave_laws.specs.Waves.WaveLoops.{row}
 
@@ -58,7 +61,8 @@ first_stage tree = first_true 0 (map (λ (m : Mark). is_stage_word m.occurrence)
 abbrev pub marks_before_body : SyntaxTree → ℕ
 marks_before_body tree =
     length (marks_of_cells [] tree.cells)
-    + (length (marks_of_statements (opening regions.Init tree.cells) tree.init) + length (marks_of_expression (opening regions.Test tree.cells) tree.test))
+    + (length (marks_of_statements (opening regions.Init tree.cells) tree.init)
+    + length (marks_of_expression (opening regions.Test tree.cells) tree.test))
 
 -- the number of the first mark in the body that is the target `row` of an assignment
 abbrev pub first_row_set : SyntaxTree → Option ℕ

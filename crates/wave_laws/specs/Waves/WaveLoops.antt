@@ -1,7 +1,8 @@
 -- Wave loops: the body of the loop is what is done at a point of a grid. The iterations are the columns, and the local `row` is the row.
 use Rattle.std.specs.Prelude.{◌≡◌, ℕ, pos, List, false, codes}
 use Rattle.std.specs.Str.{bytes_eq}
-use Rattle.pipe_model.specs.Language.SyntaxTree.{Number, Statement, Let, Assign, AssignElement, Emit, If, While, Stage, NextStage, Statements, Empty, Then, SyntaxTree}
+use Rattle.pipe_model.specs.Language.SyntaxTree.{Number, Statement, Let, Assign, AssignElement, Emit, If, While, Stage, NextStage}
+use Rattle.pipe_model.specs.Language.SyntaxTree.{Statements, Empty, Then, SyntaxTree}
 
 -- the name of the local that is the row
 abbrev pub row : List ℕ

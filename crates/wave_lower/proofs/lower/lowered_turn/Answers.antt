@@ -10,4 +10,5 @@ returns c =
     let rest = c.args.rest.now in
     let past : length rest ≤ c.loop-s.s-index = omega (arith, c.loop-s-test.false) in
     let none = drop_all c.loop-s.s-index rest past in
-    turn_is items rest (sym (append-nil (map statement_of items)) ∙ (sym (ap (λ xs. map statement_of items ++ map statement_of xs) none) ∙ c.loop-s.invariant))
+    turn_is items rest (sym (append-nil (map statement_of items))
+    ∙ (sym (ap (λ xs. map statement_of items ++ map statement_of xs) none) ∙ c.loop-s.invariant))

@@ -21,4 +21,5 @@ returns c =
       | else-target-via-then-target+else-is_row w ↦ not_second c.args.target (bytes_eq row name) (sym w.is_row.ensures ∙ w.if-is_row.false)
       | else-target-via-else-target w ↦ not_first c.args.target (bytes_eq row name) w.if-target.false
     ] in
-    after_one (c.args.target && bytes_eq row name) c.args.next c.after_expression.result (expression_of c.args.e.now) apart c.after_expression.ensures
+    after_one (c.args.target && bytes_eq row name) c.args.next c.after_expression.result
+    (expression_of c.args.e.now) apart c.after_expression.ensures

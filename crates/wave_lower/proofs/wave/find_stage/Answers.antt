@@ -1,7 +1,8 @@
 use Rattle.std.proofs.Common.{◌≡◌, rules, length}
 use Rattle.std.proofs.lemmas.Result.{err_from_is_err_and}
 use Rattle.pipe_model.specs.Language.SyntaxTree.{tree_of}
-use Rattle.wave_lower.proofs.Marks.{body_begins, body_fits, few_cells, found_in_body, found_in_init, found_in_last, init_fits, last_fits, none_found}
+use Rattle.wave_lower.proofs.Marks.{body_begins, body_fits, few_cells, found_in_body, found_in_init, found_in_last, init_fits, last_fits}
+use Rattle.wave_lower.proofs.Marks.{none_found}
 use Rattle.wave_lower.proofs.wave.find_stage.Goals as goal
 
 pub overflow_cast-next : goal.overflow_cast-next
@@ -19,26 +20,31 @@ returns-in_err-body-clause-found c =
     rw (p.1, p.2) (found_in_init (tree_of c.args.program.now) _ _ c.requires.test c.len-next.ensures c.in_err-body.ensures)
 
 pub find_in_block-requires-2 : goal.find_in_block-requires-2
-find_in_block-requires-2 c = body_fits (tree_of c.args.program.now) _ _ c.requires.test c.requires.small c.len-next.ensures c.in_ok-body.ensures
+find_in_block-requires-2 c = body_fits
+    (tree_of c.args.program.now) _ _ c.requires.test c.requires.small c.len-next.ensures c.in_ok-body.ensures
 
 pub returns-in_err-last-clause-found : goal.returns-in_err-last-clause-found
 returns-in_err-last-clause-found c =
     let p = err_from_is_err_and c.from_residual-in_err-last.result c.from_residual-in_err-last.ensures.1 in
-    rw (p.1, p.2) (found_in_body (tree_of c.args.program.now) _ _ _ c.requires.test c.len-next.ensures c.in_ok-body.ensures c.in_err-last.ensures)
+    rw (p.1, p.2) (found_in_body
+    (tree_of c.args.program.now) _ _ _ c.requires.test c.len-next.ensures c.in_ok-body.ensures c.in_err-last.ensures)
 
 pub find_in_block-requires-3 : goal.find_in_block-requires-3
 find_in_block-requires-3 c =
-    last_fits (tree_of c.args.program.now) _ _ _ c.requires.test c.requires.small c.len-next.ensures c.in_ok-body.ensures c.in_ok-last.ensures
+    last_fits (tree_of c.args.program.now) _ _ _ c.requires.test c.requires.small c.len-next.ensures c.in_ok-body.ensures
+    c.in_ok-last.ensures
 
 pub returns-in_err-find_in_block-clause-found : goal.returns-in_err-find_in_block-clause-found
 returns-in_err-find_in_block-clause-found c =
     let p = err_from_is_err_and c.from_residual-in_err-find_in_block.result c.from_residual-in_err-find_in_block.ensures.1 in
-    rw (p.1, p.2) (found_in_last (tree_of c.args.program.now) _ _ _ _ c.requires.test c.len-next.ensures c.in_ok-body.ensures c.in_ok-last.ensures
+    rw (p.1, p.2) (found_in_last
+    (tree_of c.args.program.now) _ _ _ _ c.requires.test c.len-next.ensures c.in_ok-body.ensures c.in_ok-last.ensures
     c.in_err-find_in_block.ensures)
 
 pub returns-clause-none : goal.returns-clause-none
 returns-clause-none c =
-    none_found (tree_of c.args.program.now) _ _ _ _ c.requires.test c.len-next.ensures c.in_ok-body.ensures c.in_ok-last.ensures c.in_ok-find_in_block.ensures
+    none_found (tree_of c.args.program.now) _ _ _ _ c.requires.test c.len-next.ensures c.in_ok-body.ensures c.in_ok-last.ensures
+    c.in_ok-find_in_block.ensures
 
 pub returns-clause-next : goal.returns-clause-next
 returns-clause-next c = body_begins (tree_of c.args.program.now) _ _ c.requires.test c.len-next.ensures c.in_ok-body.ensures

@@ -9,9 +9,11 @@ use Rattle.wave_tests.proofs.sources.accepted.Goals as goal
 
 pub check-requires : goal.check-requires
 check-requires c =
-    record { spellable = spelled_is_spellable _ _ (record { tokens = _; lexed = c.in-Ok.ensures.tokens; spelled = c.in-Ok-parse.ensures.program }) }
+    record { spellable = spelled_is_spellable _ _
+    (record { tokens = _; lexed = c.in-Ok.ensures.tokens; spelled = c.in-Ok-parse.ensures.program }) }
 
 pub returns : goal.returns
 returns c =
-    let small = spelled_programs_are_small _ _ (record { tokens = _; lexed = c.in-Ok.ensures.tokens; spelled = c.in-Ok-parse.ensures.program }) in
+    let small = spelled_programs_are_small _ _
+    (record { tokens = _; lexed = c.in-Ok.ensures.tokens; spelled = c.in-Ok-parse.ensures.program }) in
     subst (λ (p : Program). size_of (tree_of p) ≤ LARGEST_WAVE) (sym c.in-Ok-check.ensures.program) small
