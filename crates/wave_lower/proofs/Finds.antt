@@ -21,7 +21,7 @@ first_after n (false ∷ a) b h =
     let e : n + 1 + length a ≡ n + suc (length a) = omega arith in
     first_after (n + 1) a b h ∙ ap (λ k. first_true k b) e
 
-pub passes_then : (answer : Result ℕ ℕ) (n k : ℕ) (a b : List Bool) → Finds (Ok k) n a → Finds answer k b → Finds answer n (a ++ b)
+pub passes_then : (outcome : Result ℕ ℕ) (n k : ℕ) (a b : List Bool) → Finds (Ok k) n a → Finds outcome k b → Finds outcome n (a ++ b)
 passes_then (Ok end) n k a b p q =
     let following : first_true n (a ++ b) ≡ first_true k b = first_after n a b p.0 ∙ ap (λ j. first_true j b) (sym p.1) in
     let at = p.1 in
@@ -162,16 +162,16 @@ first_found stage target n k found e a b whole is p q =
     (expression_passes n k e p)
     (first_stays k (flags_of_statements stage target a) (flags_of_statements stage target b) found q))
 
-pub second_decides : (stage target : Bool) (n k j : ℕ) (e : Expression) (a b : Statements) (whole : Statement) (answer : Result ℕ ℕ)
+pub second_decides : (stage target : Bool) (n k j : ℕ) (e : Expression) (a b : Statements) (whole : Statement) (outcome : Result ℕ ℕ)
     → whole ≡ If e a b
     → k ≡ n + length (no_flags e) → Finds (Ok j) k (flags_of_statements stage target a)
-    → Finds answer j (flags_of_statements stage target b)
-    → Finds answer n (flags_of_statement stage target whole)
-second_decides stage target n k j e a b whole answer is p q r =
-    subst (λ s. Finds answer n (flags_of_statement stage target s)) (sym is)
-    (passes_then answer n k (no_flags e) (flags_of_statements stage target a ++ flags_of_statements stage target b)
+    → Finds outcome j (flags_of_statements stage target b)
+    → Finds outcome n (flags_of_statement stage target whole)
+second_decides stage target n k j e a b whole outcome is p q r =
+    subst (λ s. Finds outcome n (flags_of_statement stage target s)) (sym is)
+    (passes_then outcome n k (no_flags e) (flags_of_statements stage target a ++ flags_of_statements stage target b)
     (expression_passes n k e p)
-    (passes_then answer k j (flags_of_statements stage target a) (flags_of_statements stage target b) q r))
+    (passes_then outcome k j (flags_of_statements stage target a) (flags_of_statements stage target b) q r))
 
 pub body_fits : (stage target : Bool) (n k : ℕ) (e : Expression) (a : Statements) (whole : Statement) → whole ≡ While e a
     → Fits n (flags_of_statement stage target whole) → k ≡ n + length (no_flags e) → Fits k (flags_of_statements stage target a)
@@ -179,10 +179,10 @@ body_fits stage target n k e a whole is h p =
     let all : Fits n (flags_of_statement stage target (While e a)) = subst (λ s. Fits n (flags_of_statement stage target s)) is h in
     omega (arith, all, p, length-append (no_flags e) (flags_of_statements stage target a))
 
-pub body_decides : (stage target : Bool) (n k : ℕ) (e : Expression) (a : Statements) (whole : Statement) (answer : Result ℕ ℕ)
+pub body_decides : (stage target : Bool) (n k : ℕ) (e : Expression) (a : Statements) (whole : Statement) (outcome : Result ℕ ℕ)
     → whole ≡ While e a
-    → k ≡ n + length (no_flags e) → Finds answer k (flags_of_statements stage target a)
-    → Finds answer n (flags_of_statement stage target whole)
-body_decides stage target n k e a whole answer is p q =
-    subst (λ s. Finds answer n (flags_of_statement stage target s)) (sym is)
-    (passes_then answer n k (no_flags e) (flags_of_statements stage target a) (expression_passes n k e p) q)
+    → k ≡ n + length (no_flags e) → Finds outcome k (flags_of_statements stage target a)
+    → Finds outcome n (flags_of_statement stage target whole)
+body_decides stage target n k e a whole outcome is p q =
+    subst (λ s. Finds outcome n (flags_of_statement stage target s)) (sym is)
+    (passes_then outcome n k (no_flags e) (flags_of_statements stage target a) (expression_passes n k e p) q)

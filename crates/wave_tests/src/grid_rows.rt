@@ -41,11 +41,18 @@ const TRAP_IN_ROW_1: &str = "limits iterations 3, stages 3, steps 99, emits 1; c
 const TRAP_IN_ROW_2: &str = "limits iterations 3, stages 3, steps 99, emits 1; cell n = 0; \
     pipe_while (1) { let row = 0; let t = 1 / (iter() * 9 + row - 11); } final { emit 1; }";
 
+// As many columns as the limits allow, and as many rows.
+const MOST_COLUMNS: &str = "limits iterations 65536, stages 1, steps 27, emits 1; cell s = 0; \
+    pipe_while (1) { let row = 0; s = s + 1; } final { emit s; }";
+
+const MOST_ROWS: &str = "limits iterations 1, stages 4096, steps 32, emits 1; cell s = 0; \
+    pipe_while (1) { let row = 0; s = s + 1; } final { emit s; }";
+
 // No point waits for the one below its left neighbour.
 const RACING_POINTS: &str = "limits iterations 2, stages 2, steps 50, emits 1; cell s = 0; \
     pipe_while (1) { let row = 0; s = s + 1; }";
 
-// A source, its output, its trap with the row of the point in which it occurs, and the columns, the
+// A source, its output, its trap with the column and the row in which it occurs, and the columns, the
 // closing one included.
 type Row = (
     &'static str,
@@ -54,10 +61,12 @@ type Row = (
     usize,
 );
 
-const ROWS: [Row; 8] = [
+const ROWS: [Row; 10] = [
     (PATHS, &[6], None, 4),
     (ONE_ROW, &[123], None, 5),
     (ONE_COLUMN, &[123], None, 2),
+    (MOST_COLUMNS, &[65536], None, 65537),
+    (MOST_ROWS, &[4096], None, 2),
     (JUST_ENOUGH_STEPS, &[2], None, 2),
     (ONE_STEP_TOO_FEW, &[], Some((Trap::Budget, 0, 0)), 1),
     (TRAP_IN_ROW_0, &[], Some((Trap::DivZero, 1, 0)), 2),
@@ -79,7 +88,16 @@ fn played(alloc: Global, source: &[u8], workers: u32) -> Result<Seen, Fail>
     let checked = lowered(alloc, source)?;
     let code = lower(alloc, &checked)?;
     let input = Numbers::new(alloc);
-    let played = play(alloc, &checked, &code, &input, workers, workers, &[], 1000)?;
+    let played = play(
+        alloc,
+        &checked,
+        &code,
+        &input,
+        workers,
+        workers,
+        &[],
+        1_000_000,
+    )?;
     Ok(Seen { checked, played })
 }
 
