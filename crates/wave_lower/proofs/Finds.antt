@@ -83,8 +83,14 @@ statement_fits stage target ss i n start s h e is few =
     ≡ length (flags_of_statements stage target (Then (statement_of s) rest)) =
     ap (λ t. length (flags_of_statements stage target t)) (statements_from ss i s h e) in
     let numbers = is.numbers in
-    omega (arith, numbers, few, from, length-append (flags_of_statement stage target (statement_of s))
-    (flags_of_statements stage target rest))
+    omega (
+      arith,
+      numbers,
+      few,
+      from,
+      length-append (flags_of_statement stage target (statement_of s))
+          (flags_of_statements stage target rest),
+    )
 
 pub statement_passed : (stage target : Bool) (ss : List Stmt) (i n next start : ℕ) (s : Stmt) → i < length ss → s ≡ get_or ss i s
     → IsLeft stage target ss i n start → Finds (Ok next) n (flags_of_statement stage target (statement_of s))
@@ -98,7 +104,7 @@ statement_passed stage target ss i n next start s h e is p =
     (let at = p.1 in omega (arith, at, length-append flags others)) in
     record {
       found = ap (λ k. first_true k others) p.1 ∙ sym (first_after n flags others p.0)
-      ∙ ap (λ t. first_true n (flags_of_statements stage target t)) from
+          ∙ ap (λ t. first_true n (flags_of_statements stage target t)) from
           ∙ is.found;
       numbers = step ∙ ap (λ t. n + length (flags_of_statements stage target t)) from ∙ is.numbers;
     }

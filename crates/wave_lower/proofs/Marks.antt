@@ -162,8 +162,14 @@ pub body_fits : (tree : SyntaxTree) (n b : ℕ) → tree.test ≡ Number (pos 1)
 body_fits tree n b h small e p =
     let all = marks_fit tree h small in
     let at = p.1 in
-    omega (arith, all, e, at, length-append (flags_of tree.init) (flags_of tree.body ++ flags_of tree.last),
-    length-append (flags_of tree.body) (flags_of tree.last))
+    omega (
+      arith,
+      all,
+      e,
+      at,
+      length-append (flags_of tree.init) (flags_of tree.body ++ flags_of tree.last),
+      length-append (flags_of tree.body) (flags_of tree.last),
+    )
 
 pub last_fits : (tree : SyntaxTree) (n b l : ℕ) → tree.test ≡ Number (pos 1) → size_of tree ≤ LARGEST_WAVE → n ≡ length tree.cells
     → Finds (Ok b) n (flags_of tree.init) → Finds (Ok l) b (flags_of tree.body) → Fits l (flags_of tree.last)
@@ -171,8 +177,15 @@ last_fits tree n b l h small e p q =
     let all = marks_fit tree h small in
     let at = p.1 in
     let after = q.1 in
-    omega (arith, all, e, at, after, length-append (flags_of tree.init) (flags_of tree.body ++ flags_of tree.last),
-    length-append (flags_of tree.body) (flags_of tree.last))
+    omega (
+      arith,
+      all,
+      e,
+      at,
+      after,
+      length-append (flags_of tree.init) (flags_of tree.body ++ flags_of tree.last),
+      length-append (flags_of tree.body) (flags_of tree.last),
+    )
 
 -- the result of the search over all flags is that over all marks
 found_all : (tree : SyntaxTree) (n m : ℕ) → tree.test ≡ Number (pos 1) → n ≡ length tree.cells → Finds (Err m) n (all_flags tree)

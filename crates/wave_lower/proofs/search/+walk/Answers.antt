@@ -48,9 +48,11 @@ find_in_block-returns t c =
 pub find_in_statement-find_in_block-requires : goal.find_in_statement-find_in_block-requires
 find_in_statement-find_in_block-requires t c =
     let is = ap statement_of c.in-If.is ∙ if_seen c.in-If.e c.in-If.a c.in-If.b in
-    let counted = ap statement_count is in
-    (omega (arith, c.decreases, counted), first_fits c.args.stage c.args.target c.args.next _
-    (expression_of c.in-If.e) _ _ _ is c.requires c.after_expression-in-If.ensures)
+    let counted = ap statement_count is in (
+      omega (arith, c.decreases, counted),
+      first_fits c.args.stage c.args.target c.args.next _
+          (expression_of c.in-If.e) _ _ _ is c.requires c.after_expression-in-If.ensures,
+    )
 
 pub find_in_statement-returns-in_err-next-in-If : goal.find_in_statement-returns-in_err-next-in-If
 find_in_statement-returns-in_err-next-in-If t c =
@@ -71,9 +73,11 @@ find_in_statement-find_in_block-requires-in-If t c =
 pub find_in_statement-find_in_block-requires-in-While : goal.find_in_statement-find_in_block-requires-in-While
 find_in_statement-find_in_block-requires-in-While t c =
     let is = ap statement_of c.in-While.is ∙ while_seen c.in-While.e c.in-While.a in
-    let counted = ap statement_count is in
-    (omega (arith, c.decreases, counted), body_fits c.args.stage c.args.target c.args.next _
-    (expression_of c.in-While.e) _ _ is c.requires c.after_expression-in-While.ensures)
+    let counted = ap statement_count is in (
+      omega (arith, c.decreases, counted),
+      body_fits c.args.stage c.args.target c.args.next _
+          (expression_of c.in-While.e) _ _ is c.requires c.after_expression-in-While.ensures,
+    )
 
 pub find_in_statement-returns-in-Let : goal.find_in_statement-returns-in-Let
 find_in_statement-returns-in-Let t c =
