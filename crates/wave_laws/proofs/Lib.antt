@@ -1,0 +1,15 @@
+pub mod Splices
+pub mod Turns
+pub mod Rows
+pub mod Columns
+pub mod Grids
+pub mod GridRaces
+pub mod Precedence
+pub mod UnbrokenMarks
+pub mod LoweredMarks
+pub mod LoweredSizes
+pub mod SmallPrograms
+pub mod Flags
+pub mod StageWords
+pub mod Faultless
+pub mod WavesHaveNoFault
