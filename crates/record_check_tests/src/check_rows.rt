@@ -62,6 +62,17 @@ fn judged(alloc: Global, record: &[u8], throttle: u32) -> Result<Outcome, Fail>
     }
 }
 
+// Fails unless a record is this.
+fn expect(alloc: Global, record: &[u8], throttle: u32, wanted: Outcome) -> Result<(), Fail>
+    requires { 0 < throttle }
+{
+    let outcome = judged(alloc, record, throttle)?;
+    if outcome == wanted {
+        return Ok(());
+    }
+    Err(Fail::new(format_args!("{outcome:?}, and not {wanted:?}")))
+}
+
 fn joined(alloc: Global, lines: &[&str]) -> Result<Vec<u8>, NoMemory> {
     let mut text = Vec::new(alloc);
     for line in lines {
@@ -87,28 +98,21 @@ fn changed(alloc: Global, index: usize, change: &[&str]) -> Result<Vec<u8>, NoMe
 fn records_are_judged(rt: HostRuntime) -> Result<(), Fail> {
     let alloc = rt.alloc();
     let all = joined(alloc, &LINES)?;
-    assert_eq!(rt;
-        judged(alloc, all.as_slice(), 1024)?,
-        Outcome::Run(RunKind::Finished)
-    );
+    expect(alloc, all.as_slice(), 1024, Outcome::Run(RunKind::Finished))?;
     let front = joined(alloc, &LINES[..11])?;
-    assert_eq!(rt;
-        judged(alloc, front.as_slice(), 1024)?,
-        Outcome::Run(RunKind::Unfinished)
-    );
+    expect(
+        alloc,
+        front.as_slice(),
+        1024,
+        Outcome::Run(RunKind::Unfinished),
+    )?;
     let early = changed(alloc, 4, &[])?;
-    assert_eq!(rt;
-        judged(alloc, early.as_slice(), 1024)?,
-        Outcome::NotAllowed(4)
-    );
+    expect(alloc, early.as_slice(), 1024, Outcome::NotAllowed(4))?;
     let named = changed(alloc, 1, &["read 0 m 0\n"])?;
     let mut bad = Vec::from_slice(alloc, b"1\n".as_slice())?;
     bad.extend_from_slice(named.as_slice())?;
-    assert_eq!(rt; judged(alloc, bad.as_slice(), 1024)?, Outcome::BadLine(2));
-    assert_eq!(rt;
-        judged(alloc, b"".as_slice(), 1)?,
-        Outcome::Run(RunKind::Unfinished)
-    );
+    expect(alloc, bad.as_slice(), 1024, Outcome::BadLine(2))?;
+    expect(alloc, b"".as_slice(), 1, Outcome::Run(RunKind::Unfinished))?;
     Ok(())
 }
 
@@ -116,12 +120,9 @@ fn records_are_judged(rt: HostRuntime) -> Result<(), Fail> {
 fn stops_end_a_run(rt: HostRuntime) -> Result<(), Fail> {
     let alloc = rt.alloc();
     let stopped = changed(alloc, 11, &["stop\n"])?;
-    assert_eq!(rt;
-        judged(alloc, stopped.as_slice(), 2)?,
-        Outcome::Run(RunKind::Stopped)
-    );
+    expect(alloc, stopped.as_slice(), 2, Outcome::Run(RunKind::Stopped))?;
     let twice = changed(alloc, 3, &["stop\n"])?;
-    assert_eq!(rt; judged(alloc, twice.as_slice(), 2)?, Outcome::NotAllowed(4));
+    expect(alloc, twice.as_slice(), 2, Outcome::NotAllowed(4))?;
     Ok(())
 }
 
@@ -131,28 +132,24 @@ fn changed_records_are_refused(rt: HostRuntime) -> Result<(), Fail> {
     let alloc = rt.alloc();
     for (k, line) in LINES.iter().enumerate() {
         let doubled = changed(alloc, k, &[*line, *line])?;
-        assert_eq!(rt;
-            judged(alloc, doubled.as_slice(), 1024)?,
-            Outcome::NotAllowed(k as u32 + 1)
-        );
+        expect(
+            alloc,
+            doubled.as_slice(),
+            1024,
+            Outcome::NotAllowed(k as u32 + 1),
+        )?;
         let dropped = changed(alloc, k, &[])?;
         let wanted = match k {
             8 | 11 => Outcome::Run(RunKind::Unfinished),
             _ => Outcome::NotAllowed(k as u32),
         };
-        assert_eq!(rt; judged(alloc, dropped.as_slice(), 1024)?, wanted);
+        expect(alloc, dropped.as_slice(), 1024, wanted)?;
     }
     let value = changed(alloc, 5, &["read 0 n 2\n"])?;
-    assert_eq!(rt;
-        judged(alloc, value.as_slice(), 1024)?,
-        Outcome::NotAllowed(5)
-    );
+    expect(alloc, value.as_slice(), 1024, Outcome::NotAllowed(5))?;
     let ended = changed(alloc, 10, &["read 0 n 1\n"])?;
-    assert_eq!(rt;
-        judged(alloc, ended.as_slice(), 1024)?,
-        Outcome::NotAllowed(10)
-    );
+    expect(alloc, ended.as_slice(), 1024, Outcome::NotAllowed(10))?;
     let alive = changed(alloc, 8, &[])?;
-    assert_eq!(rt; judged(alloc, alive.as_slice(), 1)?, Outcome::NotAllowed(8));
+    expect(alloc, alive.as_slice(), 1, Outcome::NotAllowed(8))?;
     Ok(())
 }
