@@ -4,7 +4,6 @@ use Rattle.std.proofs.lemmas.List.{drop-drop}
 use Rattle.std.proofs.lemmas.List.Elements.{All-push}
 use Rattle.pipe_model.specs.Language.Lexis.{is_blank}
 use Rattle.pipe_io.specs.declared.numerals.Flaw.{Flaw}
-use Rattle.pipe_io.specs.declared.numerals.Flaw.TheVariants as flaws
 use Rattle.pipe_io.specs.declared.numerals.Numeral.{Numeral}
 use Rattle.pipe_io.specs.declared.bounds.TheConstants.{LONGEST_INPUT, MOST_NUMBERS}
 use Rattle.pipe_io.specs.InputFile.{AreNumbersOf, FitsI64, HasBareMinus, HasCutNumber, HasStrayByte, HasTooMany, HasWideNumber, IsFaultOf, IsReached, ListsNumbers, Number, Separator, EndsHere, value_of, EndsNumber}

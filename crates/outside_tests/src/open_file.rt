@@ -1,0 +1,22 @@
+//! A real file that is read on while it is open.
+
+use pipe_io::files::{Files, ReadPart};
+use pipe_io::real::RealFiles;
+use std::fs;
+use std::test::Fail;
+
+#[test]
+fn open_file_is_read_on(rt: HostRuntime) -> Result<(), Fail> {
+    let name = "outside_tests_open_file.txt";
+    let mut files = RealFiles::new(&rt);
+    let mut part = [0; 4];
+    fs::write(&rt, name, b"twice")?;
+    let first = files.read_part(name, 0, &mut part);
+    fs::remove_file(&rt, name)?;
+    assert_eq!(rt; first, ReadPart::Got(4));
+    assert_eq!(rt; files.read_part(name, 4, &mut part), ReadPart::Got(1));
+    assert_eq!(rt; part[0], b'e');
+    // Offset 0 is that of the file which has the name now.
+    assert_eq!(rt; files.read_part(name, 0, &mut part), ReadPart::Missing);
+    Ok(())
+}
