@@ -11,10 +11,14 @@ use std::sync::Wait;
 use std::test::Fail;
 use std::thread::Threads;
 
-// The files of a call: the source `a.pipe` and the input `a.in`.
-fn files(alloc: Global, source: &[u8], input: &[u8]) -> Result<Vec<(String, Bytes)>, NoMemory> {
+// The files of a call: the source `a.pipe`, the input `a.in` and the record `a.log`.
+fn files(alloc: Global, case: &Case<'_>) -> Result<Vec<(String, Bytes)>, NoMemory> {
     let mut files = Vec::new(alloc);
-    for (name, text) in [("a.pipe", source), ("a.in", input)] {
+    for (name, text) in [
+        ("a.pipe", case.source),
+        ("a.in", case.input),
+        ("a.log", case.record),
+    ] {
         let bytes = Bytes::from_vec(text.to_vec(alloc)?);
         files.push((String::from_str(alloc, name)?, bytes))?;
     }
@@ -43,6 +47,7 @@ pub struct Case<'a> {
     pub words: &'a [&'a str],
     pub source: &'a [u8],
     pub input: &'a [u8],
+    pub record: &'a [u8],
     pub read_fails: Option<u32>,
     pub write_fails: Option<u32>,
 }
@@ -54,6 +59,7 @@ impl<'a> Case<'a> {
             words: &["run", "a.pipe", "a.in", "--workers", "1"],
             source,
             input: b"",
+            record: b"",
             read_fails: None,
             write_fails: None,
         }
@@ -83,12 +89,29 @@ impl<'a> Case<'a> {
         }
     }
 
+    // The call that checks the record.
+    pub fn check_record(source: &'a [u8], record: &'a [u8]) -> Self {
+        Case {
+            words: &["check-record", "a.pipe", "a.in", "a.log"],
+            record,
+            ..Case::of(source)
+        }
+    }
+
+    // The call that runs a wave loop with eight workers.
+    pub fn wave(source: &'a [u8]) -> Self {
+        Case {
+            words: &["wave", "a.pipe", "a.in", "--workers", "8"],
+            ..Case::of(source)
+        }
+    }
+
     // Builds the files, the words and the sink, without making the call.
     pub fn set_up(self, alloc: Global) -> Result<Call, NoMemory> {
         let fails = numbers(alloc, self.read_fails)?;
         Ok(Call {
             words: words(alloc, self.words)?,
-            files: MemFiles::new(files(alloc, self.source, self.input)?, 7, fails),
+            files: MemFiles::new(files(alloc, &self)?, 7, fails),
             sink: MemSink::new(alloc, 2, numbers(alloc, self.write_fails)?),
         })
     }

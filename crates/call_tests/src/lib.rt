@@ -10,6 +10,8 @@ mod play_rows;
 #[cfg(test)]
 mod race_rows;
 #[cfg(test)]
+mod record_rows;
+#[cfg(test)]
 mod refusal_tests;
 #[cfg(test)]
 mod row_tests;

@@ -28,7 +28,7 @@ use Rattle.pipe_model.specs.Pipelines.WholePrograms.{program_columns}
 use Rattle.cilkp_program.specs.declared.program_run.TheConstants.{MOST_INSTANCES}
 use Rattle.cilkp_program.specs.SerialResults.{elision_columns, elision_output}
 use Rattle.cilkp_program.specs.Benchmarks.{IsGenerated, elision_summary, last_or_zero, summary_text}
-use Rattle.cilkp_program.specs.CallResults.{IsCallResult, OfRow, SourceFault, InputFault, IsPrinted}
+use Rattle.cilkp_program.specs.CallResults.{IsCallResult, OfRow, SourceFault, InputFault, RecordFault, IsPrinted}
 use Rattle.cilkp_program.specs.declared.load.Input.{Input}
 use Rattle.cilkp_program.specs.declared.load.Input.TheVariants as inputs
 use Rattle.cilkp_program.specs.declared.load.Source.{Source}
@@ -39,8 +39,8 @@ use Rattle.cilkp_program.specs.TakenText.{HasTaken}
 
 -- a generated source is loaded as a program
 pub source_is_accepted : (size : ℕ) (bytes : List ℕ) (source : Source) → 1 ≤ size → size ≤ MOST_SIZE → bytes ≡ source_text size → IsLoadOf bytes source
-    → ((checked : Program) → source ≡ sources.Accepted checked → ⊥) → ⊥
-source_is_accepted size bytes (sources.Accepted checked) some few e loaded other = other checked refl
+    → ((checked : Program) (places : List ℤ) → source ≡ sources.Accepted checked places → ⊥) → ⊥
+source_is_accepted size bytes (sources.Accepted checked places) some few e loaded other = other checked places refl
 source_is_accepted size bytes (sources.Refused line) some few e loaded other =
     refused_not_accepted (generated_tree size) (rw e at loaded.refused) (accepted size some few)
 source_is_accepted size bytes sources.Failed some few e loaded other = loaded
@@ -54,9 +54,9 @@ input_is_read seed size bytes (inputs.Refused line) few e loaded other =
 input_is_read seed size bytes inputs.Failed few e loaded other = loaded
 
 -- the loaded program and numbers are the generated ones
-pub is_generated : (seed size : ℕ) (source input : List ℕ) (checked : Program) (numbers : List ℤ) → source ≡ source_text size → input ≡ input_text seed size
-    → IsLoadOf source (sources.Accepted checked) → IsReadOf input (inputs.Accepted numbers) → IsGenerated seed size (tree_of checked) numbers
-is_generated seed size source input checked numbers e f loaded read = record { program = rw e at loaded; read = rw f at read }
+pub is_generated : (seed size : ℕ) (source input : List ℕ) (checked : Program) (places numbers : List ℤ) → source ≡ source_text size
+    → input ≡ input_text seed size → IsLoadOf source (sources.Accepted checked places) → IsReadOf input (inputs.Accepted numbers) → IsGenerated seed size (tree_of checked) numbers
+is_generated seed size source input checked places numbers e f loaded read = record { program = rw e at loaded.accepted; read = rw f at read }
 
 -- a seed and a size have one program and one list of numbers
 pub one_workload : (seed size : ℕ) (tree other : SyntaxTree) (numbers others : List ℤ) → IsGenerated seed size tree numbers
@@ -115,7 +115,8 @@ summary_outcome tree numbers a (OfRow same row) =
     let one = one_row (bench_asks_no_run a.command) row.row (Benches a.seed a.size tree numbers a.command a.generated) in
     record { done = one.0; text_is = one.1; unlogged = one.2; silent = one.3 }
 summary_outcome tree numbers a (SourceFault s grew rose w) = absurd (bench_has_no_source a.command w)
-summary_outcome tree numbers a (InputFault s i file other grew rose w v known of) = absurd (bench_has_no_source a.command w)
+summary_outcome tree numbers a (InputFault s i file other grew rose w v known of can) = absurd (bench_has_no_source a.command w)
+summary_outcome tree numbers a (RecordFault s i r file others other ns grew rose w v u known also of read) = absurd (bench_has_no_source a.command w)
 
 -- a call whose text was written completely
 pub printed_summary : (asked : Option Command) (holds : Option Content) (before now status written : ℕ) (log : Option RunLog) (reports : List Report)

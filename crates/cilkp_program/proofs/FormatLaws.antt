@@ -5,7 +5,7 @@ use Rattle.pipe_model.specs.declared.report.Report.{Report}
 use Rattle.pipe_model.specs.Language.CanonicalText.{program_text}
 use Rattle.pipe_model.specs.Language.SyntaxTree.{SyntaxTree}
 use Rattle.cilkp_program.specs.TakenText.{HasTaken}
-use Rattle.cilkp_program.specs.CallResults.{IsCallResult, OfRow, SourceFault, InputFault, IsPrinted}
+use Rattle.cilkp_program.specs.CallResults.{IsCallResult, OfRow, SourceFault, InputFault, RecordFault, IsPrinted}
 use Rattle.pipe_io.specs.Faults.{CountRose}
 use Rattle.cilkp_program.specs.Formatting.{ReturnsText, IsToFormat}
 use Rattle.pipe_io.specs.Reads.{Content}
@@ -37,7 +37,8 @@ text_outcome : {asked : Option Command} {content : Content} {before now status :
 text_outcome tree calm a (OfRow same row) =
     text_row tree a.source a.command (rw (row.known.source a.source (rw a.command refl)) at a.program) row.row
 text_outcome tree calm a (SourceFault s grew rose w) = absurd (calm rose)
-text_outcome tree calm a (InputFault s i file other grew rose w v known of) = absurd (calm rose)
+text_outcome tree calm a (InputFault s i file other grew rose w v known of can) = absurd (calm rose)
+text_outcome tree calm a (RecordFault s i r file others other ns grew rose w v u known also of read) = absurd (calm rose)
 
 -- a call whose text was written completely
 pub text_printed : (asked : Option Command) (holds : Option Content) (before now status written : ℕ) (log : Option RunLog) (reports : List Report)

@@ -1,5 +1,5 @@
 -- What meets the headline under a throttling limit meets it under every greater limit.
-use Rattle.std.proofs.Common.{◌≡◌, ◌<◌, ◌≤◌, ◌+◌, ℕ, ℤ, List, arith}
+use Rattle.std.proofs.Common.{◌≤◌, ℕ, ℤ, List, arith}
 use Rattle.pipe_model.specs.declared.event.Event.{Event}
 use Rattle.pipe_model.specs.declared.event.Event.TheVariants.{Begin, Access, Advance, Enter, Finish, Stop}
 use Rattle.pipe_model.specs.declared.event.RunLog.{RunLog}
@@ -7,7 +7,7 @@ use Rattle.pipe_model.specs.declared.report.Report.{Report}
 use Rattle.pipe_model.specs.Language.SyntaxTree.{SyntaxTree}
 use Rattle.pipe_model.specs.Pipelines.Pipeline.{Pipeline}
 use Rattle.pipe_model.specs.Pipelines.WholePrograms.{WholeProgram}
-use Rattle.pipe_model.specs.Runs.Allowed.{Allowed, ControlAllows}
+use Rattle.pipe_model.specs.Runs.Allowed.{ControlAllows}
 use Rattle.pipe_model.specs.Runs.Run.{Run, EmptyRun, RunThen}
 use Rattle.pipe_model.specs.Runs.State.{State}
 use Rattle.pipe_model.specs.Runs.Throttling.{IsThrottled}

@@ -1,9 +1,8 @@
 -- A row that runs a program meets the headline.
 use Rattle.pipe_model.specs.Language.CheckingRules.{BreaksNoRule}
-use Rattle.std.proofs.Common.{◌≡◌, ◌≢◌, ◌≤◌, ◌∙◌, ◌↔◌, ◌++◌, Bool, ℕ, ℤ, List, [], Option, Some, None, IfSome, append-nil, arith, refl, sym}
+use Rattle.std.proofs.Common.{◌≡◌, ◌≢◌, ◌≤◌, ◌∙◌, ◌↔◌, ◌++◌, Bool, ℕ, ℤ, List, [], Option, Some, None, IfSome, append-nil, ap, arith, refl, subst, sym}
 use Rattle.pipe_model.specs.declared.event.RunLog.{RunLog}
 use Rattle.pipe_model.specs.declared.report.Report.{Report}
-use Rattle.pipe_model.specs.Language.SourceRefusals.{IsAccepted}
 use Rattle.pipe_model.specs.Language.SyntaxTree.{SyntaxTree}
 use Rattle.pipe_io.specs.Faults.{CountRose}
 use Rattle.pipe_io.specs.Reads.{Content}
@@ -19,16 +18,16 @@ use Rattle.pipe_model.specs.Runs.Throttling.{IsThrottled}
 use Rattle.pipe_model.specs.Runs.WholeProgramRuns.{IsFinishedProgramRun}
 use Rattle.cilkp_program.proofs.GreaterLimits.{meets_more}
 use Rattle.cilkp_program.specs.RunTexts.{IsPrintedAs, WithRaces, ToItsEnd, WithTrap}
-use Rattle.cilkp_program.proofs.OneCommand.{one_limit, runs_no_command, runs_nothing}
+use Rattle.cilkp_program.proofs.OneCommand.{one_limit, runs_no_command, runs_no_wave, runs_nothing}
 use Rattle.cilkp_program.proofs.OneContent.{one_input, one_source, refused_no_input, refused_not_accepted_file}
-use Rattle.cilkp_program.specs.CallResults.{IsCallResult, OfRow, SourceFault, InputFault, IsPrinted}
+use Rattle.cilkp_program.specs.CallResults.{IsCallResult, OfRow, SourceFault, InputFault, RecordFault, IsPrinted}
 use Rattle.cilkp_program.specs.Headline.{AgreesWithElision, IsToRun, MeetsHeadline}
-use Rattle.cilkp_program.specs.CommandFiles.{asks_record}
+use Rattle.cilkp_program.specs.CommandFiles.{asks_record, asks_wave, program_by}
 use Rattle.cilkp_program.specs.declared.program_run.FinishedRun.{FinishedRun}
 use Rattle.cilkp_program.specs.RecordedRuns.{IsRecordedRun, ReturnsRun, recorded}
 use Rattle.cilkp_program.specs.RunResults.{HasRun, IsFinishedRunOf}
 use Rattle.cilkp_program.specs.ProgramFiles.{FileContents}
-use Rattle.cilkp_program.specs.Rows.{Row, NoCommand, SourceRefused, Formats, Benches, InputRefused, Runs, RunsSerially}
+use Rattle.cilkp_program.specs.Rows.{Row, NoCommand, SourceRefused, Formats, Benches, WaveRefused, InputRefused, Runs, RunsSerially, ChecksRecord}
 use Rattle.cilkp_program.specs.SerialResults.{ElisionHasNoRace, elision_output, elision_trap}
 
 -- what is printed for the elision's output and trap, or for reports that are there exactly if the elision has a race, agrees with the elision
@@ -116,14 +115,20 @@ accepted_row tree numbers limit a s i (NoCommand none) = absurd (runs_no_command
 accepted_row tree numbers limit a s i (SourceRefused source w r) = absurd (refused_not_accepted_file tree r (rw (← s) a.program))
 accepted_row tree numbers limit a s i (Formats source other w o) = absurd (runs_nothing w refl a.runs)
 accepted_row tree numbers limit a s i (Benches seed size other others w g) = absurd (runs_nothing w refl a.runs)
-accepted_row tree numbers limit a s i (InputRefused input other w o r) = absurd (refused_no_input numbers r (rw (← i) a.read))
-accepted_row tree numbers limit a s i (Runs throttle log other others w o m found) =
+accepted_row tree numbers limit a s i (WaveRefused source input workers throttle other w o r) = absurd (runs_nothing w refl a.runs)
+accepted_row tree numbers limit a s i (InputRefused input other w o can r) = absurd (refused_no_input numbers r (rw (← i) a.read))
+accepted_row {asked} {status = status} {text = text} {reports = reports} tree numbers limit a s i (Runs throttle log other others w o m found) =
     let same : other ≡ tree = one_source other tree o.program (rw (← s) a.program) in
     let also : others ≡ numbers = one_input others numbers o.read (rw (← i) a.read) in
     let bound : throttle ≡ a.throttle = one_limit w a.runs in
     let within = a.within in
-    record { log = log; logged = refl; meets = recorded_more throttle limit (omega (arith, bound, within)) (rw (← same, ← also) m) }
+    let plain : program_by (asks_wave asked) other ≡ tree = ap (λ wave. program_by wave other) (runs_no_wave asked a.throttle a.runs) ∙ same in
+    let made : IsRecordedRun (asks_record asked) tree numbers throttle log reports status text =
+    subst (λ t. IsRecordedRun (asks_record asked) t numbers throttle log reports status text) plain
+    (subst (λ n. IsRecordedRun (asks_record asked) (program_by (asks_wave asked) other) n throttle log reports status text) also m) in
+    record { log = log; logged = refl; meets = recorded_more throttle limit (omega (arith, bound, within)) made }
 accepted_row tree numbers limit a s i (RunsSerially source input other others w o r) = absurd (runs_nothing w refl a.runs)
+accepted_row tree numbers limit a s i (ChecksRecord source input saved throttle other others w o r) = absurd (runs_nothing w refl a.runs)
 
 -- the result of a call that runs an accepted program, if no read failed
 result_meets : {asked : Option Command} {content : Content} {before now status : ℕ} {text : List ℕ} {log : Option RunLog} {reports : List Report}
@@ -133,7 +138,8 @@ result_meets : {asked : Option Command} {content : Content} {before now status :
 result_meets tree numbers limit calm a (OfRow same row) =
     accepted_row tree numbers limit a (row.known.source a.source a.names_source) (row.known.input a.input a.names_input) row.row
 result_meets tree numbers limit calm a (SourceFault s grew rose w) = absurd (calm rose)
-result_meets tree numbers limit calm a (InputFault s i file other grew rose w v known of) = absurd (calm rose)
+result_meets tree numbers limit calm a (InputFault s i file other grew rose w v known of can) = absurd (calm rose)
+result_meets tree numbers limit calm a (RecordFault s i r file others other ns grew rose w v u known also of read) = absurd (calm rose)
 
 -- the headline of a call whose text was written completely
 pub printed_meets : (asked : Option Command) (holds : Option Content) (before now status written : ℕ) (log : Option RunLog) (reports : List Report)

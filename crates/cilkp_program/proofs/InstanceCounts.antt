@@ -1,6 +1,6 @@
 -- The number of stage instances of the elision of a generated program.
 use Rattle.pipe_model.specs.Language.CheckingRules.{BreaksNoRule}
-use Rattle.std.proofs.Common.{None, ◌≡◌, ◌<◌, ◌≤◌, ◌+◌, ◌*◌, ℕ, ℤ, zero, suc, List, [], ◌∷◌, get_or, length, take, arith, ap, subst}
+use Rattle.std.proofs.Common.{◌≡◌, ◌<◌, ◌≤◌, ◌+◌, ◌*◌, ℕ, ℤ, zero, suc, List, [], ◌∷◌, get_or, length, take, arith, ap, subst}
 use Rattle.dag_build.specs.NodeColumns.{node_columns}
 use Rattle.grammar_laws.proofs.SourceRefusals.{one_accepted}
 use Rattle.pipe_gen.specs.Workload.{source_text}

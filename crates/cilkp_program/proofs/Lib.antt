@@ -18,3 +18,9 @@ pub mod ElisionOutcomes
 pub mod SerialCallLaws
 pub mod SeededPlays
 pub mod GreaterLimits
+mod OneWave
+mod OneRecord
+mod RunnableLaws
+mod GridCalls
+mod RecordCallLaws
+mod SavedRuns

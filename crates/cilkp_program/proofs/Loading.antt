@@ -1,5 +1,5 @@
 -- Loading a source and an input, from the result of reading a whole file.
-use Rattle.std.proofs.Common.{◌≡◌, ◌<◌, ℕ, List, length, Option, Some, None, Result, Ok, Err, IfOk, IfSome, refl, ap, sym, arith}
+use Rattle.std.proofs.Common.{◌≡◌, ◌<◌, ℕ, ℤ, List, length, Option, Some, None, Result, Ok, Err, IfOk, IfSome, refl, ap, sym, arith}
 use Rattle.std.proofs.lemmas.List.{take_all}
 use Rattle.grammar_laws.proofs.SourceRefusals.{one_refusal}
 use Rattle.pipe_model.specs.declared.bounds.TheConstants.{LONGEST_SOURCE}
@@ -16,8 +16,9 @@ use Rattle.cilkp_program.specs.InputLines.{IsInputLine, input_line}
 use Rattle.pipe_io.specs.declared.whole.Whole.{Whole}
 use Rattle.pipe_io.specs.declared.whole.Whole.TheVariants as whole
 use Rattle.pipe_io.specs.Reads.{Content}
-use Rattle.cilkp_program.specs.ProgramFiles.{InputRefusal, InputMissing, NoNumbers, SourceRefusal, SourceMissing, NotAccepted}
-use Rattle.cilkp_program.specs.LoadedFiles.{AreFaulty, IsInputFrom, IsInputResult, IsLoadOf, IsReadOf, IsSourceFrom, IsSourceResult}
+use Rattle.cilkp_program.specs.ProgramFiles.{InputRefusal, InputMissing, IsSourceOf, NoNumbers, SourceRefusal, SourceMissing, NotAccepted}
+use Rattle.pipe_model.specs.Language.SyntaxTree.{SyntaxTree}
+use Rattle.cilkp_program.specs.LoadedFiles.{AreFaulty, IsInputFrom, IsMarkedSource, IsInputResult, IsLoadOf, IsReadOf, IsSourceFrom, IsSourceResult}
 use Rattle.cilkp_program.specs.declared.load.Input.{Input}
 use Rattle.cilkp_program.specs.declared.load.Input.TheVariants as loaded
 use Rattle.cilkp_program.specs.declared.load.Source.{Source}
@@ -43,19 +44,23 @@ pub of_file : (holds : Option Content) (name : List ℕ) (limit : ℕ) (outcome 
 of_file None name limit outcome up h = let f = some_file limit outcome up in record { file = f.0; known = tt; is = f.1 }
 of_file (Some content) name limit outcome up h = record { file = content name; known = refl; is = h }
 
+-- a source with the offsets of its marks is a source
+pub source_of_marked : {file : Option (List ℕ)} {tree : SyntaxTree} {places : List ℤ} → IsMarkedSource file tree places → IsSourceOf file tree
+source_of_marked s = record { bytes = s.bytes; held = s.held; accepted = s.marked.accepted }
+
 -- the file is missing
-missing_is_none : (file : Option (List ℕ)) (limit : ℕ) → IsWholeOf file limit whole.Missing → file ≡ None
+pub missing_is_none : (file : Option (List ℕ)) (limit : ℕ) → IsWholeOf file limit whole.Missing → file ≡ None
 missing_is_none None limit h = refl
 missing_is_none (Some held) limit h = absurd h
 
 -- the file exists, and is longer than the limit
-too_long_is_held : (file : Option (List ℕ)) (limit : ℕ) (bytes : List ℕ) → IsWholeOf file limit (whole.TooLong bytes)
+pub too_long_is_held : (file : Option (List ℕ)) (limit : ℕ) (bytes : List ℕ) → IsWholeOf file limit (whole.TooLong bytes)
     → (held : List ℕ) × (file ≡ Some held) × (limit < length held) × (limit < length bytes)
 too_long_is_held None limit bytes h = absurd h
 too_long_is_held (Some held) limit bytes h = (held, refl, omega (arith, h.0.1, h.1), h.1)
 
 -- the file exists, and these are its bytes
-bytes_are_held : (file : Option (List ℕ)) (limit : ℕ) (bytes : List ℕ) → IsWholeOf file limit (whole.Bytes bytes) → file ≡ Some bytes
+pub bytes_are_held : (file : Option (List ℕ)) (limit : ℕ) (bytes : List ℕ) → IsWholeOf file limit (whole.Bytes bytes) → file ≡ Some bytes
 bytes_are_held None limit bytes h = absurd h
 bytes_are_held (Some held) limit bytes h = ap Some (sym h.0)
 
@@ -68,8 +73,8 @@ source_is_missing file name line limit e h = rw e (SourceMissing (missing_is_non
 pub file_result : (file : Option (List ℕ)) (name bytes : List ℕ) (limit : ℕ) (source : Source) → IsWholeOf file limit (whole.Bytes bytes)
     → IsLoadOf bytes source
     → IsSourceFrom name file source
-file_result file name bytes limit (sources.Accepted checked) h g =
-    record { bytes = bytes; held = bytes_are_held file limit bytes h; accepted = g }
+file_result file name bytes limit (sources.Accepted checked places) h g =
+    record { bytes = bytes; held = bytes_are_held file limit bytes h; marked = g }
 file_result file name bytes limit (sources.Refused line) h g =
     rw g.line_is (NotAccepted bytes g.refusal (bytes_are_held file limit bytes h) g.refused)
 file_result file name bytes limit sources.Failed h g = absurd g
@@ -84,9 +89,9 @@ source_outcome holds name limit bytes (Err m) f g = g
 -- the lexer refuses the first bytes of a source that is too long, so the source is refused
 prefix_result : (file : Option (List ℕ)) (name bytes : List ℕ) (source : Source) → IsWholeOf file LONGEST_SOURCE (whole.TooLong bytes) → IsLoadOf bytes source
     → IsSourceFrom name file source
-prefix_result file name bytes (sources.Accepted checked) h g =
+prefix_result file name bytes (sources.Accepted checked places) h g =
     let f = too_long_is_held file LONGEST_SOURCE bytes h in
-    let short = g.spelled.lexed.short in
+    let short = g.accepted.spelled.lexed.short in
     absurd (omega (arith, f.3, short))
 prefix_result file name bytes (sources.Refused line) h g =
     let f = too_long_is_held file LONGEST_SOURCE bytes h in

@@ -9,7 +9,7 @@ use Rattle.pipe_io.proofs.OneReading.{one_reading}
 use Rattle.cilkp_program.specs.ProgramFiles.{IsInputOf, IsSourceOf, SourceRefusal, SourceMissing, NotAccepted, InputRefusal, InputMissing, NoNumbers}
 
 -- a file that is missing has no content
-missing_not_held : (file : Option (List ℕ)) (bytes : List ℕ) → file ≡ None → file ≡ Some bytes → ⊥
+pub missing_not_held : (file : Option (List ℕ)) (bytes : List ℕ) → file ≡ None → file ≡ Some bytes → ⊥
 missing_not_held file bytes m h = let e : None ≡ Some bytes = sym m ∙ h in cc (e)
 
 -- the content of a file is unique

@@ -1,18 +1,20 @@
 -- What follows from the status of a result: its cause, and whether there is a run log.
-use Rattle.std.proofs.Common.{◌≡◌, ◌≢◌, ◌≤◌, ◌⊎◌, ◌↔◌, ℕ, Bool, List, Option, Some, None, true, false, refl, inl, inr, arith}
+use Rattle.std.proofs.Common.{◌≡◌, ◌≢◌, ◌≤◌, ◌⊎◌, ◌↔◌, ℕ, ℤ, Bool, List, [], ◌∷◌, Option, Some, None, true, false, refl, inl, inr, arith}
 use Rattle.std.specs.Prelude.{is_some}
 use Rattle.pipe_model.specs.declared.event.RunLog.{RunLog}
 use Rattle.pipe_model.specs.declared.report.Report.{Report}
 use Rattle.pipe_io.specs.Faults.{CountGrew, CountRose, CountsFault}
 use Rattle.pipe_io.specs.Reads.{Content}
 use Rattle.cilkp_words.specs.Commands.{Command}
-use Rattle.cilkp_program.specs.CallResults.{IsCallResult, OfRow, SourceFault, InputFault}
+use Rattle.cilkp_program.specs.CallResults.{IsCallResult, OfRow, SourceFault, InputFault, RecordFault}
 use Rattle.cilkp_program.specs.CommandFiles.{KeepsLog}
 use Rattle.cilkp_program.specs.ProgramFiles.{FileContents}
-use Rattle.cilkp_program.specs.Rows.{Row, NoCommand, SourceRefused, Formats, Benches, InputRefused, Runs, RunsSerially}
+use Rattle.cilkp_program.specs.Rows.{Row, NoCommand, SourceRefused, Formats, Benches, WaveRefused, InputRefused, Runs, RunsSerially, ChecksRecord}
 use Rattle.cilkp_program.proofs.Agreements.{agreed_status}
 use Rattle.cilkp_program.proofs.OneCommand.{bench_keeps_no_log, format_keeps_no_log, run_keeps_log}
 use Rattle.cilkp_program.specs.Headline.{IsRunStatus}
+use Rattle.cilkp_program.specs.RecordResults.{NoRecord, NoRun, RecordResult, RunOf, status_of_reports}
+use Rattle.pipe_model.specs.Language.SyntaxTree.{SyntaxTree}
 use Rattle.cilkp_program.proofs.ElisionOutcomes.{outcome_status}
 
 -- there is a log exactly if the command keeps one, the call was not refused, and no read failed
@@ -68,6 +70,18 @@ with_run log keeps is = record {
   logged = ((λ some. (keeps, (λ one. run_status_is_no_fault is (inl one)), λ four. run_status_is_no_fault is (inr four))), λ logs. refl);
 }
 
+-- a record that is checked
+checked_status : {asked : Option Command} {before now : ℕ} {tree : SyntaxTree} {numbers : List ℤ} {throttle : ℕ} {name : List ℕ} {file : Option (List ℕ)}
+    {status : ℕ} {text : List ℕ} {log : Option RunLog} {reports : List Report} → KeepsLog asked
+    → RecordResult tree numbers throttle name file status text log reports → TellsStatus asked before now status log
+checked_status keeps (NoRecord r) = refusal
+checked_status keeps (NoRun events k h r) = refusal
+checked_status keeps (RunOf events kind log reports h r) = with_run log keeps (reports_status reports)
+  where
+    reports_status : (reports : List Report) → IsRunStatus (status_of_reports reports)
+    reports_status [] = inl refl
+    reports_status (r ∷ rs) = inr (inl refl)
+
 -- the status of a row
 row_status : {before now : ℕ} {asked : Option Command} {held : FileContents} {status : ℕ} {text : List ℕ} {log : Option RunLog} {reports : List Report}
     → Row asked held status text log reports → TellsStatus asked before now status log
@@ -75,16 +89,19 @@ row_status (NoCommand n) = refusal
 row_status (SourceRefused s w r) = refusal
 row_status (Formats s tree w o) = without_log (format_keeps_no_log w) (inl refl)
 row_status (Benches seed size tree numbers w g) = without_log (bench_keeps_no_log w) (inl refl)
-row_status (InputRefused i tree w o r) = refusal
+row_status (WaveRefused s i n k tree w o r) = refusal
+row_status (InputRefused i tree w o can r) = refusal
 row_status (Runs k log tree numbers w a m f) = with_run log (run_keeps_log w) (agreed_status m.meets.agrees)
 row_status (RunsSerially s i tree numbers w a r) = without_log (λ keeps. let d : false ≡ true = rw w at keeps in cc (d)) (outcome_status r)
+row_status (ChecksRecord s i r k tree numbers w a outcome) = checked_status (rw w refl) outcome
 
 -- the status of a result
 tells_status : {asked : Option Command} {holds : Option Content} {before now status : ℕ} {text : List ℕ} {log : Option RunLog} {reports : List Report}
     → IsCallResult asked holds before now status text log reports → TellsStatus asked before now status log
 tells_status (OfRow same row) = row_status row.row
 tells_status (SourceFault s grew rose w) = read_fault rose
-tells_status (InputFault s i file tree grew rose w v known of) = read_fault rose
+tells_status (InputFault s i file tree grew rose w v known of can) = read_fault rose
+tells_status (RecordFault s i r file others tree ns grew rose w v u known also of read) = read_fault rose
 
 -- no result has the status of a write that failed
 pub no_write_fault : {asked : Option Command} {holds : Option Content} {before now status : ℕ} {text : List ℕ} {log : Option RunLog} {reports : List Report}
@@ -116,7 +133,8 @@ pub result_keeps_count : {asked : Option Command} {holds : Option Content} {befo
     → IsCallResult asked holds before now status text log reports → before ≤ now
 result_keeps_count (OfRow same row) = omega (arith, same)
 result_keeps_count (SourceFault s grew rose w) = grew
-result_keeps_count (InputFault s i file tree grew rose w v known of) = grew
+result_keeps_count (InputFault s i file tree grew rose w v known of can) = grew
+result_keeps_count (RecordFault s i r file others tree ns grew rose w v u known also of read) = grew
 
 -- if the count of failed reads grew, the status is that of a read that failed
 pub grown_count_has_status : {asked : Option Command} {holds : Option Content} {before now status : ℕ} {text : List ℕ} {log : Option RunLog}
@@ -124,4 +142,5 @@ pub grown_count_has_status : {asked : Option Command} {holds : Option Content} {
     → IsCallResult asked holds before now status text log reports → CountGrew before now → status ≡ 4
 grown_count_has_status (OfRow same row) g = absurd (omega (arith, same, g))
 grown_count_has_status (SourceFault s grew rose w) g = refl
-grown_count_has_status (InputFault s i file tree grew rose w v known of) g = refl
+grown_count_has_status (InputFault s i file tree grew rose w v known of can) g = refl
+grown_count_has_status (RecordFault s i r file others tree ns grew rose w v u known also of read) g = refl

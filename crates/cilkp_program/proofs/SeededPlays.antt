@@ -7,7 +7,6 @@ use Rattle.pipe_io.specs.Reads.{Content}
 use Rattle.pipe_model.specs.declared.event.RunLog.{RunLog}
 use Rattle.pipe_model.specs.declared.report.Report.{Report}
 use Rattle.pipe_model.specs.Language.ProgramsOfTrees.{whole_of}
-use Rattle.pipe_model.specs.Language.SourceRefusals.{IsAccepted}
 use Rattle.pipe_model.specs.Language.SyntaxTree.{SyntaxTree}
 use Rattle.pipe_model.specs.Races.Reports.{AreRight}
 use Rattle.pipe_model.specs.Runs.RunLogs.{accesses_after, columns_after, ended_columns_after, state_after}
@@ -16,17 +15,17 @@ use Rattle.pipe_model.specs.Runs.WholeProgramRuns.{ProgramIsFinished, ProgramRun
 use Rattle.schedule_play.specs.declared.program_play.Played.{Played}
 use Rattle.schedule_play.specs.ProgramPlays.{HasElisionResults, enough_turns, played_events}
 use Rattle.schedule_play.specs.SeedChoices.{first_choices}
-use Rattle.cilkp_words.specs.Commands.{Command, Play, Run}
+use Rattle.cilkp_words.specs.Commands.{Command, Play, Run, Wave}
 use Rattle.cilkp_program.proofs.HeadlineLaws.{run_returned}
-use Rattle.cilkp_program.proofs.OneCommand.{one_command}
+use Rattle.cilkp_program.proofs.OneCommand.{apart, one_command}
 use Rattle.cilkp_program.proofs.OneContent.{one_input, one_source}
 use Rattle.cilkp_program.specs.CommandFiles.{asks_record}
-use Rattle.cilkp_program.specs.CallResults.{InputFault, IsCallResult, OfRow, SourceFault}
+use Rattle.cilkp_program.specs.CallResults.{InputFault, IsCallResult, OfRow, RecordFault, SourceFault}
 use Rattle.cilkp_program.specs.declared.program_run.FinishedRun.{FinishedRun}
 use Rattle.cilkp_program.specs.Headline.{IsToRun}
 use Rattle.cilkp_program.specs.ProgramFiles.{FileContents}
 use Rattle.cilkp_program.specs.RecordedRuns.{HasSeededEvents, IsFinishedLog, IsToPlay, ReturnsRun, recorded, seeded_events}
-use Rattle.cilkp_program.specs.Rows.{Row, NoCommand, SourceRefused, Formats, Benches, InputRefused, Runs, RunsSerially, IsLogOf, OfPlay, OfRun}
+use Rattle.cilkp_program.specs.Rows.{Row, NoCommand, SourceRefused, Formats, Benches, WaveRefused, InputRefused, Runs, RunsSerially, ChecksRecord, IsLogOf, OfPlay, OfRun, OfWave}
 use Rattle.cilkp_program.specs.RunReports.{run_reports}
 use Rattle.cilkp_program.specs.RunResults.{IsPlayResult, IsSeededPlay}
 use Rattle.cilkp_program.specs.RunTexts.{IsPrintedAs}
@@ -82,6 +81,8 @@ other_log {tree = tree} {numbers = numbers} {limit = limit} source input workers
     let same_limit : limit ≡ throttle = cc (e) in
     let same_seed : seed' ≡ seed = cc (e) in
     is ∙ λ i. seeded_events tree numbers (same_workers i) (same_limit i) (same_seed i)
+other_log {limit = limit} source input workers throttle seed recording w (OfWave source' input' workers' v fits) =
+    let e : Play source input workers throttle seed recording ≡ Wave source' input' workers' limit = one_command w v in absurd (cc (e))
 
 -- the row of a `play` call
 scheduled_row : {asked : Option Command} {content : Content} {held : FileContents} {status : ℕ} {text : List ℕ} {log : Option RunLog}
@@ -96,8 +97,10 @@ scheduled_row tree numbers workers throttle seed a s i (NoCommand none) = tt
 scheduled_row tree numbers workers throttle seed a s i (SourceRefused source w r) = tt
 scheduled_row tree numbers workers throttle seed a s i (Formats source other w o) = tt
 scheduled_row tree numbers workers throttle seed a s i (Benches number size other others w g) = tt
-scheduled_row tree numbers workers throttle seed a s i (InputRefused input other w o r) = tt
+scheduled_row tree numbers workers throttle seed a s i (WaveRefused source input others limit other w o r) = tt
+scheduled_row tree numbers workers throttle seed a s i (InputRefused input other w o can r) = tt
 scheduled_row tree numbers workers throttle seed a s i (RunsSerially source input other others w o r) = tt
+scheduled_row tree numbers workers throttle seed a s i (ChecksRecord source input saved limit other others w o r) = absurd (apart a.command w (λ e. cc (e)))
 
 scheduled_result : {asked : Option Command} {content : Content} {before now status : ℕ} {text : List ℕ} {log : Option RunLog} {reports : List Report}
     (tree : SyntaxTree) (numbers : List ℤ) (workers throttle seed : ℕ)
@@ -106,7 +109,8 @@ scheduled_result : {asked : Option Command} {content : Content} {before now stat
 scheduled_result tree numbers workers throttle seed a (OfRow same row) =
     scheduled_row tree numbers workers throttle seed a (row.known.source a.source (rw a.command refl)) (row.known.input a.input (rw a.command refl)) row.row
 scheduled_result tree numbers workers throttle seed a (SourceFault s grew rose w) = tt
-scheduled_result tree numbers workers throttle seed a (InputFault s i file other grew rose w v known of) = tt
+scheduled_result tree numbers workers throttle seed a (InputFault s i file other grew rose w v known of can) = tt
+scheduled_result tree numbers workers throttle seed a (RecordFault s i r file others other ns grew rose w v u known also of read) = tt
 
 -- the events of a call
 pub call_is_scheduled : (asked : Option Command) (holds : Option Content) (before now status : ℕ) (text : List ℕ) (log : Option RunLog) (reports : List Report)

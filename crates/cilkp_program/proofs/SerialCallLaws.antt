@@ -7,12 +7,12 @@ use Rattle.pipe_io.specs.Faults.{CountRose}
 use Rattle.pipe_io.specs.Reads.{Content}
 use Rattle.cilkp_words.specs.Commands.{Command}
 use Rattle.cilkp_program.proofs.ElisionOutcomes.{outcome_agrees, outcome_is_right, outcome_status}
-use Rattle.cilkp_program.proofs.OneCommand.{no_command, run_is_not_serial, serial_is_not_bench, serial_is_not_format}
+use Rattle.cilkp_program.proofs.OneCommand.{apart, no_command, run_is_not_serial, serial_is_not_bench, serial_is_not_format}
 use Rattle.cilkp_program.proofs.OneContent.{one_input, one_source, refused_no_input, refused_not_accepted_file}
-use Rattle.cilkp_program.specs.CallResults.{IsCallResult, OfRow, SourceFault, InputFault, IsPrinted}
+use Rattle.cilkp_program.specs.CallResults.{IsCallResult, OfRow, SourceFault, InputFault, RecordFault, IsPrinted}
 use Rattle.cilkp_program.specs.ProgramFiles.{FileContents}
 use Rattle.cilkp_program.specs.SerialResults.{ElisionResult}
-use Rattle.cilkp_program.specs.Rows.{Row, NoCommand, SourceRefused, Formats, Benches, InputRefused, Runs, RunsSerially}
+use Rattle.cilkp_program.specs.Rows.{Row, NoCommand, SourceRefused, Formats, Benches, WaveRefused, InputRefused, Runs, RunsSerially, ChecksRecord}
 use Rattle.cilkp_program.specs.SerialCalls.{ReturnsElision, IsToRunSerially}
 
 -- the result is that of the program's elision, without a log
@@ -28,12 +28,14 @@ elided_row tree numbers a s i (NoCommand none) = absurd (no_command none a.comma
 elided_row tree numbers a s i (SourceRefused source w r) = absurd (refused_not_accepted_file tree r (rw (← s) a.program))
 elided_row tree numbers a s i (Formats source other w o) = absurd (serial_is_not_format a.command w)
 elided_row tree numbers a s i (Benches seed size other others w g) = absurd (serial_is_not_bench a.command w)
-elided_row tree numbers a s i (InputRefused input other w o r) = absurd (refused_no_input numbers r (rw (← i) a.read))
+elided_row tree numbers a s i (WaveRefused source input workers throttle other w o r) = absurd (apart a.command w (λ e. cc (e)))
+elided_row tree numbers a s i (InputRefused input other w o can r) = absurd (refused_no_input numbers r (rw (← i) a.read))
 elided_row tree numbers a s i (Runs throttle log other others w o m f) = absurd (run_is_not_serial w a.command)
 elided_row tree numbers a s i (RunsSerially source input other others w o r) =
     let same : other ≡ tree = one_source other tree o.program (rw (← s) a.program) in
     let also : others ≡ numbers = one_input others numbers o.read (rw (← i) a.read) in
     record { unlogged = refl; outcome = rw (← same, ← also) r }
+elided_row tree numbers a s i (ChecksRecord source input saved throttle other others w o r) = absurd (apart a.command w (λ e. cc (e)))
 
 -- the result of a call that runs the elision of an accepted program, if no read failed
 result_elided : {asked : Option Command} {content : Content} {before now status : ℕ} {text : List ℕ} {log : Option RunLog} {reports : List Report}
@@ -43,7 +45,8 @@ result_elided : {asked : Option Command} {content : Content} {before now status 
 result_elided tree numbers calm a (OfRow same row) =
     elided_row tree numbers a (row.known.source a.source (rw a.command refl)) (row.known.input a.input (rw a.command refl)) row.row
 result_elided tree numbers calm a (SourceFault s grew rose w) = absurd (calm rose)
-result_elided tree numbers calm a (InputFault s i file other grew rose w v known of) = absurd (calm rose)
+result_elided tree numbers calm a (InputFault s i file other grew rose w v known of can) = absurd (calm rose)
+result_elided tree numbers calm a (RecordFault s i r file others other ns grew rose w v u known also of read) = absurd (calm rose)
 
 -- a call whose text was written completely
 pub printed_elision : (asked : Option Command) (holds : Option Content) (before now status written : ℕ) (log : Option RunLog) (reports : List Report)

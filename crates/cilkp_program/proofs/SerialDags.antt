@@ -1,15 +1,13 @@
 -- The serial elision of an accepted program as a run, and the dag and the races of its columns and accesses.
 use Rattle.pipe_model.specs.Language.CheckingRules.{BreaksNoRule}
-use Rattle.std.proofs.Common.{None, ◌≡◌, ◌∙◌, ◌<◌, ◌≤◌, ℕ, ℤ, zero, suc, All, List, [], ◌∷◌, Option, length, map, refl, sym, ap, subst, arith}
+use Rattle.std.proofs.Common.{◌≡◌, ◌∙◌, ◌<◌, ◌≤◌, ℕ, ℤ, zero, suc, All, List, [], ◌∷◌, Option, length, map, refl, sym, ap, subst, arith}
 use Rattle.pipe_model.specs.declared.access.NodeAccess.{NodeAccess}
 use Rattle.pipe_model.specs.declared.column.Column.{Column}
 use Rattle.pipe_model.specs.declared.event.Event.{Event}
-use Rattle.pipe_model.specs.declared.event.RunLog.{RunLog}
 use Rattle.pipe_model.specs.declared.node.Node.{Node}
 use Rattle.pipe_model.specs.declared.report.Report.{Report}
 use Rattle.pipe_model.specs.declared.trap.TrapAt.{TrapAt}
 use Rattle.pipe_model.specs.Language.ProgramsOfTrees.{whole_of}
-use Rattle.pipe_model.specs.Language.SourceRefusals.{IsAccepted}
 use Rattle.pipe_model.specs.Language.SyntaxTree.{SyntaxTree}
 use Rattle.pipe_model.specs.Pipelines.Behaviour.{Action, column_of}
 use Rattle.pipe_model.specs.Pipelines.ElisionResults.{ended_column}

@@ -1,5 +1,5 @@
 -- A fault of the lexer, the parser or the checker refuses the source, with the line of that fault.
-use Rattle.std.proofs.Common.{◌≡◌, ℕ, List, Some, None}
+use Rattle.std.proofs.Common.{◌≡◌, ℕ, ℤ, List, Some, None}
 use Rattle.pipe_check.specs.declared.fault.CheckFault.{CheckFault}
 use Rattle.pipe_check.specs.declared.fault.CheckFault.TheVariants as checks
 use Rattle.pipe_check.specs.Passing.{IsFirstFaultOf}
@@ -10,7 +10,7 @@ use Rattle.pipe_model.specs.declared.token.Token.{Token}
 use Rattle.pipe_model.specs.Language.CheckingRules as checking
 use Rattle.pipe_model.specs.Language.CheckingRules.{Broken, fault_of}
 use Rattle.pipe_model.specs.Language.MarkPlaces.{mark_places}
-use Rattle.pipe_model.specs.Language.SourceRefusals.{IsAccepted, Lexical, Syntactic, LimitOut, RuleBroken, ForItsText, ForAToken, ForALimit, ForARule}
+use Rattle.pipe_model.specs.Language.SourceRefusals.{Lexical, Syntactic, LimitOut, RuleBroken, ForItsText, ForAToken, ForALimit, ForARule}
 use Rattle.pipe_model.specs.Language.SourceSpelling.{SourceSpells}
 use Rattle.pipe_model.specs.Language.Spelling as grammar
 use Rattle.pipe_model.specs.Language.Spelling.{Spells}
@@ -20,7 +20,7 @@ use Rattle.pipe_parser.specs.declared.parse.ParseFault.{ParseFault}
 use Rattle.pipe_parser.specs.declared.parse.ParseFault.TheVariants as parser
 use Rattle.pipe_parser.specs.Parses.{IsFault}
 use Rattle.language_laws.proofs.MarkPlaces.{place_of_broken}
-use Rattle.cilkp_program.specs.LoadedFiles.{AreRefused}
+use Rattle.cilkp_program.specs.LoadedFiles.{AreRefused, IsAcceptedWith}
 use Rattle.cilkp_program.specs.RefusalLines.{HasPlace, IsCheckLine, IsLexicalLine, IsRuleLine, IsSyntaxLine}
 
 -- tokens whose symbols spell the program
@@ -82,6 +82,7 @@ program_refused source tree s (checks.NeedsIndex mark) line t r = rule_refused s
 program_refused source tree s (checks.ZeroSize mark) line t r = rule_refused source tree s _ mark line t r
 program_refused source tree s checks.NoMemory line t e = absurd e
 
--- a program that breaks no rule is accepted
-pub program_accepted : (source : List ℕ) (tree : SyntaxTree) → SourceSpells source tree → fault_of tree ≡ None → IsAccepted source tree
-program_accepted source tree s obeys = record { spelled = s; obeys = obeys }
+-- a program that breaks no rule is accepted, with the offsets of its marks
+pub program_accepted : (source : List ℕ) (tree : SyntaxTree) (places : List ℤ) (s : SourceSpells source tree) → fault_of tree ≡ None
+    → places ≡ mark_places s.tokens → IsAcceptedWith source tree places
+program_accepted source tree places s obeys placed = record { accepted = record { spelled = s; obeys = obeys }; placed = placed }

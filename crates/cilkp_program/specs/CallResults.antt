@@ -1,13 +1,13 @@
 -- The result of a call, with the faults in it.
-use Rattle.std.specs.Prelude.{◌≡◌, ◌≤◌, ◌<◌, ℕ, List, [], length, Option, None, IfSome, ◌⊎◌}
+use Rattle.std.specs.Prelude.{◌≡◌, ◌≤◌, ◌<◌, ℕ, ℤ, List, [], length, Option, None, IfSome, ◌⊎◌}
 use Rattle.pipe_model.specs.declared.event.RunLog.{RunLog}
 use Rattle.pipe_model.specs.declared.report.Report.{Report}
 use Rattle.pipe_model.specs.Language.SyntaxTree.{SyntaxTree}
 use Rattle.pipe_model.specs.Texts.{fault_read}
 use Rattle.pipe_io.specs.Faults.{CountRose}
 use Rattle.pipe_io.specs.Reads.{Content}
-use Rattle.cilkp_program.specs.CommandFiles.{NamesInput, NamesSource}
-use Rattle.cilkp_program.specs.ProgramFiles.{AreHeldBy, FileContents, IsSourceOf}
+use Rattle.cilkp_program.specs.CommandFiles.{CanRunBy, NamesInput, NamesRecord, NamesSource, asks_wave}
+use Rattle.cilkp_program.specs.ProgramFiles.{AreHeldBy, FileContents, IsInputOf, IsSourceOf}
 use Rattle.cilkp_program.specs.Rows.{Row}
 use Rattle.cilkp_program.specs.TakenText.{HasTaken}
 use Rattle.cilkp_words.specs.Commands.{Command}
@@ -19,7 +19,8 @@ pub record IsRow (asked : Option Command) (holds : Option Content) (status : ℕ
   pub row : Row asked held status text log reports
 
 -- the status, the text, the run log and the reports of a call: those of its row if no read failed, and otherwise the line of the fault, which is the
--- input's only if the source is an accepted program to run. `before` and `now` are the counts of faults before and after the call
+-- input's only if the source is an accepted program to run, and the record's only if the input is accepted too. `before` and `now` are the counts of
+-- faults before and after the call
 pub data IsCallResult (asked : Option Command) (holds : Option Content) (before now : ℕ) : ℕ → List ℕ → Option RunLog → List Report → Type 0 where
   OfRow : {status : ℕ} {text : List ℕ} {log : Option RunLog} {reports : List Report} → now ≡ before → IsRow asked holds status text log reports
       → IsCallResult asked holds before now status text log reports
@@ -27,7 +28,12 @@ pub data IsCallResult (asked : Option Command) (holds : Option Content) (before 
       → IsCallResult asked holds before now 4 (fault_read source) None []
   InputFault : (source input : List ℕ) (file : Option (List ℕ)) (tree : SyntaxTree) → before ≤ now → CountRose before now → NamesSource asked source
       → NamesInput asked input
-      → IfSome holds (λ content. content source ≡ file) → IsSourceOf file tree → IsCallResult asked holds before now 4 (fault_read input) None []
+      → IfSome holds (λ content. content source ≡ file) → IsSourceOf file tree → CanRunBy (asks_wave asked) tree
+      → IsCallResult asked holds before now 4 (fault_read input) None []
+  RecordFault : (source input saved : List ℕ) (file other : Option (List ℕ)) (tree : SyntaxTree) (numbers : List ℤ) → before ≤ now → CountRose before now
+      → NamesSource asked source → NamesInput asked input → NamesRecord asked saved → IfSome holds (λ content. content source ≡ file)
+      → IfSome holds (λ content. content input ≡ other) → IsSourceOf file tree → IsInputOf other numbers
+      → IsCallResult asked holds before now 4 (fault_read saved) None []
 
 -- the call's text was written completely
 pub record IsPrinted (asked : Option Command) (holds : Option Content) (faults_before faults_now status written : ℕ) (log : Option RunLog)

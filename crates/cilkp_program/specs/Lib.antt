@@ -18,3 +18,9 @@ pub mod RefusalLines
 pub mod CallResults
 pub mod PreparedFiles
 pub mod LoadedFiles
+pub mod WaveRefusals
+pub mod WaveCalls
+pub mod RecordResults
+pub mod RecordCalls
+pub mod LoadedRecords
+pub mod RunnablePrograms

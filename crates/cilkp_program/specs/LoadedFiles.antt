@@ -1,21 +1,22 @@
 -- The results of loading a source and an input.
-use Rattle.std.specs.Prelude.{◌≡◌, ℕ, List, Option, IfSome, Bool, true, false}
+use Rattle.std.specs.Prelude.{◌≡◌, ℕ, ℤ, List, Option, Some, IfSome, Bool, true, false}
 use Rattle.pipe_model.specs.Language.SourceRefusals.{IsAccepted, IsRefused, Refusal}
-use Rattle.pipe_model.specs.Language.SyntaxTree.{tree_of}
+use Rattle.pipe_model.specs.Language.MarkPlaces.{mark_places}
+use Rattle.pipe_model.specs.Language.SyntaxTree.{SyntaxTree, tree_of}
 use Rattle.pipe_model.specs.Texts.{refusal_line}
 use Rattle.cilkp_program.specs.declared.load.Source.{Source}
 use Rattle.cilkp_program.specs.declared.load.Source.TheVariants as sources
 use Rattle.cilkp_program.specs.declared.load.Input.{Input}
 use Rattle.cilkp_program.specs.declared.load.Input.TheVariants as inputs
 use Rattle.pipe_io.specs.Reads.{Content}
-use Rattle.cilkp_program.specs.ProgramFiles.{InputRefusal, IsInputOf, IsSourceOf, SourceRefusal}
+use Rattle.cilkp_program.specs.ProgramFiles.{InputRefusal, IsInputOf, SourceRefusal}
 use Rattle.cilkp_program.specs.InputLines.{input_line}
 use Rattle.pipe_io.specs.declared.input_fault.InputFault.{InputFault}
 use Rattle.pipe_io.specs.InputFile.{AreNumbersOf, HasFault}
 
 -- whether a read of the source failed
 abbrev pub is_source_fault : Source → Bool
-is_source_fault (sources.Accepted checked) = false
+is_source_fault (sources.Accepted checked places) = false
 is_source_fault (sources.Refused line) = false
 is_source_fault sources.Failed = true
 
@@ -25,15 +26,26 @@ pub record AreRefused (bytes line : List ℕ) : Type 0 where
   pub refused : IsRefused bytes refusal
   pub line_is : line ≡ refusal_line refusal
 
+-- the bytes are accepted as the program, whose marks have these offsets
+pub record IsAcceptedWith (bytes : List ℕ) (tree : SyntaxTree) (places : List ℤ) : Type 0 where
+  pub accepted : IsAccepted bytes tree
+  pub placed : places ≡ mark_places accepted.spelled.tokens
+
 -- the result of loading these bytes
 abbrev pub IsLoadOf : List ℕ → Source → Type 0
-IsLoadOf bytes (sources.Accepted checked) = IsAccepted bytes (tree_of checked)
+IsLoadOf bytes (sources.Accepted checked places) = IsAcceptedWith bytes (tree_of checked) places
 IsLoadOf bytes (sources.Refused line) = AreRefused bytes line
 IsLoadOf bytes sources.Failed = ⊥
 
+-- the file holds a source that is accepted as the program, whose marks have these offsets
+pub record IsMarkedSource (file : Option (List ℕ)) (tree : SyntaxTree) (places : List ℤ) : Type 0 where
+  pub bytes : List ℕ
+  pub held : file ≡ Some bytes
+  pub marked : IsAcceptedWith bytes tree places
+
 -- the result of loading this file as a source: its program, or the line that refuses it
 abbrev pub IsSourceFrom : List ℕ → Option (List ℕ) → Source → Type 0
-IsSourceFrom name file (sources.Accepted checked) = IsSourceOf file (tree_of checked)
+IsSourceFrom name file (sources.Accepted checked places) = IsMarkedSource file (tree_of checked) places
 IsSourceFrom name file (sources.Refused line) = SourceRefusal name file line
 IsSourceFrom name file sources.Failed = Unit {0}
 

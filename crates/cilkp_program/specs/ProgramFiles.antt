@@ -3,22 +3,24 @@ use Rattle.std.specs.Prelude.{◌≡◌, ℕ, ℤ, List, Option, Some, None}
 use Rattle.pipe_model.specs.Language.SourceRefusals.{IsAccepted, IsRefused, Refusal}
 use Rattle.pipe_model.specs.Language.SyntaxTree.{SyntaxTree}
 use Rattle.pipe_model.specs.Texts.{refusal_line, refused_missing}
-use Rattle.cilkp_program.specs.CommandFiles.{NamesInput, NamesSource}
+use Rattle.cilkp_program.specs.CommandFiles.{NamesInput, NamesRecord, NamesSource}
 use Rattle.cilkp_program.specs.InputLines.{input_line}
 use Rattle.cilkp_words.specs.Commands.{Command}
 use Rattle.pipe_io.specs.declared.input_fault.InputFault.{InputFault}
 use Rattle.pipe_io.specs.InputFile.{AreNumbersOf, HasFault}
 use Rattle.pipe_io.specs.Reads.{Content}
 
--- the content of a command's source and input; none for a file that does not exist
+-- the content of a command's source, input and record; none for a file that does not exist
 pub record FileContents : Type 0 where
   pub source : Option (List ℕ)
   pub input : Option (List ℕ)
+  pub saved : Option (List ℕ)
 
--- `held` is the content of the command's source and input
+-- `held` is the content of the command's source, input and record
 pub record AreHeldBy (content : Content) (asked : Option Command) (held : FileContents) : Type 0 where
   pub source : (name : List ℕ) → NamesSource asked name → content name ≡ held.source
   pub input : (name : List ℕ) → NamesInput asked name → content name ≡ held.input
+  pub saved : (name : List ℕ) → NamesRecord asked name → content name ≡ held.saved
 
 -- the file holds a source that is accepted as the program
 pub record IsSourceOf (file : Option (List ℕ)) (tree : SyntaxTree) : Type 0 where

@@ -1,5 +1,5 @@
--- The line of each fault of the lexer, the parser and the checker. Out of memory has none.
-use Rattle.std.specs.Prelude.{◌≡◌, ℕ, ℤ, pos, List, slice_get, Some}
+-- The line of each fault of the lexer, the parser and the checker, and of each fault of a wave loop. Out of memory has none.
+use Rattle.std.specs.Prelude.{◌≡◌, ℕ, ℤ, pos, List, slice_get, Some, codes}
 use Rattle.pipe_check.specs.declared.fault.CheckFault.{CheckFault}
 use Rattle.pipe_check.specs.declared.fault.CheckFault.TheVariants as checks
 use Rattle.pipe_lexer.specs.declared.fault.LexFault.{LexFault}
@@ -9,7 +9,9 @@ use Rattle.pipe_parser.specs.declared.parse.ParseFault.TheVariants as parser
 use Rattle.pipe_model.specs.Language.CheckingRules as checking
 use Rattle.pipe_model.specs.Language.SourceRefusals.{LimitOut}
 use Rattle.pipe_model.specs.Language.Spelling as grammar
-use Rattle.pipe_model.specs.Texts.{lexical_line, refusal_line, rule_line, syntax_line}
+use Rattle.pipe_model.specs.Texts.{lexical_line, numbered_line, refusal_line, rule_line, syntax_line}
+use Rattle.wave_lower.specs.declared.fault.WaveFault.{WaveFault}
+use Rattle.wave_lower.specs.declared.fault.WaveFault.TheVariants as waves
 use Rattle.pipe_model.specs.Language.Tokens.{BadByte, TooWide, SourceTooLong, NameTooLong}
 
 -- the line of a fault of the lexer
@@ -62,3 +64,25 @@ IsCheckLine (checks.NotAnArray mark) places line = IsRuleLine checking.NotAnArra
 IsCheckLine (checks.NeedsIndex mark) places line = IsRuleLine checking.NeedsIndex places mark line
 IsCheckLine (checks.ZeroSize mark) places line = IsRuleLine checking.ZeroSize places mark line
 IsCheckLine checks.NoMemory places line = ⊥
+
+-- if a fault of a wave loop has a mark, the mark has an offset
+abbrev pub HasWavePlace : WaveFault → List ℤ → Type 0
+HasWavePlace waves.BadTest places = Unit {0}
+HasWavePlace waves.NoRow places = Unit {0}
+HasWavePlace (waves.HasStage mark) places = HasPlaceAt places mark
+HasWavePlace (waves.RowSet mark) places = HasPlaceAt places mark
+HasWavePlace waves.NoMemory places = Unit {0}
+
+-- the line ends in the offset of the mark with this number
+pub record IsMarkLine (before : List ℕ) (places : List ℤ) (mark : ℕ) (line : List ℕ) : Type 0 where
+  pub place : ℕ
+  pub found : slice_get places mark ≡ Some (pos place)
+  pub line_is : line ≡ numbered_line before place
+
+-- the line of a fault of a wave loop
+abbrev pub IsWaveFaultLine : WaveFault → List ℤ → List ℕ → Type 0
+IsWaveFaultLine waves.BadTest places line = line ≡ codes "refused wave BadTest\n"
+IsWaveFaultLine waves.NoRow places line = line ≡ codes "refused wave NoRow\n"
+IsWaveFaultLine (waves.HasStage mark) places line = IsMarkLine (codes "refused wave HasStage at ") places mark line
+IsWaveFaultLine (waves.RowSet mark) places line = IsMarkLine (codes "refused wave RowSet at ") places mark line
+IsWaveFaultLine waves.NoMemory places line = ⊥

@@ -6,23 +6,30 @@ use Rattle.pipe_model.specs.Language.CanonicalText.{program_text}
 use Rattle.pipe_model.specs.Language.SyntaxTree.{SyntaxTree}
 use Rattle.pipe_model.specs.Texts.{refused_usage}
 use Rattle.cilkp_program.specs.Benchmarks.{IsGenerated, elision_summary}
-use Rattle.cilkp_program.specs.CommandFiles.{NamesInput, NamesSource, asks_record}
+use Rattle.cilkp_program.specs.CommandFiles.{CanRunBy, NamesInput, NamesSource, asks_record, asks_wave, program_by}
 use Rattle.cilkp_program.specs.ProgramFiles.{AreAccepted, FileContents, InputRefusal, IsSourceOf, SourceRefusal}
 use Rattle.cilkp_program.specs.RecordedRuns.{IsRecordedRun, seeded_events}
+use Rattle.cilkp_program.specs.RecordResults.{RecordResult}
 use Rattle.cilkp_program.specs.RunReports.{run_reports}
 use Rattle.cilkp_program.specs.SerialResults.{ElisionResult}
-use Rattle.cilkp_words.specs.Commands.{Command, Run, Play, Serial, Format, Bench}
+use Rattle.cilkp_program.specs.WaveRefusals.{IsRefusedWave}
+use Rattle.wave_laws.specs.Waves.WaveFaults.{wave_fault}
+use Rattle.cilkp_words.specs.Commands.{Command, Run, Play, Serial, Format, Bench, CheckRecord, Wave}
 
--- the log may be one of a command that makes a run: `run` may have any, and that of `play` has the events that the choices of its seed make
+-- the log may be one of a command that makes a run: `run`, and `wave` for a wave loop, may have any, and that of `play` has the events that the choices of its
+-- seed make
 pub data IsLogOf (asked : Option Command) (tree : SyntaxTree) (numbers : List ℤ) (throttle : ℕ) (log : RunLog) : Type 0 where
   OfRun : (source input : List ℕ) (workers : ℕ) (recording : Bool) → asked ≡ Some (Run source input workers throttle recording)
       → IsLogOf asked tree numbers throttle log
   OfPlay : (source input : List ℕ) (workers seed : ℕ) (recording : Bool) → asked ≡ Some (Play source input workers throttle seed recording)
       → log.events ≡ seeded_events tree numbers workers throttle seed → IsLogOf asked tree numbers throttle log
+  OfWave : (source input : List ℕ) (workers : ℕ) → asked ≡ Some (Wave source input workers throttle) → wave_fault tree ≡ None
+      → IsLogOf asked tree numbers throttle log
 
 -- the row of a call by its command and its files: its status, its text, its run log if it keeps one, and its reports.
 -- The words are refused before the source, and the source before the input. A `run` command may have any run that meets the headline under its throttling
--- limit, and a `play` command has the one of its seed; both report what the histories of that run find. All other commands have one result
+-- limit, and a `play` command has the one of its seed; both report what the histories of that run find. A `wave` command refuses a program that is no wave
+-- loop before its input, and otherwise has a run of the lowered program, as `run` has one. All other commands have one result
 pub data Row (asked : Option Command) (held : FileContents) : ℕ → List ℕ → Option RunLog → List Report → Type 0 where
   NoCommand : asked ≡ None → Row asked held 1 refused_usage None []
   SourceRefused : (source : List ℕ) {text : List ℕ} → NamesSource asked source → SourceRefusal source held.source text → Row asked held 1 text None []
@@ -30,12 +37,17 @@ pub data Row (asked : Option Command) (held : FileContents) : ℕ → List ℕ �
       → Row asked held 0 (program_text tree) None []
   Benches : (seed size : ℕ) (tree : SyntaxTree) (numbers : List ℤ) → asked ≡ Some (Bench seed size) → IsGenerated seed size tree numbers
       → Row asked held 0 (elision_summary tree numbers) None []
-  InputRefused : (input : List ℕ) {text : List ℕ} (tree : SyntaxTree) → NamesInput asked input → IsSourceOf held.source tree
+  WaveRefused : (source input : List ℕ) (workers throttle : ℕ) {text : List ℕ} (tree : SyntaxTree) → asked ≡ Some (Wave source input workers throttle)
+      → IsSourceOf held.source tree → IsRefusedWave held.source tree text → Row asked held 1 text None []
+  InputRefused : (input : List ℕ) {text : List ℕ} (tree : SyntaxTree) → NamesInput asked input → IsSourceOf held.source tree → CanRunBy (asks_wave asked) tree
       → InputRefusal input held.input text → Row asked held 1 text None []
   Runs : (throttle : ℕ) {status : ℕ} {text : List ℕ} {reports : List Report} (log : RunLog) (tree : SyntaxTree) (numbers : List ℤ)
       → IsLogOf asked tree numbers throttle log → AreAccepted held tree numbers
-      → IsRecordedRun (asks_record asked) tree numbers throttle log reports status text → reports ≡ run_reports log
+      → IsRecordedRun (asks_record asked) (program_by (asks_wave asked) tree) numbers throttle log reports status text → reports ≡ run_reports log
       → Row asked held status text (Some log) reports
   RunsSerially : (source input : List ℕ) {status : ℕ} {text : List ℕ} {reports : List Report} (tree : SyntaxTree) (numbers : List ℤ)
       → asked ≡ Some (Serial source input) → AreAccepted held tree numbers → ElisionResult tree numbers status text reports
       → Row asked held status text None reports
+  ChecksRecord : (source input saved : List ℕ) (throttle : ℕ) {status : ℕ} {text : List ℕ} {log : Option RunLog} {reports : List Report} (tree : SyntaxTree)
+      (numbers : List ℤ) → asked ≡ Some (CheckRecord source input saved throttle) → AreAccepted held tree numbers
+      → RecordResult tree numbers throttle saved held.saved status text log reports → Row asked held status text log reports

@@ -7,7 +7,7 @@ use Rattle.pipe_model.specs.Races.Reports.{AreRight}
 use Rattle.pipe_model.specs.Runs.RunLogs.{accesses_after, columns_after}
 use Rattle.pipe_model.specs.Runs.Throttling.{IsThrottled}
 use Rattle.pipe_model.specs.Runs.WholeProgramRuns.{IsFinishedProgramRun}
-use Rattle.cilkp_program.specs.declared.call.CommandResult.{CommandResult}
+use Rattle.cilkp_program.specs.declared.command_result.CommandResult.{CommandResult}
 use Rattle.cilkp_program.specs.declared.program_run.FinishedRun.{FinishedRun}
 use Rattle.cilkp_program.specs.RecordedRuns.{IsRecordedRun, seeded_events}
 use Rattle.cilkp_program.specs.RunReports.{run_reports}

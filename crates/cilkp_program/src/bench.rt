@@ -32,7 +32,7 @@ fn generated_program(alloc: Global, seed: u32, size: u32) -> Result<(Checked, Nu
     ensures { IfOk result (λ r. IsGenerated seed size (tree_of r.0) r.1) }
 {
     let generated = generate(alloc, seed, size)?;
-    let Source::Accepted(program) = source_of(alloc, generated.source.as_slice())? else {
+    let Source::Accepted(program, _) = source_of(alloc, generated.source.as_slice())? else {
         unreachable!()
     };
     let Input::Accepted(numbers) = input_of(alloc, generated.input.as_slice())? else {

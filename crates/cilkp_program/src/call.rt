@@ -1,34 +1,37 @@
-//! The top call: runs a program, plays it by a schedule, runs its serial elision alone, prints its canonical text, or runs a
-//! generated program and prints a summary.
+//! The top call: runs a program, plays it by a schedule, runs its serial elision alone, prints its canonical text, runs a
+//! generated program and prints a summary, checks a saved run log, or runs a wave loop.
 
 ghost use Rattle.std.specs.Prelude.{◌≡◌, ◌≢◌, ℕ, ℤ, ◌≤◌, ◌⊎◌, ◌↔◌, List, [], Option, None, Some, IfOk, IfSome, OnErr, is_some, true};
 ghost use Rattle.pipe_model.specs.Language.CanonicalText.{program_text};
 ghost use Rattle.pipe_model.specs.Language.CheckingRules.{BreaksNoRule};
 ghost use Rattle.pipe_model.specs.Language.SyntaxTree.{SyntaxTree, tree_of};
-ghost use Rattle.pipe_model.specs.Texts.{fault_read};
 ghost use Rattle.cilkp_program.specs.CallResults.{IsCallResult, IsPrinted, IsCutShort, IsGivenUp};
 ghost use Rattle.pipe_io.specs.Faults.{CountGrew, CountRose};
 ghost use Rattle.cilkp_program.specs.Formatting.{ReturnsText, IsToFormat};
 ghost use Rattle.cilkp_program.specs.Headline.{IsToRun};
 ghost use Rattle.cilkp_program.specs.RecordedRuns.{HasSeededEvents, IsFinishedLog, IsToPlay, ReturnsRun};
 ghost use Rattle.cilkp_program.specs.RunResults.{IsPlayResult, IsRunResult};
-ghost use Rattle.cilkp_program.specs.PreparedFiles.{IsPreparation};
 ghost use Rattle.cilkp_program.specs.CommandFiles.{KeepsLog, asks_record};
 ghost use Rattle.cilkp_program.specs.BenchCalls.{IsToBench, ReturnsSummary};
 ghost use Rattle.cilkp_program.specs.SerialResults.{ElisionResult};
 ghost use Rattle.cilkp_words.specs.CommandRanges.{IsInRange};
-ghost use Rattle.cilkp_words.specs.Commands.{Bench, Format, Play, Run, Serial, command_data};
+ghost use Rattle.cilkp_words.specs.Commands.{Bench, CheckRecord, Format, Play, Run, Serial, Wave, command_data};
 ghost use Rattle.cilkp_words.specs.declared.ranges.TheConstants as ranges;
 ghost use Rattle.pipe_gen.specs.declared.choices.TheConstants as seeds;
 ghost use Rattle.pipe_io.specs.Reads.{Content};
 ghost use Rattle.cilkp_words.specs.CommandWords.{command_of, words_of};
 ghost use Rattle.cilkp_program.specs.SerialCalls.{ReturnsElision, IsToRunSerially};
+ghost use Rattle.cilkp_program.specs.RecordCalls.{IsToCheck, ReturnsCheck};
+ghost use Rattle.cilkp_program.specs.WaveCalls.{IsToRunWave, ReturnsGrid};
 
 use crate::bench::bench;
-use crate::load::{Input, Source, load_input, load_source};
+use crate::command_result::{CommandResult, read_fault, refused};
+use crate::load::{Source, load_source};
+use crate::prepare::{Prepared, prepare};
 use crate::program_play::play_program;
 use crate::program_run::{printed_run, recorded, run_elision, run_program};
-use crate::text::{line, named_line};
+use crate::saved_run::check_saved;
+use crate::text::line;
 use cilkp_words::commands::Command;
 use cilkp_words::words::read_words;
 use pipe_check::checked::Checked;
@@ -48,10 +51,6 @@ use std::thread::Threads;
 
 const FINISHED: u8 = 0;
 
-const REFUSED: u8 = 1;
-
-const READ_FAULT: u8 = 4;
-
 const WRITE_FAULT: u8 = 5;
 
 /// How a call ended.
@@ -61,31 +60,13 @@ pub struct Ended {
     /// generated one was printed. 1: the words, the source or the input were refused. 2: the program
     /// has a race. 3: the run trapped. 4: a read failed. 5: a write failed.
     pub status: u8,
-    /// The events of the run and its columns; `None` if no program was run, or only its serial
-    /// elision.
+    /// The events of the run, or of the saved run that was checked, and its columns; `None` if there
+    /// is none, or only the serial elision was run.
     pub run_log: Option<RunLog>,
     /// A race of each cell that has one, rising by cell; empty if no program was run.
     pub reports: Reports,
     /// The number of bytes that the sink took in the call.
     pub written: u64,
-}
-
-// The result of a command before its text is printed.
-#[derive(Drop)]
-struct CommandResult {
-    status: u8,
-    text: Bytes,
-    run_log: Option<RunLog>,
-    reports: Reports,
-}
-
-// The files of a command before its program runs.
-#[derive(Drop)]
-enum Prepared {
-    // The program of the accepted source, and the numbers of the input.
-    Ready(Checked, Numbers),
-    // The source or the input is refused or cannot be read.
-    Decided(CommandResult),
 }
 
 // The status, text, log and reports of the program's run.
@@ -160,28 +141,6 @@ fn elision_result(
     })
 }
 
-fn refused(alloc: Global, text: Bytes) -> CommandResult
-    ensures { result ≡ record { status = 1; text = text; run_log = None; reports = [] } }
-{
-    CommandResult {
-        status: REFUSED,
-        text,
-        run_log: None,
-        reports: Reports::new(alloc),
-    }
-}
-
-fn read_fault(alloc: Global, name: &str) -> Result<CommandResult, NoMemory>
-    ensures { IfOk result (λ a. a ≡ record { status = 4; text = fault_read name.now; run_log = None; reports = [] }) }
-{
-    Ok(CommandResult {
-        status: READ_FAULT,
-        text: named_line(alloc, "fault read ", name)?,
-        run_log: None,
-        reports: Reports::new(alloc),
-    })
-}
-
 // The result of `format` for an accepted program: its canonical text.
 fn text_of(alloc: Global, program: &Program) -> Result<CommandResult, NoMemory>
     ensures { IfOk result (λ a. a ≡ record { status = 0; text = program_text (tree_of program.now); run_log = None; reports = [] }) }
@@ -192,30 +151,6 @@ fn text_of(alloc: Global, program: &Program) -> Result<CommandResult, NoMemory>
         run_log: None,
         reports: Reports::new(alloc),
     })
-}
-
-// Loads the files of a command that runs a program, the source first.
-fn prepare<F: Files>(
-    alloc: Global,
-    files: &mut F,
-    source: &str,
-    input: &str,
-) -> Result<Prepared, NoMemory>
-    ensures keeps { F.holds files.new ≡ F.holds files.old }
-    ensures grows { OnErr result (F.faults files.old ≤ F.faults files.new) }
-    ensures prepared { IfOk result (λ p. IsPreparation (F.holds files.old) (F.faults files.old) (F.faults files.new)
-        source.now input.now p) }
-{
-    let program = match load_source(alloc, files, source)? {
-        Source::Accepted(program) => program,
-        Source::Refused(text) => return Ok(Prepared::Decided(refused(alloc, text))),
-        Source::Failed => return Ok(Prepared::Decided(read_fault(alloc, source)?)),
-    };
-    match load_input(alloc, files, input)? {
-        Input::Accepted(numbers) => Ok(Prepared::Ready(program, numbers)),
-        Input::Refused(text) => Ok(Prepared::Decided(refused(alloc, text))),
-        Input::Failed => Ok(Prepared::Decided(read_fault(alloc, input)?)),
-    }
 }
 
 // The result of `run SOURCE INPUT` with these options.
@@ -236,7 +171,7 @@ fn execute_run<R: Threads + Wait + Sync, F: Files, G: Gate + Sync>(
     ensures outcome { IfOk result (λ a. IsCallResult (Some (Run source.now input.now workers throttle with_log)) (F.holds files.old)
         (F.faults files.old) (F.faults files.new) a.status a.text a.run_log a.reports) }
 {
-    match prepare(alloc, files, source, input)? {
+    match prepare(alloc, files, source, input, false)? {
         Prepared::Ready(program, numbers) => run_result(
             rt, alloc, &program, &numbers, workers, throttle, with_log, gate,
         ),
@@ -261,7 +196,7 @@ fn execute_play<F: Files>(
     ensures outcome { IfOk result (λ a. IsCallResult (Some (Play source.now input.now workers throttle seed with_log)) (F.holds files.old)
         (F.faults files.old) (F.faults files.new) a.status a.text a.run_log a.reports) }
 {
-    match prepare(alloc, files, source, input)? {
+    match prepare(alloc, files, source, input, false)? {
         Prepared::Ready(program, numbers) => play_result(
             alloc, &program, &numbers, workers, throttle, seed, with_log,
         ),
@@ -281,7 +216,7 @@ fn execute_serial<F: Files>(
     ensures outcome { IfOk result (λ a. IsCallResult (Some (Serial source.now input.now)) (F.holds files.old)
         (F.faults files.old) (F.faults files.new) a.status a.text a.run_log a.reports) }
 {
-    match prepare(alloc, files, source, input)? {
+    match prepare(alloc, files, source, input, false)? {
         Prepared::Ready(program, numbers) => elision_result(alloc, &program, &numbers),
         Prepared::Decided(outcome) => Ok(outcome),
     }
@@ -299,7 +234,7 @@ fn execute_format<F: Files>(
         (F.faults files.old) (F.faults files.new) a.status a.text a.run_log a.reports) }
 {
     match load_source(alloc, files, source)? {
-        Source::Accepted(program) => text_of(alloc, program.program()),
+        Source::Accepted(program, _) => text_of(alloc, program.program()),
         Source::Refused(text) => Ok(refused(alloc, text)),
         Source::Failed => read_fault(alloc, source),
     }
@@ -323,6 +258,54 @@ fn execute_bench<R: Threads + Wait + Sync, G: Gate + Sync>(
         run_log: None,
         reports: Reports::new(alloc),
     })
+}
+
+// The result of `check-record SOURCE INPUT RECORD` with this throttling limit.
+fn execute_check<F: Files>(
+    alloc: Global,
+    files: &mut F,
+    source: &str,
+    input: &str,
+    saved: &str,
+    throttle: u32,
+) -> Result<CommandResult, NoMemory>
+    requires { IsInRange (CheckRecord source.now input.now saved.now throttle) }
+    ensures keeps { F.holds files.new ≡ F.holds files.old }
+    ensures grows { OnErr result (F.faults files.old ≤ F.faults files.new) }
+    ensures outcome { IfOk result (λ a. IsCallResult (Some (CheckRecord source.now input.now saved.now throttle)) (F.holds files.old)
+        (F.faults files.old) (F.faults files.new) a.status a.text a.run_log a.reports) }
+{
+    match prepare(alloc, files, source, input, false)? {
+        Prepared::Ready(program, numbers) => {
+            check_saved(alloc, files, &program, &numbers, saved, throttle)
+        }
+        Prepared::Decided(outcome) => Ok(outcome),
+    }
+}
+
+// The result of `wave SOURCE INPUT` with these options.
+fn execute_wave<R: Threads + Wait + Sync, F: Files, G: Gate + Sync>(
+    rt: &R,
+    alloc: Global,
+    files: &mut F,
+    source: &str,
+    input: &str,
+    workers: u32,
+    throttle: u32,
+    gate: &G,
+) -> Result<CommandResult, NoMemory>
+    requires { IsInRange (Wave source.now input.now workers throttle) }
+    ensures keeps { F.holds files.new ≡ F.holds files.old }
+    ensures grows { OnErr result (F.faults files.old ≤ F.faults files.new) }
+    ensures outcome { IfOk result (λ a. IsCallResult (Some (Wave source.now input.now workers throttle)) (F.holds files.old)
+        (F.faults files.old) (F.faults files.new) a.status a.text a.run_log a.reports) }
+{
+    match prepare(alloc, files, source, input, true)? {
+        Prepared::Ready(program, numbers) => run_result(
+            rt, alloc, &program, &numbers, workers, throttle, false, gate,
+        ),
+        Prepared::Decided(outcome) => Ok(outcome),
+    }
 }
 
 fn execute_command<R: Threads + Wait + Sync, F: Files, G: Gate + Sync>(
@@ -359,6 +342,18 @@ fn execute_command<R: Threads + Wait + Sync, F: Files, G: Gate + Sync>(
         Command::Serial { source, input } => execute_serial(alloc, files, source, input),
         Command::Format { source } => execute_format(alloc, files, source),
         Command::Bench { seed, size } => execute_bench(rt, alloc, seed, size, gate),
+        Command::CheckRecord {
+            source,
+            input,
+            record,
+            throttle,
+        } => execute_check(alloc, files, source, input, record, throttle),
+        Command::Wave {
+            source,
+            input,
+            workers,
+            throttle,
+        } => execute_wave(rt, alloc, files, source, input, workers, throttle, gate),
     }
 }
 
@@ -382,15 +377,18 @@ fn execute<R: Threads + Wait + Sync, F: Files, G: Gate + Sync>(
 
 /// Executes the command `run SOURCE INPUT [--workers P] [--throttle K] [--record]`,
 /// `play SOURCE INPUT [--workers P] [--throttle K] [--seed N] [--record]`, `serial SOURCE INPUT`,
-/// `format SOURCE` or `bench [--seed N] [--size M]`. Writes all text to `out`, and returns the
+/// `format SOURCE`, `bench [--seed N] [--size M]`, `check-record SOURCE INPUT RECORD [--throttle K]` or
+/// `wave SOURCE INPUT [--workers P] [--throttle K]`. Writes all text to `out`, and returns the
 /// status, the log of the run, the reports of races, and how many bytes `out` took. `run` runs the
 /// program of an accepted source on the numbers of an input with `P` workers, each on a thread of its
 /// own, while at most `K` iterations are alive. `play` plays the program on one thread by the schedule
 /// that the choices of the seed make. With `--record` the lines of the run log follow the text. `serial`
 /// runs the serial elision alone: it has the status, the text and the reports of that, and no run log.
 /// `format` prints the canonical text of an accepted source's program. `bench` runs a generated program
-/// on a generated input twice, with 1 and with 8 workers, and prints a summary. A worker of `run` or
-/// `bench` asks the gate before each stage instance. Returns an error only if memory runs out; a run
+/// on a generated input twice, with 1 and with 8 workers, and prints a summary. `check-record` checks
+/// whether a saved run log is a run of the program on the input while at most `K` iterations are alive,
+/// says how far the run is, and reports its races. `wave` lowers a wave loop to a pipeline, and runs it
+/// as `run` does. A worker of `run`, `bench` or `wave` asks the gate before each stage instance. Returns an error only if memory runs out; a run
 /// that was stopped because memory ran out ends so too.
 pub fn cilkp<R: Threads + Wait + Sync, F: Files, S: Sink, G: Gate + Sync>(
     rt: &R,
@@ -434,6 +432,20 @@ pub fn cilkp<R: Threads + Wait + Sync, F: Files, S: Sink, G: Gate + Sync>(
     ensures formatted { IfOk result (λ e. ¬ (CountRose (F.faults files.old) (F.faults files.new)) → ¬ (CountRose (S.faults out.old) (S.faults out.new)) →
         IfSome (F.holds files.old) (λ content. (tree : SyntaxTree) → IsToFormat (command_of (words_of words.now)) content tree →
         ReturnsText tree e.status e.written e.run_log e.reports (S.taken out.old) (S.taken out.new))) }
+    // For every accepted program, input and record, if the files' content is known and neither count of
+    // faults rises, a `check-record` call that returns `Ok` says whether the events of the record are a
+    // run of the program, and how far it is, and reports exactly the cells that race in that run's own
+    // dag; or it refuses the record, for its first bad line or for the first event that is not allowed.
+    ensures checked { IfOk result (λ e. ¬ (CountRose (F.faults files.old) (F.faults files.new)) → ¬ (CountRose (S.faults out.old) (S.faults out.new)) →
+        IfSome (F.holds files.old) (λ content. (tree : SyntaxTree) (numbers : List ℤ) (throttle : ℕ) (saved : List ℕ) →
+        IsToCheck (command_of (words_of words.now)) content tree numbers throttle saved →
+        ReturnsCheck tree numbers throttle saved (content saved) e.status e.written e.run_log e.reports (S.taken out.old) (S.taken out.new))) }
+    // The headline with the grid of a wave loop in the place of the serial elision, for `wave`, every
+    // number of workers and every limit from the throttling limit of the command on.
+    ensures grid { IfOk result (λ e. ¬ (CountRose (F.faults files.old) (F.faults files.new)) → ¬ (CountRose (S.faults out.old) (S.faults out.new)) →
+        IfSome (F.holds files.old) (λ content. (tree : SyntaxTree) (numbers : List ℤ) (limit : ℕ) →
+        IsToRunWave (command_of (words_of words.now)) content tree numbers limit →
+        ReturnsGrid tree numbers limit e.status e.written e.run_log e.reports (S.taken out.old) (S.taken out.new))) }
     // If the count of the sink's faults does not rise, a `bench` call that returns `Ok` has written
     // the summary of the generated program and input completely.
     ensures benched { IfOk result (λ e. ¬ (CountRose (S.faults out.old) (S.faults out.new)) → (tree : SyntaxTree) (numbers : List ℤ) →
@@ -453,8 +465,8 @@ pub fn cilkp<R: Threads + Wait + Sync, F: Files, S: Sink, G: Gate + Sync>(
     ensures given_up { OnErr result
         (IsGivenUp (command_of (words_of words.now)) (F.holds files.old) (F.faults files.old) (F.faults files.new)
         (S.taken out.old) (S.taken out.new)) }
-    // Unless the status is 5, there is a run log exactly if the words are a `run` or a `play` command, the
-    // call was not refused, and no read failed.
+    // Unless the status is 5, there is a run log exactly if the words are a `run`, a `play`, a `wave` or a
+    // `check-record` command, the call was not refused, and no read failed.
     ensures logged { IfOk result (λ e. e.status ≢ 5 → (is_some e.run_log ≡ true)
         ↔ (KeepsLog (command_of (words_of words.now)) × (e.status ≢ 1) × (e.status ≢ 4))) }
 

@@ -2,7 +2,7 @@
 
 ghost use Rattle.cilkp_program.specs.RowLaws.{CallsHaveOneRow, CallsHaveOneStatus};
 
-/// States that for all commands but `run` the words and the files of a call determine its status,
+/// States that for all commands but `run` and `wave` the words and the files of a call determine its status,
 /// text, run log and reports.
 pub fn calls_have_one_row()
     ensures { CallsHaveOneRow }

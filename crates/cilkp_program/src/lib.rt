@@ -3,9 +3,13 @@
 
 pub mod bench;
 pub mod call;
+mod command_result;
 pub mod law;
 pub mod load;
+mod prepare;
 pub mod program_play;
 pub mod program_run;
 pub mod refusal;
+mod saved_run;
 pub mod text;
+mod wave_loop;

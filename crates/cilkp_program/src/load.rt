@@ -20,13 +20,14 @@ use pipe_model::memory::NoMemory;
 use pipe_parser::parse::{Parsed, parse};
 use std::alloc::Global;
 
-const MISSING: &str = "refused missing ";
+/// How the line of a missing file begins.
+pub const MISSING: &str = "refused missing ";
 
 /// The result of loading a source.
 #[derive(Drop)]
 pub enum Source {
-    /// The program of an accepted source.
-    Accepted(Checked),
+    /// The program of an accepted source, and the offsets of its marks.
+    Accepted(Checked, Numbers),
     /// The line that refuses the source.
     Refused(Bytes),
     /// A read failed.
@@ -64,7 +65,7 @@ pub fn source_of(alloc: Global, source: &[u8]) -> Result<Source, NoMemory>
         Err(fault) => return Ok(Source::Refused(syntax_line(alloc, fault)?)),
     };
     match check(alloc, program) {
-        Ok(program) => Ok(Source::Accepted(program)),
+        Ok(program) => Ok(Source::Accepted(program, places)),
         Err(fault) => Ok(Source::Refused(check_line(alloc, fault, places.as_slice())?)),
     }
 }

@@ -1,9 +1,9 @@
-//! The lines that refuse a source or an input.
+//! The lines that refuse a source or an input, and those that refuse a program as a wave loop.
 
 ghost use Rattle.std.specs.Prelude.{◌≡◌, ℕ, pos, slice_get, Some, IfOk};
 ghost use Rattle.pipe_model.specs.Texts.{numbered_line};
 ghost use Rattle.cilkp_program.specs.InputLines.{IsInputLine};
-ghost use Rattle.cilkp_program.specs.RefusalLines.{IsCheckLine, IsLexicalLine, IsSyntaxLine, HasPlace, HasPlaceAt};
+ghost use Rattle.cilkp_program.specs.RefusalLines.{IsCheckLine, IsLexicalLine, IsSyntaxLine, HasPlace, HasPlaceAt, HasWavePlace, IsWaveFaultLine};
 
 use crate::text::line;
 use pipe_check::fault::CheckFault;
@@ -13,9 +13,10 @@ use pipe_model::list::Bytes;
 use pipe_model::memory::NoMemory;
 use pipe_parser::parse::ParseFault;
 use std::alloc::Global;
+use wave_lower::fault::WaveFault;
 
-// A line that ends in a number.
-fn numbered_line(alloc: Global, before: &str, number: u32) -> Result<Bytes, NoMemory>
+/// Builds a line that ends in a number. Returns an error only if memory runs out.
+pub fn numbered_line(alloc: Global, before: &str, number: u32) -> Result<Bytes, NoMemory>
     ensures { IfOk result (λ bytes. bytes ≡ numbered_line before.now number) }
 {
     let text = format!(in alloc; "{before}{number}\n")?;
@@ -111,5 +112,22 @@ pub fn input_line(alloc: Global, fault: InputFault) -> Result<Bytes, NoMemory>
         InputFault::TooMany(place) => numbered_line(alloc, "refused input TooMany at ", place),
         InputFault::TooLong => line(alloc, "refused input TooLong\n"),
         InputFault::NoMemory => Err(NoMemory),
+    }
+}
+
+/// Builds the line of a fault of a wave loop; `places` are the offsets of the program's marks. Returns
+/// an error only if memory runs out or the fault is `NoMemory`.
+pub fn wave_line(alloc: Global, fault: WaveFault, places: &[i64]) -> Result<Bytes, NoMemory>
+    requires { HasWavePlace fault places.now }
+    ensures { IfOk result (λ bytes. IsWaveFaultLine fault places.now bytes) }
+{
+    match fault {
+        WaveFault::BadTest => line(alloc, "refused wave BadTest\n"),
+        WaveFault::NoRow => line(alloc, "refused wave NoRow\n"),
+        WaveFault::HasStage(mark) => {
+            placed_line(alloc, "refused wave HasStage at ", places, mark)
+        }
+        WaveFault::RowSet(mark) => placed_line(alloc, "refused wave RowSet at ", places, mark),
+        WaveFault::NoMemory => Err(NoMemory),
     }
 }

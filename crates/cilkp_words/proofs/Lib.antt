@@ -1,1 +1,2 @@
 mod RangesOfCommands
+mod ReadCommands

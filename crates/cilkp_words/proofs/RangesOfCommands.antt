@@ -6,7 +6,7 @@ use Rattle.std.specs.Str.{bytes_eq}
 use Rattle.clap.specs.Walk.{Row, Text, first_of}
 use Rattle.cilkp_words.specs.CommandRanges.{IsInRange}
 use Rattle.cilkp_words.specs.Commands.{Command}
-use Rattle.cilkp_words.specs.CommandWords.{bench_of, command_named, format_of, play_of, run_of, seed_of, serial_of, throttle_of, workers_of}
+use Rattle.cilkp_words.specs.CommandWords.{bench_of, check_record_of, command_named, format_of, play_of, run_of, seed_of, serial_of, throttle_of, wave_of, workers_of}
 use Rattle.cilkp_words.specs.OptionNumbers.{number_in, number_or}
 use Rattle.cilkp_words.specs.declared.ranges.TheConstants.{DEFAULT_SEED, DEFAULT_SIZE, DEFAULT_WORKERS, MOST_THROTTLE, MOST_WORKERS, THROTTLE_PER_WORKER}
 use Rattle.pipe_gen.specs.declared.choices.TheConstants.{MOST_SEED}
@@ -62,6 +62,24 @@ run_between rows =
     let w = workers_between rows workers is in
     after (throttle_of workers rows) _ IsInRange (λ throttle also. (w, throttle_between rows workers throttle w also)))))
 
+-- `wave`
+wave_between : (rows : List Row) → IfSome (wave_of rows) IsInRange
+wave_between rows =
+    after (first_of (codes "source") rows) _ IsInRange (λ source d.
+    after (first_of (codes "input") rows) _ IsInRange (λ input e.
+    after (workers_of rows) _ IsInRange (λ workers is.
+    let w = workers_between rows workers is in
+    after (throttle_of workers rows) _ IsInRange (λ throttle also. (w, throttle_between rows workers throttle w also)))))
+
+-- `check-record`
+check_record_between : (rows : List Row) → IfSome (check_record_of rows) IsInRange
+check_record_between rows =
+    after (first_of (codes "source") rows) _ IsInRange (λ source d.
+    after (first_of (codes "input") rows) _ IsInRange (λ input e.
+    after (first_of (codes "record") rows) _ IsInRange (λ saved f.
+    after (number_or MOST_THROTTLE 1 MOST_THROTTLE (first_of (codes "throttle") rows)) _ IsInRange (λ throttle is.
+    option_between MOST_THROTTLE 1 MOST_THROTTLE (first_of (codes "throttle") rows) throttle (omega arith) (omega arith) is))))
+
 -- `play`
 play_between : (rows : List Row) → IfSome (play_of rows) IsInRange
 play_between rows =
@@ -88,7 +106,9 @@ named_between name rows =
     (branches (bytes_eq name (codes "play")) _ _ IsInRange (play_between rows)
     (branches (bytes_eq name (codes "serial")) _ _ IsInRange (serial_between rows)
     (branches (bytes_eq name (codes "format")) _ _ IsInRange (format_between rows)
-    (branches (bytes_eq name (codes "bench")) _ _ IsInRange (bench_between rows) tt))))
+    (branches (bytes_eq name (codes "bench")) _ _ IsInRange (bench_between rows)
+    (branches (bytes_eq name (codes "check-record")) _ _ IsInRange (check_record_between rows)
+    (branches (bytes_eq name (codes "wave")) _ _ IsInRange (wave_between rows) tt))))))
 
 -- the command of the subcommand that was given, if one was
 pub command_between : (found : Option Command) (given : Option (Text × List Row)) → found ≡ option_and_then (λ p. command_named p.0 p.1) given

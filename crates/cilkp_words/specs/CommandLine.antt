@@ -1,4 +1,4 @@
--- The command line: five subcommands with their files and options, without help and version.
+-- The command line: seven subcommands with their files and options, without help and version.
 use Rattle.std.specs.Prelude.{true, false, List, [], ◌∷◌, codes, Some}
 use Rattle.clap.specs.Simple.{App, Shape, new_rule, new_shape}
 use Rattle.clap.specs.Walk.{Rule, Text}
@@ -42,6 +42,16 @@ format_shape = subcommand_shape (codes "format") (file_rule (codes "source") ∷
 abbrev pub bench_shape : Shape
 bench_shape = subcommand_shape (codes "bench") (option_rule (codes "seed") ∷ option_rule (codes "size") ∷ [])
 
+-- check-record SOURCE INPUT RECORD [--throttle K]
+abbrev pub check_record_shape : Shape
+check_record_shape = subcommand_shape (codes "check-record") (file_rule (codes "source") ∷ file_rule (codes "input") ∷ file_rule (codes "record")
+    ∷ option_rule (codes "throttle") ∷ [])
+
+-- wave SOURCE INPUT [--workers P] [--throttle K]
+abbrev pub wave_shape : Shape
+wave_shape = subcommand_shape (codes "wave") (file_rule (codes "source") ∷ file_rule (codes "input") ∷ option_rule (codes "workers") ∷ option_rule
+    (codes "throttle") ∷ [])
+
 -- the command line without its subcommands; the name of the program is not among the words
 abbrev pub bare_line : App
 bare_line = record {
@@ -53,5 +63,5 @@ bare_line = record {
 abbrev pub command_line : App
 command_line = record {
   top = record bare_line.top { is_leaf = false };
-  subs = run_shape ∷ play_shape ∷ serial_shape ∷ format_shape ∷ bench_shape ∷ [];
+  subs = run_shape ∷ play_shape ∷ serial_shape ∷ format_shape ∷ bench_shape ∷ check_record_shape ∷ wave_shape ∷ [];
 }

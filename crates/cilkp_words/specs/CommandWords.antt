@@ -9,7 +9,7 @@ use Rattle.clap.specs.Walk.{Row, Text, first_of}
 use Rattle.pipe_gen.specs.declared.choices.TheConstants.{MOST_SEED}
 use Rattle.pipe_gen.specs.declared.workload.TheConstants.{MOST_SIZE}
 use Rattle.cilkp_words.specs.CommandLine.{command_line}
-use Rattle.cilkp_words.specs.Commands.{Command, Run, Play, Serial, Format, Bench}
+use Rattle.cilkp_words.specs.Commands.{Command, Run, Play, Serial, Format, Bench, CheckRecord, Wave}
 use Rattle.cilkp_words.specs.OptionNumbers.{number_or}
 use Rattle.cilkp_words.specs.declared.ranges.TheConstants.{DEFAULT_SEED, DEFAULT_SIZE, DEFAULT_WORKERS, MOST_THROTTLE, MOST_WORKERS, THROTTLE_PER_WORKER}
 
@@ -58,6 +58,19 @@ bench_of rows = option_and_then (λ seed. option_and_then (λ size. Some (Bench 
     (number_or DEFAULT_SIZE 1 MOST_SIZE (first_of (codes "size") rows)))
     (seed_of rows)
 
+-- a record may be of a run under any throttling limit, so the greatest one is the default
+abbrev pub check_record_of : List Row → Option Command
+check_record_of rows = option_and_then (λ source. option_and_then (λ input. option_and_then (λ saved.
+    option_and_then (λ throttle. Some (CheckRecord source input saved throttle))
+    (number_or MOST_THROTTLE 1 MOST_THROTTLE (first_of (codes "throttle") rows)))
+    (first_of (codes "record") rows)) (first_of (codes "input") rows)) (first_of (codes "source") rows)
+
+abbrev pub wave_of : List Row → Option Command
+wave_of rows = option_and_then (λ source. option_and_then (λ input.
+    option_and_then (λ workers. option_and_then (λ throttle. Some (Wave source input workers throttle))
+    (throttle_of workers rows)) (workers_of rows))
+    (first_of (codes "input") rows)) (first_of (codes "source") rows)
+
 -- ---- the command of a whole line
 
 -- the command of the subcommand with this name
@@ -67,7 +80,9 @@ command_named name rows =
     else (if bytes_eq name (codes "play") then play_of rows
     else (if bytes_eq name (codes "serial") then serial_of rows
     else (if bytes_eq name (codes "format") then format_of rows
-    else (if bytes_eq name (codes "bench") then bench_of rows else None))))
+    else (if bytes_eq name (codes "bench") then bench_of rows
+    else (if bytes_eq name (codes "check-record") then check_record_of rows
+    else (if bytes_eq name (codes "wave") then wave_of rows else None))))))
 
 -- the command that the words ask for, if they are one: the command line accepts them, and their subcommand has a command
 abbrev pub command_of : List Text → Option Command

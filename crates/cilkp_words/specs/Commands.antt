@@ -10,6 +10,8 @@ pub data Command : Type 0 where
   Serial : (source input : Text) → Command
   Format : (source : Text) → Command
   Bench : (seed size : ℕ) → Command
+  CheckRecord : (source input saved : Text) (throttle : ℕ) → Command
+  Wave : (source input : Text) (workers throttle : ℕ) → Command
 
 -- the plain data of a command
 abbrev pub command_data : RustCommand → Command
@@ -18,3 +20,5 @@ command_data (commands.Play source input workers throttle seed recorded) = Play 
 command_data (commands.Serial source input) = Serial source.now input.now
 command_data (commands.Format source) = Format source.now
 command_data (commands.Bench seed size) = Bench seed size
+command_data (commands.CheckRecord source input saved throttle) = CheckRecord source.now input.now saved.now throttle
+command_data (commands.Wave source input workers throttle) = Wave source.now input.now workers throttle

@@ -1,7 +1,7 @@
 -- Worked command lines.
 use Rattle.std.specs.Prelude.{◌≡◌, ℕ, ◌==◌, true, false, List, [], ◌∷◌, codes, Some, None, if◌then◌else◌}
 use Rattle.clap.specs.Walk.{Text}
-use Rattle.cilkp_words.specs.Commands.{Command, Run, Play, Serial, Format, Bench}
+use Rattle.cilkp_words.specs.Commands.{Command, Run, Play, Serial, Format, Bench, CheckRecord, Wave}
 use Rattle.cilkp_words.specs.CommandWords.{command_of}
 
 -- ---- the words of a line
@@ -158,3 +158,25 @@ RecordedLines =
     × AsksNothing (codes "serial a b --record")
     × AsksNothing (codes "format a --record")
     × AsksNothing (codes "bench --record")
+
+-- the command `check-record`: the throttling limit is 1,024 unless it is given
+abbrev pub CheckedLines : Type 0
+CheckedLines =
+    Asks (codes "check-record a b c") (CheckRecord (codes "a") (codes "b") (codes "c") 1024)
+    × Asks (codes "check-record a --throttle 3 b c") (CheckRecord (codes "a") (codes "b") (codes "c") 3)
+    × AsksNothing (codes "check-record a b")
+    × AsksNothing (codes "check-record a b c d")
+    × AsksNothing (codes "check-record a b c --throttle 1025")
+    × AsksNothing (codes "check-record a b c --workers 1")
+    × AsksNothing (codes "check_record a b c")
+
+-- the command `wave`: `run` without `--record`
+abbrev pub WaveLines : Type 0
+WaveLines =
+    Asks (codes "wave a b") (Wave (codes "a") (codes "b") 4 16)
+    × Asks (codes "wave a --workers 8 b --throttle=2") (Wave (codes "a") (codes "b") 8 2)
+    × AsksNothing (codes "wave a")
+    × AsksNothing (codes "wave a b c")
+    × AsksNothing (codes "wave a b --record")
+    × AsksNothing (codes "wave a b --seed 1")
+    × AsksNothing (codes "wave a b --workers 65")

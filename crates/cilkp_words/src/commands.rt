@@ -37,4 +37,21 @@ pub enum Command<'a> {
         seed: u32,
         size: u32,
     },
+    /// Checks whether a saved run log is a run of a source on an input, with at most `throttle`
+    /// iterations alive.
+    CheckRecord {
+        source: &'a str,
+        input: &'a str,
+        /// The file of the run log.
+        record: &'a str,
+        throttle: u32,
+    },
+    /// Lowers a wave loop and runs it on an input, with `workers` workers and at most `throttle`
+    /// iterations alive.
+    Wave {
+        source: &'a str,
+        input: &'a str,
+        workers: u32,
+        throttle: u32,
+    },
 }

@@ -1,6 +1,6 @@
 //! Worked command lines, which the checker computes from the definitions.
 
-ghost use Rattle.cilkp_words.specs.WordExamples.{CallsForHelp, FileNames, MisplacedOptions, OptionNumbers, OtherCommands, PlayedLines, RecordedLines, SeparateAndJoinedValues};
+ghost use Rattle.cilkp_words.specs.WordExamples.{CallsForHelp, CheckedLines, FileNames, MisplacedOptions, OptionNumbers, OtherCommands, PlayedLines, RecordedLines, SeparateAndJoinedValues, WaveLines};
 
 /// The value of an option is the next word or joined by `=`, and options may be anywhere among the
 /// files.
@@ -42,4 +42,14 @@ pub fn played_lines()
 /// The flag `--record` of `run` and `play` may be anywhere among the files, once, without a value.
 pub fn recorded_lines()
     ensures { RecordedLines }
+{}
+
+/// The command `check-record`.
+pub fn checked_lines()
+    ensures { CheckedLines }
+{}
+
+/// The command `wave`.
+pub fn wave_lines()
+    ensures { WaveLines }
 {}

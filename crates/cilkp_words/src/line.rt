@@ -4,7 +4,7 @@ ghost use Rattle.std.specs.Prelude.{◌≡◌, ◌∷◌, [], IfOk, codes, false
 ghost use Rattle.clap.specs.Simple.{app_of, shape_of};
 ghost use Rattle.clap.specs.Walk.{rule_of};
 ghost use Rattle.clap.specs.declared.builder.command.Command.TheViews.{out-Command as fields_of};
-ghost use Rattle.cilkp_words.specs.CommandLine.{bare_line, bench_shape, command_line, file_rule, flag_rule, format_shape, option_rule, play_shape, run_shape, serial_shape};
+ghost use Rattle.cilkp_words.specs.CommandLine.{bare_line, bench_shape, check_record_shape, command_line, file_rule, flag_rule, format_shape, option_rule, play_shape, run_shape, serial_shape, wave_shape};
 
 use clap::{Arg, ArgAction, Command};
 use std::alloc::{AllocError, Global};
@@ -88,6 +88,30 @@ fn bench<'a>(alloc: Global) -> Result<Command<'a>, AllocError>
     Ok(command)
 }
 
+fn check_record<'a>(alloc: Global) -> Result<Command<'a>, AllocError>
+    ensures shape { IfOk result (λ c. shape_of c ≡ check_record_shape) }
+    ensures local { IfOk result (λ c. (fields_of c).has_globals ≡ false) }
+{
+    let command = Command::new(alloc, "check-record")
+        .arg(file(alloc, "source"))?
+        .arg(file(alloc, "input"))?
+        .arg(file(alloc, "record"))?
+        .arg(option(alloc, "throttle"))?;
+    Ok(command)
+}
+
+fn wave<'a>(alloc: Global) -> Result<Command<'a>, AllocError>
+    ensures shape { IfOk result (λ c. shape_of c ≡ wave_shape) }
+    ensures local { IfOk result (λ c. (fields_of c).has_globals ≡ false) }
+{
+    let command = Command::new(alloc, "wave")
+        .arg(file(alloc, "source"))?
+        .arg(file(alloc, "input"))?
+        .arg(option(alloc, "workers"))?
+        .arg(option(alloc, "throttle"))?;
+    Ok(command)
+}
+
 // The command line without its subcommands.
 fn bare_line<'a>(alloc: Global) -> Command<'a>
     ensures { app_of result ≡ bare_line }
@@ -107,6 +131,8 @@ pub fn command_line<'a>(alloc: Global) -> Result<Command<'a>, AllocError>
         .subcommand(play(alloc)?)?
         .subcommand(serial(alloc)?)?
         .subcommand(format(alloc)?)?
-        .subcommand(bench(alloc)?)?;
+        .subcommand(bench(alloc)?)?
+        .subcommand(check_record(alloc)?)?
+        .subcommand(wave(alloc)?)?;
     Ok(line)
 }

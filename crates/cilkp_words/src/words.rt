@@ -6,7 +6,7 @@ ghost use Rattle.clap.specs.Simple.{subcommand_rows_of};
 ghost use Rattle.clap.specs.Walk.{first_of, rows_of};
 ghost use Rattle.cilkp_words.specs.CommandRanges.{IsInRange};
 ghost use Rattle.cilkp_words.specs.Commands.{command_data};
-ghost use Rattle.cilkp_words.specs.CommandWords.{bench_of, command_named, command_of, format_of, play_of, records, run_of, seed_of, serial_of, throttle_of, words_of, workers_of};
+ghost use Rattle.cilkp_words.specs.CommandWords.{bench_of, check_record_of, command_named, command_of, format_of, play_of, records, run_of, seed_of, serial_of, throttle_of, wave_of, words_of, workers_of};
 ghost use Rattle.cilkp_words.specs.declared.ranges.TheConstants as ranges;
 
 use crate::commands::Command;
@@ -116,6 +116,36 @@ fn bench<'a>(matches: &ArgMatches<'a>) -> Option<Command<'a>>
     Some(Command::Bench { seed, size })
 }
 
+fn check_record<'a>(matches: &ArgMatches<'a>) -> Option<Command<'a>>
+    ensures { option_map command_data result ≡ check_record_of (rows_of (found_of matches.now)) }
+{
+    let source = word(matches, "source")?;
+    let input = word(matches, "input")?;
+    let record = word(matches, "record")?;
+    let throttle = number_or(MOST_THROTTLE, 1, MOST_THROTTLE, word(matches, "throttle"))?;
+    Some(Command::CheckRecord {
+        source,
+        input,
+        record,
+        throttle,
+    })
+}
+
+fn wave<'a>(matches: &ArgMatches<'a>) -> Option<Command<'a>>
+    ensures { option_map command_data result ≡ wave_of (rows_of (found_of matches.now)) }
+{
+    let source = word(matches, "source")?;
+    let input = word(matches, "input")?;
+    let workers = workers(matches)?;
+    let throttle = throttle(workers, matches)?;
+    Some(Command::Wave {
+        source,
+        input,
+        workers,
+        throttle,
+    })
+}
+
 // The command of the subcommand with this name.
 fn command_named<'a>(name: &str, matches: &ArgMatches<'a>) -> Option<Command<'a>>
     ensures { option_map command_data result ≡ command_named name.now (rows_of (found_of matches.now)) }
@@ -126,6 +156,8 @@ fn command_named<'a>(name: &str, matches: &ArgMatches<'a>) -> Option<Command<'a>
         "serial" => serial(matches),
         "format" => format(matches),
         "bench" => bench(matches),
+        "check-record" => check_record(matches),
+        "wave" => wave(matches),
         _ => None,
     }
 }

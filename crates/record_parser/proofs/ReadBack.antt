@@ -1,4 +1,4 @@
--- The text of a run log is read as its events.
+-- The text of a run log is read as its events, and a record as one list of events.
 use Rattle.std.proofs.Common.{◌≡◌, ◌≢◌, ◌∙◌, ap, ap₂, sym, subst, refl, arith, ℕ, zero, suc, ◌<◌, List, [], ◌∷◌, ◌++◌, All, length}
 use Rattle.std.specs.Prelude.{codes, slice_index_or}
 use Rattle.std.specs.Fmt.{decimal, signed_decimal}
@@ -16,7 +16,7 @@ use Rattle.race_report.specs.CellNames.{cell_name}
 use Rattle.run_record.specs.LogLines.{log_text}
 use Rattle.record_parser.specs.ByteDivisions.{IsFreeOf}
 use Rattle.record_parser.specs.LogForms.{Accesses, Advances, Begins, Closes, Ends, Enters, HasFields, Traps, space, word_text}
-use Rattle.record_parser.specs.ReadingLaws.{HasLine, LogsAreReadAsTheirEvents, LogsHaveNoBadLine}
+use Rattle.record_parser.specs.ReadingLaws.{HasLine, LogsAreReadAsTheirEvents, LogsHaveNoBadLine, RecordsHaveOneReading}
 use Rattle.record_parser.proofs.PlainNames.{HasPlainNames}
 use Rattle.record_parser.proofs.SourceNames.{accepted_names}
 use Rattle.record_parser.specs.RecordLines.{IsInRanges, IsLogLine, IsOutcomeLine, line_feed, lines_of}
@@ -128,6 +128,27 @@ logs_are_read_as_their_events source tree es others accepted r h read =
     let zip = lines_are cells es plain r h in
     let same = none_passed cells lines read.passed read.log es zip read.parts read.outcome in
     same_events cells lines es others plain zip (subst (λ ls. AllZip (IsLogLine cells) ls others) (sym same) read.read)
+
+-- the lines after the first
+abbrev rest_of : List (List ℕ) → List (List ℕ)
+rest_of [] = []
+rest_of (l ∷ ls) = ls
+
+one_reading : (cells : List Declaration) (passed others log read : List (List ℕ)) (es fs : List Event) → HasPlainNames cells → passed ++ log ≡ others ++ read
+    → All (IsOutcomeLine cells) passed → All (IsOutcomeLine cells) others → AllZip (IsLogLine cells) log es → AllZip (IsLogLine cells) read fs → es ≡ fs
+one_reading cells [] others log read es fs plain e o p h g =
+    let same = none_passed cells log others read es h e p in
+    sym (same_events cells log es fs plain h (subst (λ ls. AllZip (IsLogLine cells) ls fs) (sym same) g))
+one_reading cells (x ∷ xs) [] log read es fs plain e o p h g =
+    let same = none_passed cells read (x ∷ xs) log fs g (sym e) o in
+    same_events cells read fs es plain g (subst (λ ls. AllZip (IsLogLine cells) ls es) (sym same) h)
+one_reading cells (x ∷ xs) (y ∷ ys) log read es fs plain e o p h g =
+    one_reading cells xs ys log read es fs plain (ap rest_of e) (all_tail (IsOutcomeLine cells) x xs o) (all_tail (IsOutcomeLine cells) y ys p) h g
+
+pub records_have_one_reading : RecordsHaveOneReading
+records_have_one_reading source tree lines es others accepted first other =
+    one_reading tree.cells first.passed other.passed first.log other.log es others (accepted_names source tree accepted) (sym first.parts ∙ other.parts)
+    first.outcome other.outcome first.read other.read
 
 -- each line is that of an event
 pub line_at : (cells : List Declaration) (lines : List (List ℕ)) (es : List Event) (n : ℕ) → AllZip (IsLogLine cells) lines es → n < length lines

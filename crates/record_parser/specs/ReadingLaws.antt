@@ -37,6 +37,12 @@ LogsHaveNoBadLine =
     (source : List ℕ) (tree : SyntaxTree) (events : List Event) (n : ℕ) → IsAccepted source tree → All (IsInRanges tree.cells) events → All HasLine events
     → IsFirstBadLine tree.cells (lines_of (log_text tree.cells events)) n → ⊥
 
+-- a record of an accepted program is a record of one list of events
+abbrev pub RecordsHaveOneReading : Type 0
+RecordsHaveOneReading =
+    (source : List ℕ) (tree : SyntaxTree) (lines : List (List ℕ)) (events others : List Event) → IsAccepted source tree → IsRecord tree.cells lines events
+    → IsRecord tree.cells lines others → events ≡ others
+
 -- a record has no bad line
 abbrev pub RecordsHaveNoBadLine : Type 0
 RecordsHaveNoBadLine =

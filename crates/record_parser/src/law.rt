@@ -1,6 +1,6 @@
 //! Laws of the reading of records.
 
-ghost use Rattle.record_parser.specs.ReadingLaws.{LogsAreReadAsTheirEvents, LogsHaveNoBadLine, RecordsHaveNoBadLine, TextsHaveOneBadLine};
+ghost use Rattle.record_parser.specs.ReadingLaws.{LogsAreReadAsTheirEvents, LogsHaveNoBadLine, RecordsHaveNoBadLine, RecordsHaveOneReading, TextsHaveOneBadLine};
 
 /// If a record is the text of a run log, its events are those of the log.
 pub fn logs_are_read_as_their_events()
@@ -10,6 +10,11 @@ pub fn logs_are_read_as_their_events()
 /// The text of a run log has no bad line.
 pub fn logs_have_no_bad_line()
     ensures { LogsHaveNoBadLine }
+{}
+
+/// A record of an accepted program has one list of events.
+pub fn records_have_one_reading()
+    ensures { RecordsHaveOneReading }
 {}
 
 /// A record has no bad line.

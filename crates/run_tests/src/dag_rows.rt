@@ -11,7 +11,7 @@ use pipe_model::access::{Access, AccessKind, CellId, NodeAccess};
 use pipe_model::column::Column;
 use pipe_model::list::ListOf;
 use pipe_model::node::{Kind, Node, NodeId};
-use pipe_model::report::Report;
+use pipe_model::report::{Report, Reports};
 use std::alloc::Global;
 use std::test::Fail;
 
@@ -138,18 +138,25 @@ const PRECEDES: [&[u8; 10]; 10] = [
     b"0000000000",
 ];
 
+// Whether an instance precedes another one, by the dag of the columns.
+fn precedes(alloc: Global, columns: &ListOf<Column>, a: NodeId, b: NodeId) -> Result<bool, Fail> {
+    let all = columns.as_slice();
+    if !are_rising(all) || !is_node(all, a) || !is_node(all, b) {
+        return Err(Fail::new(format_args!("there is no such instance")));
+    }
+    let dag = Dag::of(alloc, columns)?;
+    Ok(dag.precedes(a, b))
+}
+
 #[test]
 fn instances_precede(rt: HostRuntime) -> Result<(), Fail> {
     let columns = drawn(&rt)?;
-    assert!(rt; are_rising(columns.as_slice()));
-    let dag = Dag::of(rt.alloc(), &columns)?;
     for ((iteration, index), row) in INSTANCES.into_iter().zip(PRECEDES) {
         let a = NodeId { iteration, index };
-        assert!(rt; is_node(columns.as_slice(), a));
         for ((iteration, index), wanted) in INSTANCES.into_iter().zip(row) {
             let b = NodeId { iteration, index };
-            assert!(rt; is_node(columns.as_slice(), b));
-            assert_eq!(rt; dag.precedes(a, b), *wanted == b'1', "{a:?} {b:?}");
+            let found = precedes(rt.alloc(), &columns, a, b)?;
+            assert_eq!(rt; found, *wanted == b'1', "{a:?} {b:?}");
         }
     }
     Ok(())
@@ -213,22 +220,37 @@ fn last_of(iteration: u32) -> NodeId {
     }
 }
 
-#[test]
-fn first_races_are_reported(rt: HostRuntime) -> Result<(), Fail> {
+// Two columns, each with a stage that waits for none.
+fn two_columns(rt: &HostRuntime) -> Result<ListOf<Column>, Fail> {
     let first = [node(0, Kind::Zero), node(2, Kind::Continue)];
     let second = [node(0, Kind::Zero), node(3, Kind::Continue)];
-    let columns = columns(&rt, &[&first, &second])?;
-    assert!(rt; are_rising(columns.as_slice()));
-    let dag = Dag::of(rt.alloc(), &columns)?;
-    let accesses = accesses(rt.alloc())?;
-    assert!(rt; are_accesses(columns.as_slice(), accesses.as_slice()));
-    let reports = dag.races(rt.alloc(), &accesses)?;
+    columns(rt, &[&first, &second])
+}
+
+// The first races of the accesses, by the dag of the columns.
+fn races(alloc: Global, columns: &ListOf<Column>) -> Result<Reports, Fail> {
+    let all = columns.as_slice();
+    let accesses = accesses(alloc)?;
+    if !are_rising(all) || !are_accesses(all, accesses.as_slice()) {
+        return Err(Fail::new(format_args!("there is no such instance")));
+    }
+    let dag = Dag::of(alloc, columns)?;
+    Ok(dag.races(alloc, &accesses)?)
+}
+
+fn wanted() -> [Report; 3] {
     let (read, write) = (AccessKind::Read, AccessKind::Write);
-    let wanted = [
+    [
         report(1, (0, 2, write), (1, 3, read)),
         report(5, (0, 2, read), (1, 3, write)),
         report(8, (1, 3, write), (0, 2, read)),
-    ];
-    assert_eq!(rt; reports.as_slice(), wanted.as_slice());
+    ]
+}
+
+#[test]
+fn first_races_are_reported(rt: HostRuntime) -> Result<(), Fail> {
+    let columns = two_columns(&rt)?;
+    let reports = races(rt.alloc(), &columns)?;
+    assert_eq!(rt; reports.as_slice(), wanted().as_slice());
     Ok(())
 }

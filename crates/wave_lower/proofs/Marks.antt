@@ -15,7 +15,7 @@ use Rattle.wave_laws.specs.Waves.WaveFaults.{first_stage, is_stage_word, marks_b
 use Rattle.wave_lower.specs.Searches.{Finds, Fits}
 use Rattle.wave_lower.proofs.Finds.{first_after, first_stays, passes_then}
 
-abbrev stage_of : Mark → Bool
+abbrev pub stage_of : Mark → Bool
 stage_of m = is_stage_word m.occurrence
 
 expression_flags : (scope : Scope) (e : Expression) → map stage_of (marks_of_expression scope e) ≡ no_flags e

@@ -8,4 +8,6 @@ returns c =
     let two = c.in_ok-subcommand-2.ensures.shape c.in_ok-play.ensures.local ∙ ap₂ with_subcommand one c.in_ok-play.ensures.shape in
     let three = c.in_ok-subcommand-3.ensures.shape c.in_ok-serial.ensures.local ∙ ap₂ with_subcommand two c.in_ok-serial.ensures.shape in
     let four = c.in_ok-subcommand-4.ensures.shape c.in_ok-format.ensures.local ∙ ap₂ with_subcommand three c.in_ok-format.ensures.shape in
-    c.in_ok-line.ensures.shape c.in_ok-bench.ensures.local ∙ ap₂ with_subcommand four c.in_ok-bench.ensures.shape
+    let five = c.in_ok-subcommand-5.ensures.shape c.in_ok-bench.ensures.local ∙ ap₂ with_subcommand four c.in_ok-bench.ensures.shape in
+    let six = c.in_ok-subcommand-6.ensures.shape c.in_ok-check_record.ensures.local ∙ ap₂ with_subcommand five c.in_ok-check_record.ensures.shape in
+    c.in_ok-line.ensures.shape c.in_ok-wave.ensures.local ∙ ap₂ with_subcommand six c.in_ok-wave.ensures.shape

@@ -1,0 +1,49 @@
+//! The result of a command before its text is printed.
+
+ghost use Rattle.std.specs.Prelude.{◌≡◌, [], None, IfOk};
+ghost use Rattle.pipe_model.specs.Texts.{fault_read};
+
+use crate::text::named_line;
+use pipe_model::event::RunLog;
+use pipe_model::list::Bytes;
+use pipe_model::memory::NoMemory;
+use pipe_model::report::Reports;
+use std::alloc::Global;
+
+const REFUSED: u8 = 1;
+
+const READ_FAULT: u8 = 4;
+
+/// The result of a command before its text is printed.
+#[derive(Drop)]
+pub struct CommandResult {
+    pub status: u8,
+    pub text: Bytes,
+    pub run_log: Option<RunLog>,
+    pub reports: Reports,
+}
+
+/// Returns the result of a call that is refused with this line.
+pub fn refused(alloc: Global, text: Bytes) -> CommandResult
+    ensures { result ≡ record { status = 1; text = text; run_log = None; reports = [] } }
+{
+    CommandResult {
+        status: REFUSED,
+        text,
+        run_log: None,
+        reports: Reports::new(alloc),
+    }
+}
+
+/// Returns the result of a call that could not read the file of this name. Returns an error only if
+/// memory runs out.
+pub fn read_fault(alloc: Global, name: &str) -> Result<CommandResult, NoMemory>
+    ensures { IfOk result (λ a. a ≡ record { status = 4; text = fault_read name.now; run_log = None; reports = [] }) }
+{
+    Ok(CommandResult {
+        status: READ_FAULT,
+        text: named_line(alloc, "fault read ", name)?,
+        run_log: None,
+        reports: Reports::new(alloc),
+    })
+}
