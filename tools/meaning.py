@@ -14,7 +14,8 @@ class Meaning(NamedTuple):
 
 
 class Files(NamedTuple):
-    """The source, and the input if its name was given."""
+    """The source, and the input and the record if their names were given."""
 
     source: Source
     input: Optional[Text] = None
+    record: Optional[Text] = None

@@ -44,6 +44,15 @@ class Text:
         end = self._line_starts[number] if number < len(self._line_starts) else len(self.data)
         return shown(self.data[self._line_starts[number - 1] : end].rstrip(b"\r\n"))
 
+    def lines(self) -> List[bytes]:
+        """Returns all lines without their line feeds. The last one may lack its line feed."""
+        return self.data.removesuffix(b"\n").split(b"\n") if self.data else []
+
+    def line_offset(self, number: int) -> int:
+        """Returns the offset at which a line begins, by its number from 0; one past the end if there is no such line."""
+        begins = number < len(self._line_starts) and self._line_starts[number] < len(self.data)
+        return self._line_starts[number] if begins else len(self.data) + 1
+
     def marked(self, line: int, columns: Sequence[int]) -> Tuple[str, str]:
         """Returns a line and a second one with a caret under each column, both cut to a width that a terminal has."""
         text = self.line(line)

@@ -15,6 +15,7 @@ EVENT_TRAP = re.compile(r"trap ([0-9]+) ([A-Za-z]+)")
 ACCESS = re.compile(rf"(read|write) ([0-9]+) ({CELL}) (-?[0-9]+)")
 NAMED_STAGE = re.compile(r"(wait|continue) ([0-9]+) (-?[0-9]+)")
 ITERATION = re.compile(r"(begin|enter|end|closed) ([0-9]+)")
+RUN_KIND = re.compile(r"run (finished|unfinished|stopped)")
 SUMMARY = re.compile(r"(?:(items|instances) ([0-9]+)|workers ([0-9]+) last (-?[0-9]+))")
 
 TRAPS = {
@@ -42,6 +43,13 @@ CAUSES: Dict[str, Sequence[str]] = {
     "IterLimit": ("pipe_while",),
     "OutputLimit": ("emit",),
 }
+RUN_KINDS = {
+    "finished": "The record is a run of the program that is finished: the loop is closed, and every iteration has ended. The races of this run follow,"
+    " if it has any.",
+    "unfinished": "The record is the beginning of a run of the program: no event is wrong, and others can follow. The races of these events follow,"
+    " if there are any.",
+    "stopped": "The record is a run of the program that broke off with `stop`. The races of its events follow, if there are any.",
+}
 SUMMARIES = {
     "items": "The generated pipeline of `bench` has {} items.",
     "instances": "The serial elision of the generated pipeline has {} stage instances.",
@@ -65,6 +73,7 @@ class Explainer:
             (ACCESS, self._access),
             (NAMED_STAGE, self._named_stage),
             (ITERATION, self._iteration),
+            (RUN_KIND, lambda kind: Meaning(RUN_KINDS[kind])),
             (SUMMARY, self._summary),
         ]
         for form, explain in forms:

@@ -1,15 +1,17 @@
 """What the refusals and read faults of `cilkp` mean."""
 
 import re
-from typing import Optional
+from typing import Optional, Sequence
 
 from meaning import Files, Meaning
 from pipe_source import LIMIT_WORDS, RESERVED_WORDS, Source, Text
 
-REFUSED = re.compile(r"refused (source|check|input) ([A-Za-z]+) at ([0-9]+)")
+REFUSED = re.compile(r"refused (source|check|wave|input) ([A-Za-z]+) at ([0-9]+)")
+REFUSED_RECORD = re.compile(r"refused record (BadLine|NotAllowed) at ([0-9]+)")
 LIMIT_OUT = re.compile(r"refused check LimitOut ([1-5])")
 MISSING = re.compile(r"refused missing (.*)")
 FAULT = re.compile(r"fault read (.*)")
+OUTCOME_LINE = re.compile(rb"-?[0-9]+|race .*|trap [A-Z].*")
 COMMENT_WITH_RETURN = re.compile(rb"//[^\n]*\r[^\n]")
 
 BYTE_ORDER_MARK = b"\xef\xbb\xbf"
@@ -21,6 +23,10 @@ WHOLE = {
     "refused usage": "The words are no command: `./cilkp` without words prints the commands; their numbers have ranges.",
     "refused source SourceTooLong": "The source has more than 1,048,576 bytes, with its comments: shorten it, and give data as the input.",
     "refused input TooLong": "The input has more than 16,777,216 bytes: cut it into several files, and run the program on each.",
+    "refused record TooLong": "The record has more than 67,108,864 bytes: save that of a shorter run.",
+    "refused wave BadTest": "This is no wave loop: its test has to be the number 1, as in `pipe_while (1)`. The limit `iterations` says how many columns there"
+    " are.",
+    "refused wave NoRow": "This is no wave loop: the first statement in its body has to be `let row = 0;`, which makes `row` the number of the row.",
     "stop": "The run was stopped: memory ran out.",
 }
 LIMIT_RANGES = {
@@ -41,8 +47,30 @@ SIMPLE = {
     "check NotAnArray": "`{}` has an index and is no array: leave out the index, or declare it as one by `cell {}[10] = 0;`.",
     "check NeedsIndex": "`{}` is an array, so it needs an index here, as in `{}[0]`.",
     "check ZeroSize": "The array `{}` has size 0: the least size is 1.",
+    "wave HasStage": "A wave loop has no `{}`: it goes from row to row by itself, and a point comes after those above it and to the left.",
+    "wave RowSet": "A wave loop sets `{}` only by its first statement, `let row = 0;`: take another name here.",
     "input TooMany": "Here number 1,048,577 of the input begins, and 1,048,576 are the most: cut it into several files.",
     "input TooWide": "The number does not fit into 64 bits (from -9223372036854775808 to 9223372036854775807).",
+}
+
+
+RECORD_SENTENCES = {
+    "BadLine": "Line {} of the record (from 0) has none of the forms of its lines",
+    "NotAllowed": "The events before event {} (from 0) are a run of the program on this input, and this one cannot follow them",
+}
+# What an event needs to be allowed, by the first word of its line.
+EVENT_NEEDS = {
+    "begin": "an iteration begins once stage 0 of the previous one has ended, in the order of their numbers, unless the loop is closed, and while fewer than the"
+    " limit (`--throttle`, 1,024 by default) are alive",
+    "read": "the iteration has to come to this read now, and the value has to be that of the cell",
+    "write": "the iteration has to come to this write now, with this value",
+    "wait": "the iteration has to come to a `pipe_wait` of this stage now",
+    "continue": "the iteration has to come to a `pipe_continue` of this stage now",
+    "enter": "the iteration has to have named a stage, and after `wait` the previous iteration has to have passed that stage",
+    "end": "the iteration has to be at the end of the body",
+    "closed": "the loop's test has to be 0 in this iteration",
+    "trap": "the iteration has to come to this trap now",
+    "stop": "a run is stopped once",
 }
 
 
@@ -50,11 +78,13 @@ def meaning(line: str, files: Files) -> Optional[Meaning]:
     """Returns the meaning of a refusal or a read fault, or `None` if the line is neither."""
     if line in WHOLE:
         return Meaning(WHOLE[line])
-    refused, limit_out = REFUSED.fullmatch(line), LIMIT_OUT.fullmatch(line)
+    refused, limit_out, in_record = (form.fullmatch(line) for form in (REFUSED, LIMIT_OUT, REFUSED_RECORD))
     if refused:
         return refusal(refused[1], refused[2], int(refused[3]), files)
     if limit_out:
         return limit_meaning(int(limit_out[1]), files.source)
+    if in_record:
+        return record_meaning(in_record[1], int(in_record[2]), files.record)
     return file_meaning(line)
 
 
@@ -67,6 +97,39 @@ def file_meaning(line: str) -> Optional[Meaning]:
     if fault:
         return Meaning(f"`{fault[1]}` exists and could not be read: it may be a folder, or you may not have the right to read it.")
     return None
+
+
+def record_meaning(kind: str, number: int, record: Optional[Text]) -> Meaning:
+    """Returns the meaning of a refused line or event of a record, by its number from 0."""
+    sentence = RECORD_SENTENCES[kind].format(number)
+    if record is None or not record.data:
+        return Meaning(f"{sentence}. (Give the record's name after those of the source and of the input to see its line.)")
+    lines = record.lines()
+    line = number if kind == "BadLine" else number + first_event_line(lines)
+    text = lines[line] if line < len(lines) else b""
+    reason = bad_line(text) if kind == "BadLine" else refused_event(text)
+    return Meaning(f"{sentence}: {reason}.", record, [record.line_offset(line)])
+
+
+def first_event_line(lines: Sequence[bytes]) -> int:
+    """Returns the number of the first line, from 0, that is no emitted number, race or trap."""
+    return next((number for number, line in enumerate(lines) if not OUTCOME_LINE.fullmatch(line)), len(lines))
+
+
+def bad_line(line: bytes) -> str:
+    """Returns why a line may be none of a record."""
+    if line == b"":
+        return "it is empty"
+    if line.endswith(b"\r"):
+        return "it ends with a carriage return: save the file with line feeds (`Unix` line ends)"
+    if OUTCOME_LINE.fullmatch(line):
+        return "emitted numbers, races and a trap are in range and are before the first event, and a race names a cell of the program"
+    return "its cell has to be one of the program, and its numbers plain and in range (an iteration is at most 65,536)"
+
+
+def refused_event(line: bytes) -> str:
+    """Returns what the event of a line needs to be allowed."""
+    return EVENT_NEEDS.get(line.split(b" ")[0].decode("latin-1"), "it is no event of the program here")
 
 
 def limit_meaning(which: int, source: Source) -> Meaning:

@@ -1,7 +1,11 @@
 """Appends to the file GATE_COST_LOG a line for each command that a Python program waits for: processor seconds, part of the gate, crate.
 
 Python imports a module of this name when it starts. So `rt`, which starts all checks of the gate, does as it always does, and the
-system's account of each process that ended is read beside it."""
+system's account of each process that ended is read beside it.
+
+Parts are `proof`, `tests`, `edit` (the check of a mutation test), `whole` (a check of the crate around its mutation tests) and
+`other`. Some versions of `rt` try the tests of a crate one after the other over one folder, and at last the crate itself. Of these
+checks the order says which is which, so their part is `over`, and the folder follows the crate."""
 import os
 import re
 import subprocess
@@ -19,7 +23,9 @@ def part_of(words):
             return "tests", crate
         if verb == "check" and "-o" not in words:
             kept = words[words.index("--incremental") + 1] if "--incremental" in words else ""
-            return "seed" if kept.endswith("/seed") else "edit", crate
+            if "/rt-edits-" in kept:
+                return "over", f"{crate} {kept}"
+            return "whole" if kept.endswith("/seed") else "edit", crate
         return "proof", crate
     run = next(filter(None, map(RUN.fullmatch, words)), None)
     if run:
