@@ -9,3 +9,4 @@ mod left_parent;
 mod row;
 mod rows;
 mod trace;
+pub mod weigh;

@@ -1,5 +1,5 @@
 -- The serial elision grows by one iteration after the other.
-use Rattle.std.proofs.Common.{◌≡◌, ◌∙◌, ap, sym, refl, subst, ℕ, zero, suc, ◌+◌, ◌-◌, List, [], ◌∷◌, ◌++◌, Bool, true, false, Option, Some, None, length, map, append-nil, append_assoc, arith}
+use Rattle.std.proofs.Common.{◌≡◌, ◌∙◌, ap, sym, refl, subst, ℕ, ℤ, pos, zero, suc, ◌+◌, ◌-◌, List, [], ◌∷◌, ◌++◌, Bool, true, false, Option, Some, None, length, map, append-nil, append_assoc, arith}
 use Rattle.std.proofs.lemmas.List.{map-append}
 use Rattle.std.specs.Option.{option_or}
 use Rattle.cell_store.specs.ShardState.{IsStateAfter}
@@ -11,15 +11,17 @@ use Rattle.pipe_model.specs.declared.column.ColumnEnd.TheVariants as ends
 use Rattle.pipe_model.specs.declared.event.Event.TheVariants as events
 use Rattle.pipe_model.specs.declared.trap.TrapAt.{TrapAt}
 use Rattle.pipe_model.specs.declared.trap.TrapPlace.TheVariants.{At}
+use Rattle.pipe_model.specs.Language.SyntaxTree.{SyntaxTree}
 use Rattle.pipe_model.specs.Pipelines.Behaviour.{Action, accesses_in, closes_loop, column_of, nodes_in, trace_end}
 use Rattle.pipe_model.specs.Pipelines.ElisionResults.{ended_column, first_of_both, first_trap, serial_ended_columns, serial_trap, trap_at_end}
 use Rattle.pipe_model.specs.Pipelines.Pipeline.{Pipeline}
-use Rattle.pipe_model.specs.Pipelines.SerialElision.{located, located_from, serial_accesses, serial_events, serial_trace, serial_traces_from, trace_events, trace_events_from, unless}
+use Rattle.pipe_model.specs.Pipelines.SerialElision.{located, located_from, serial_accesses, serial_events, serial_trace, serial_traces, serial_traces_from, trace_events, trace_events_from, unless}
 use Rattle.pipe_model.specs.Pipelines.WholePrograms.{part_trap}
 use Rattle.pipe_model.specs.Races.Columns.{at, node_at}
 use Rattle.pipe_model.specs.Runs.State.{accesses_of}
 use Rattle.run_laws.proofs.Iterations.LocatedActions.{accesses_of-located}
 use Rattle.serial_elision.specs.declared.log.Log.{Log}
+use Rattle.serial_elision.specs.ElisionSteps.{iteration_steps, steps_from}
 use Rattle.serial_elision.specs.LoopRuns.{LoopRan}
 use Rattle.serial_elision.specs.ColumnTraps.{column_trap, last_place}
 use Rattle.serial_elision.specs.PartRuns.{PartRan, column_closes}
@@ -52,9 +54,9 @@ first_alone None = refl
 first_alone (Some t) = refl
 
 -- no iteration follows
-pub elided_all : (p : Pipeline) (i : ℕ) (columns : List Column) (trap : Option TrapAt) (log : Log) → Elided p 0 i columns trap log
-    → LoopRan p (record { columns = columns; trap = trap; log = log })
-elided_all p i columns trap log h = record {
+pub elided_all : (p : Pipeline) (i : ℕ) (columns : List Column) (steps : List ℤ) (trap : Option TrapAt) (log : Log) → Elided p 0 i columns trap log
+    → LoopRan p (record { columns = columns; steps = steps; trap = trap; log = log })
+elided_all p i columns steps trap log h = record {
   columns_are = sym (append-nil columns) ∙ h.all_columns;
   trap_is = first_alone trap ∙ h.least_trap;
   accesses_are = sym (append-nil log.accesses) ∙ h.all_accesses;
@@ -89,6 +91,13 @@ rest_after : (p : Pipeline) (n m i : ℕ) (t : List Action) (before after : List
 rest_after p n m i t before after true e closed open' same = rw (e, closed refl) refl
 rest_after p n m i t before after false e closed open' same = rw (e, open' refl, same) refl
 
+-- the accesses so far, after one iteration more
+grown_by : (p : Pipeline) (i : ℕ) (t : List Action) (log now : Log) → now.accesses ≡ log.accesses ++ located i 0 t
+    → p.preamble ++ accesses_of now.accesses ≡ (p.preamble ++ accesses_of log.accesses) ++ accesses_in t
+grown_by p i t log now e =
+    ap (λ l. p.preamble ++ l) (ap accesses_of e ∙ map-append (λ (a : NodeAccess). a.access) log.accesses (located i 0 t)
+    ∙ ap (λ l. accesses_of log.accesses ++ l) (accesses_of-located i 0 t)) ∙ sym (append_assoc p.preamble (accesses_of log.accesses) (accesses_in t))
+
 -- one iteration more
 pub elided_more : (p : Pipeline) (n m i : ℕ) (columns : List Column) (trap : Option TrapAt) (log now : Log) (column : Column)
     → Elided p (suc n) i columns trap log
@@ -99,9 +108,7 @@ elided_more p n m i columns trap log now column h one closed open' =
     let base : List Access = p.preamble ++ accesses_of log.accesses in
     let t : List Action = serial_trace p.store (p.behaviour i) base in
     let rest : List (List Action) = unless (closes_loop t) (serial_traces_from p n (i + 1) (base ++ accesses_in t)) in
-    let grown : p.preamble ++ accesses_of now.accesses ≡ base ++ accesses_in t =
-    ap (λ l. p.preamble ++ l) (ap accesses_of one.accesses_are ∙ map-append (λ (a : NodeAccess). a.access) log.accesses (located i 0 t)
-    ∙ ap (λ l. accesses_of log.accesses ++ l) (accesses_of-located i 0 t)) ∙ sym (append_assoc p.preamble (accesses_of log.accesses) (accesses_in t)) in
+    let grown : p.preamble ++ accesses_of now.accesses ≡ base ++ accesses_in t = grown_by p i t log now one.accesses_are in
     let left : serial_traces_from p m (i + 1) (p.preamble ++ accesses_of now.accesses) ≡ rest =
     rest_after p n m i t base (p.preamble ++ accesses_of now.accesses) (column_closes column) (sym one.closes) closed open' grown in
     let own : column_trap i column ≡ trap_at_end i t (trace_end t) = ap (column_trap i) one.column_is ∙ trap_of_trace i t (trace_end t) in
@@ -132,3 +139,46 @@ elided_push p n m i columns pushed trap last least log now column closes h one i
     let trapped : least ≡ first_of_both trap (column_trap i column) = first ∙ or_is_first trap last ∙ ap (first_of_both trap) own in
     subst (λ x. Elided p m (i + 1) x least now) (sym push) (subst (λ x. Elided p m (i + 1) (columns ++ column ∷ []) x now) (sym trapped)
     (elided_more p n m i columns trap log now column h one (λ e. closed (is ∙ e)) (λ e. open' (is ∙ e))))
+
+-- ---- steps
+
+-- at most n iterations follow, from iteration i on: with theirs, these are the steps of the elision
+pub record StepsSoFar (tree : SyntaxTree) (input : List ℤ) (p : Pipeline) (n i : ℕ) (log : Log) (steps : List ℤ) : Type 0 where
+  pub all_steps : steps ++ map pos (steps_from tree input i (p.preamble ++ accesses_of log.accesses)
+      (serial_traces_from p n i (p.preamble ++ accesses_of log.accesses))) ≡ map pos (steps_from tree input 0 p.preamble (serial_traces p))
+
+-- before the first iteration
+pub steps_none : (tree : SyntaxTree) (input : List ℤ) (p : Pipeline) (log : Log) → log.accesses ≡ []
+    → StepsSoFar tree input p (p.last_iteration + 1) 0 log []
+steps_none tree input p log no_access =
+    let same : p.preamble ++ accesses_of log.accesses ≡ p.preamble = ap (λ l. p.preamble ++ accesses_of l) no_access ∙ append-nil p.preamble in
+    record { all_steps = ap (λ l. map pos (steps_from tree input 0 l (serial_traces_from p (p.last_iteration + 1) 0 l))) same }
+
+-- no iteration follows
+pub steps_all : (tree : SyntaxTree) (input : List ℤ) (p : Pipeline) (i : ℕ) (log : Log) (steps : List ℤ) → StepsSoFar tree input p 0 i log steps
+    → steps ≡ map pos (steps_from tree input 0 p.preamble (serial_traces p))
+steps_all tree input p i log steps h = sym (append-nil steps) ∙ h.all_steps
+
+-- one iteration more, as the loop keeps it
+pub steps_push : (tree : SyntaxTree) (input : List ℤ) (p : Pipeline) (n m i : ℕ) (log now : Log) (column : Column) (closes : Bool) (steps grown : List ℤ)
+    → StepsSoFar tree input p (suc n) i log steps
+    → PartRan p.store (p.preamble ++ accesses_of log.accesses) (serial_trace p.store (p.behaviour i) (p.preamble ++ accesses_of log.accesses)) i log column now
+    → closes ≡ column_closes column → (closes ≡ true → m ≡ zero) → (closes ≡ false → m ≡ n)
+    → grown ≡ steps ++ map pos (iteration_steps tree input i (p.preamble ++ accesses_of log.accesses))
+    → StepsSoFar tree input p m (i + 1) now grown
+steps_push tree input p n m i log now column closes steps grown h one is closed open' push =
+    let base : List Access = p.preamble ++ accesses_of log.accesses in
+    let t : List Action = serial_trace p.store (p.behaviour i) base in
+    let rest : List (List Action) = unless (closes_loop t) (serial_traces_from p n (i + 1) (base ++ accesses_in t)) in
+    let same : p.preamble ++ accesses_of now.accesses ≡ base ++ accesses_in t = grown_by p i t log now one.accesses_are in
+    let left : serial_traces_from p m (i + 1) (p.preamble ++ accesses_of now.accesses) ≡ rest =
+    rest_after p n m i t base (p.preamble ++ accesses_of now.accesses) closes (sym one.closes ∙ sym is) closed open' same in
+    let own : List ℕ = iteration_steps tree input i base in
+    let more : List ℕ = steps_from tree input (i + 1) (base ++ accesses_in t) rest in
+    record {
+      all_steps =
+          ap (λ r. grown ++ map pos (steps_from tree input (i + 1) (p.preamble ++ accesses_of now.accesses) r)) left
+          ∙ ap (λ l. grown ++ map pos (steps_from tree input (i + 1) l rest)) same
+          ∙ ap (λ l. l ++ map pos more) push ∙ append_assoc steps (map pos own) (map pos more)
+          ∙ ap (λ l. steps ++ l) (sym (map-append pos own more)) ∙ h.all_steps;
+    }

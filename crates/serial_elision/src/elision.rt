@@ -56,7 +56,12 @@ fn run_final(
     requires ran { LoopRan (loop_after_init (whole_of (tree_of prepared.now.checked.now) prepared.now.input.now)) run }
     ensures { IfOk result (λ r. IsElision (whole_of (tree_of prepared.now.checked.now) prepared.now.input.now) r) }
 {
-    let LoopRun { columns, trap, log } = run;
+    let LoopRun {
+        columns,
+        trap,
+        log,
+        ..
+    } = run;
     let Log {
         cells,
         accesses,

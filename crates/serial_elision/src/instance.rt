@@ -1,13 +1,16 @@
 //! Stage instances.
 
 ghost use Rattle.std.specs.Prelude.{◌≡◌, ◌≤◌, IfOk};
+ghost use Rattle.pipe_model.specs.declared.column.ColumnEnd.{ColumnEnd};
+ghost use Rattle.pipe_model.specs.Language.Interaction.{Interaction};
 ghost use Rattle.pipe_model.specs.Language.Programs.{natural};
 ghost use Rattle.pipe_model.specs.Pipelines.Behaviour.{Behaviour};
 ghost use Rattle.stage_code.specs.FlatCode.{FlatCode};
 ghost use Rattle.stage_interp.specs.MachineState.{IsMadeFor};
 ghost use Rattle.stage_interp.specs.Standing.{StandsFor};
+ghost use Rattle.stage_interp.specs.TreeRuns.{StandsForTree};
 ghost use Rattle.serial_elision.specs.Recording.{IsWhole};
-ghost use Rattle.serial_elision.specs.InstanceRuns.{CountsNext, RanFrom, instance_end};
+ghost use Rattle.serial_elision.specs.InstanceRuns.{CountsNext, RanFrom, RanTreeFrom, instance_end};
 
 use crate::log::Log;
 use crate::prepared::Prepared;
@@ -56,6 +59,10 @@ fn run_from<B: Beginning>(
     requires before { (t : Behaviour) × StandsFor prepared.now.code.now log.cells.shard.cells prepared.now.input.now machine.old.run t }
     ensures ran { IfOk result (λ r. (t : Behaviour) → StandsFor prepared.now.code.now log.cells.shard.cells prepared.now.input.now machine.old.run t
         → RanFrom prepared.now.code.now log.cells.shard.cells prepared.now.input.now t node log r.1 machine.new.run r.0) }
+    ensures tree { IfOk result (λ r. (d : Interaction ColumnEnd)
+        → StandsForTree prepared.now.code.now log.cells.shard.cells prepared.now.input.now machine.old.run d
+        → RanTreeFrom prepared.now.code.now log.cells.shard.cells prepared.now.input.now d node log r.1 machine.new.run r.0) }
+    ensures budget { machine.new.run.budget ≡ natural prepared.now.code.now.limits.steps }
     ensures whole { IfOk result (λ r. IsWhole r.1.cells) }
     ensures shard { IfOk result (λ r. r.1.cells.shard ≡ log.cells.shard) }
     ensures made { (code : FlatCode) → IsMadeFor code machine.old → IsMadeFor code machine.new }
@@ -86,6 +93,10 @@ pub fn run_instance(
     requires before { (t : Behaviour) × StandsFor prepared.now.code.now log.cells.shard.cells prepared.now.input.now machine.old.run t }
     ensures ran { IfOk result (λ r. (t : Behaviour) → StandsFor prepared.now.code.now log.cells.shard.cells prepared.now.input.now machine.old.run t
         → RanFrom prepared.now.code.now log.cells.shard.cells prepared.now.input.now t node log r.1 machine.new.run r.0) }
+    ensures tree { IfOk result (λ r. (d : Interaction ColumnEnd)
+        → StandsForTree prepared.now.code.now log.cells.shard.cells prepared.now.input.now machine.old.run d
+        → RanTreeFrom prepared.now.code.now log.cells.shard.cells prepared.now.input.now d node log r.1 machine.new.run r.0) }
+    ensures budget { machine.new.run.budget ≡ natural prepared.now.code.now.limits.steps }
     ensures whole { IfOk result (λ r. IsWhole r.1.cells) }
     ensures shard { IfOk result (λ r. r.1.cells.shard ≡ log.cells.shard) }
     ensures made { (code : FlatCode) → IsMadeFor code machine.old → IsMadeFor code machine.new }

@@ -1,14 +1,16 @@
 //! The iterations of the loop, in order.
 
-ghost use Rattle.std.specs.Prelude.{◌≡◌, ◌≤◌, IfOk};
+ghost use Rattle.std.specs.Prelude.{◌≡◌, ◌≤◌, IfOk, map, pos};
 ghost use Rattle.cell_store.specs.ShardState.{IsStateAfter};
 ghost use Rattle.pipe_model.specs.declared.bounds.TheConstants.{MOST_ITERATIONS};
 ghost use Rattle.pipe_model.specs.Language.Programs.{natural, store_of};
 ghost use Rattle.pipe_model.specs.Language.ProgramsOfTrees.{whole_of};
 ghost use Rattle.pipe_model.specs.Language.SyntaxTree.{tree_of};
+ghost use Rattle.pipe_model.specs.Pipelines.SerialElision.{serial_traces};
 ghost use Rattle.pipe_model.specs.Pipelines.WholePrograms.{init_accesses, loop_after_init};
 ghost use Rattle.stage_interp.specs.MachineState.{IsMadeFor};
 ghost use Rattle.stage_interp.specs.Standing.{IsCodeOf};
+ghost use Rattle.serial_elision.specs.ElisionSteps.{steps_from};
 ghost use Rattle.serial_elision.specs.LoopRuns.{LoopRan};
 ghost use Rattle.serial_elision.specs.PartRuns as part_runs;
 ghost use Rattle.serial_elision.specs.PartRuns.{Serves};
@@ -19,6 +21,7 @@ use crate::prepared::Prepared;
 use crate::traps::column_trap;
 use cell_store::cells::Cells;
 use pipe_model::column::{Column, ColumnEnd, Columns};
+use pipe_model::list::Numbers;
 use pipe_model::memory::NoMemory;
 use pipe_model::trap::TrapAt;
 use stage_code::code::Code;
@@ -26,11 +29,12 @@ use stage_code::instr::Part;
 use stage_interp::machine::Machine;
 use std::alloc::Global;
 
-/// What the loop did: the column of each iteration, the trap of the least iteration that trapped,
-/// and the log.
+/// What the loop did: the column of each iteration, the steps of each stage instance in column
+/// order, the trap of the least iteration that trapped, and the log.
 #[derive(Drop)]
 pub struct LoopRun {
     pub columns: Columns,
+    pub steps: Numbers,
     pub trap: Option<TrapAt>,
     pub log: Log,
 }
@@ -62,8 +66,8 @@ fn last_iteration(code: &Code) -> u32
     code.limits().iterations as u32
 }
 
-// Runs the iterations up to the one that closes the loop, over cells that `init` has left. Returns
-// an error only if memory runs out.
+/// Runs the iterations up to the one that closes the loop, over cells that `init` has left. Returns
+/// an error only if memory runs out.
 pub fn run_loop(
     alloc: Global,
     machine: &mut Machine,
@@ -76,22 +80,44 @@ pub fn run_loop(
     requires state { IsStateAfter (store_of (tree_of prepared.now.checked.now))
         (init_accesses (whole_of (tree_of prepared.now.checked.now) prepared.now.input.now)) cells }
     ensures ran { IfOk result (λ run. LoopRan (loop_after_init (whole_of (tree_of prepared.now.checked.now) prepared.now.input.now)) run) }
+    ensures steps { IfOk result (λ run. run.steps ≡ map pos (steps_from (tree_of prepared.now.checked.now) prepared.now.input.now 0
+        (init_accesses (whole_of (tree_of prepared.now.checked.now) prepared.now.input.now))
+        (serial_traces (loop_after_init (whole_of (tree_of prepared.now.checked.now) prepared.now.input.now))))) }
     ensures made { IfOk result (λ run. IsMadeFor prepared.now.code.now machine.new) }
     ensures serves { IfOk result (λ run. Serves (tree_of prepared.now.checked.now) run.log.cells) }
 {
     let last = last_iteration(prepared.code);
     let mut columns = Columns::new(alloc);
+    let mut steps = Numbers::new(alloc);
     let mut trap = None;
     let mut log = Log::new(alloc, cells);
     for iteration in 0..last + 1 {
-        let (column, ran) = run_part(alloc, machine, prepared, Part::Pipe, iteration, log)?;
+        let (column, ran) = run_part(
+            alloc,
+            machine,
+            prepared,
+            Part::Pipe,
+            iteration,
+            log,
+            &mut steps,
+        )?;
         log = ran;
         trap = trap.or(column_trap(iteration, &column));
         let closes = column_closes(&column);
         columns.push(column)?;
         if closes {
-            return Ok(LoopRun { columns, trap, log });
+            return Ok(LoopRun {
+                columns,
+                steps,
+                trap,
+                log,
+            });
         }
     }
-    Ok(LoopRun { columns, trap, log })
+    Ok(LoopRun {
+        columns,
+        steps,
+        trap,
+        log,
+    })
 }

@@ -5,7 +5,7 @@
 
 pub mod elision;
 mod instance;
-mod iterations;
+pub mod iterations;
 pub mod law;
 mod log;
 pub mod outer_parts;

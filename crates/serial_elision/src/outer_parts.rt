@@ -20,6 +20,7 @@ use crate::traps::part_trap;
 use cell_store::cells::Cells;
 use pipe_check::checked::Checked;
 use pipe_model::access::{Accesses, NodeAccesses};
+use pipe_model::list::Numbers;
 use pipe_model::memory::NoMemory;
 use pipe_model::trap::{TrapAt, TrapPlace};
 use stage_code::instr::Part;
@@ -84,7 +85,8 @@ pub fn run_alone(
     ensures serves { IfOk result (λ r. Serves (tree_of prepared.now.checked.now) r.cells) }
 {
     let log = Log::new(alloc, cells);
-    let (column, log) = run_part(alloc, machine, prepared, part, 0, log)?;
+    let mut steps = Numbers::new(alloc);
+    let (column, log) = run_part(alloc, machine, prepared, part, 0, log, &mut steps)?;
     Ok(PartRun {
         trap: part_trap(place, column.end),
         accesses: plain_accesses(alloc, &log.accesses)?,

@@ -1,16 +1,18 @@
 //! `init`, an iteration or `final`.
 
-ghost use Rattle.std.specs.Prelude.{◌≡◌, ◌≤◌, ◌<◌, ◌++◌, ◌∷◌, ◌-◌, [], IfOk, List, length};
+ghost use Rattle.std.specs.Prelude.{◌≡◌, ◌≤◌, ◌<◌, ◌++◌, ◌∷◌, ◌-◌, [], IfOk, List, length, map, pos};
 ghost use Rattle.cell_store.specs.ShardState.{IsStateAfter};
 ghost use Rattle.pipe_model.specs.declared.access.Access.{Access};
 ghost use Rattle.pipe_model.specs.declared.event.Event.TheVariants as events;
-ghost use Rattle.pipe_model.specs.Language.Programs.{store_of};
+ghost use Rattle.pipe_model.specs.Language.Programs.{natural, store_of};
 ghost use Rattle.pipe_model.specs.Language.SyntaxTree.{tree_of};
 ghost use Rattle.pipe_model.specs.Pipelines.SerialElision.{serial_trace};
 ghost use Rattle.pipe_model.specs.Races.Columns.{at, no_node};
 ghost use Rattle.stage_code.specs.FlatCode.{FlatCode};
 ghost use Rattle.stage_interp.specs.MachineState.{IsMadeFor};
 ghost use Rattle.stage_interp.specs.Standing.{IsCodeOf, behaviour_in};
+ghost use Rattle.stage_interp.specs.TreeRuns.{interaction_in};
+ghost use Rattle.serial_elision.specs.ElisionSteps.{step_counts};
 ghost use Rattle.serial_elision.specs.PartRuns.{PartRan, Serves, longest_column};
 
 use crate::instance::{InstanceEnd, run_instance};
@@ -18,6 +20,7 @@ use crate::log::Log;
 use crate::prepared::Prepared;
 use pipe_model::column::{Column, ColumnEnd};
 use pipe_model::event::Event;
+use pipe_model::list::Numbers;
 use pipe_model::memory::NoMemory;
 use pipe_model::node::{Kind, Node, NodeId, Nodes};
 use stage_code::instr::Part;
@@ -77,7 +80,8 @@ fn last_node(iteration: u32, nodes: &Nodes) -> NodeId
 }
 
 // Runs a part from its beginning to its end, instance after instance, as an iteration of this
-// number. Returns its column. Returns an error only if memory runs out.
+// number. Returns its column, and appends the steps of each instance. Returns an error only if
+// memory runs out.
 pub fn run_part(
     alloc: Global,
     machine: &mut Machine,
@@ -85,6 +89,7 @@ pub fn run_part(
     part: Part,
     iteration: u32,
     log: Log,
+    steps: &mut Numbers,
 ) -> Result<(Column, Log), NoMemory>
     requires code { IsCodeOf (tree_of prepared.now.checked.now) prepared.now.code.now }
     requires made { IsMadeFor prepared.now.code.now machine.old }
@@ -93,6 +98,10 @@ pub fn run_part(
         → PartRan (store_of (tree_of prepared.now.checked.now)) before
         (serial_trace (store_of (tree_of prepared.now.checked.now)) (behaviour_in (tree_of prepared.now.checked.now) prepared.now.input.now part iteration) before)
         iteration log r.0 r.1) }
+    ensures steps { IfOk result (λ r. (before : List Access) → IsStateAfter (store_of (tree_of prepared.now.checked.now)) before log.cells
+        → steps.new ≡ steps.old ++ map pos (step_counts (store_of (tree_of prepared.now.checked.now)) before
+        (natural (tree_of prepared.now.checked.now).limits.steps) (natural (tree_of prepared.now.checked.now).limits.steps)
+        (interaction_in (tree_of prepared.now.checked.now) prepared.now.input.now part iteration))) }
     ensures some { IfOk result (λ r. 0 < length r.0.nodes) }
     ensures few { IfOk result (λ r. length r.0.nodes ≤ longest_column) }
     ensures made { IfOk result (λ r. (code : FlatCode) → IsMadeFor code machine.old → IsMadeFor code machine.new) }
@@ -105,6 +114,7 @@ pub fn run_part(
     loop {
         let node = last_node(iteration, &nodes);
         let (end, ran) = run_instance(machine, prepared, node, log)?;
+        steps.push(machine.steps())?;
         match end {
             InstanceEnd::Next(kind, number) => {
                 nodes.push(Node { number, kind })?;

@@ -1,14 +1,17 @@
 //! The machine that runs stage instances.
 
-ghost use Rattle.std.specs.Prelude.{◌≡◌, ◌≤◌, ◌+◌, ℕ, ℤ, List, Some, IfOk};
+ghost use Rattle.std.specs.Prelude.{◌≡◌, ◌≤◌, ◌+◌, ℕ, ℤ, List, Some, IfOk, pos};
+ghost use Rattle.pipe_model.specs.declared.column.ColumnEnd.{ColumnEnd};
 ghost use Rattle.pipe_model.specs.Language.CheckingRules.{cell_total};
+ghost use Rattle.pipe_model.specs.Language.Interaction.{Interaction};
 ghost use Rattle.pipe_model.specs.Language.Programs.{natural};
 ghost use Rattle.pipe_model.specs.Language.SyntaxTree.{SyntaxTree};
 ghost use Rattle.pipe_model.specs.Pipelines.Behaviour.{Behaviour};
 ghost use Rattle.stage_code.specs.FlatCode.{FlatCode};
 ghost use Rattle.stage_interp.specs.Executions.{Counts, StopsOnly};
-ghost use Rattle.stage_interp.specs.MachineState.{IsMadeFor, iteration_in, start_in};
+ghost use Rattle.stage_interp.specs.MachineState.{IsMadeFor, iteration_in, start_in, steps_of};
 ghost use Rattle.stage_interp.specs.Standing.{IsCodeOf, IsStopped, RanInstance, StandsFor, behaviour_in};
+ghost use Rattle.stage_interp.specs.TreeRuns.{IsStoppedTree, RanTree, StandsForTree, interaction_in};
 
 use crate::execution::Execution;
 use crate::memory::Memory;
@@ -59,7 +62,8 @@ impl Machine {
     /// # Errors
     /// Out of memory.
     pub fn new(alloc: Global, code: &Code) -> Result<Self, NoMemory>
-        ensures { IfOk result (λ m. IsMadeFor code.now m) }
+        ensures made { IfOk result (λ m. IsMadeFor code.now m) }
+        ensures steps { IfOk result (λ m. steps_of m.run ≡ 0) }
     {
         let execution = Execution::new(alloc, code.depth())?;
         Ok(Machine {
@@ -88,6 +92,9 @@ impl Machine {
         ensures made { (code : FlatCode) → IsMadeFor code self.old → IsMadeFor code self.new }
         ensures stands { (tree : SyntaxTree) (code : FlatCode) (cells : ℕ) (input : List ℤ) → IsCodeOf tree code → IsMadeFor code self.old
             → cell_total tree.cells + 2 ≤ cells → StandsFor code cells input self.new.run (behaviour_in tree input part iteration) }
+        ensures tree { (tree : SyntaxTree) (code : FlatCode) (cells : ℕ) (input : List ℤ) → IsCodeOf tree code → IsMadeFor code self.old
+            → cell_total tree.cells + 2 ≤ cells → StandsForTree code cells input self.new.run (interaction_in tree input part iteration) }
+        ensures steps { steps_of self.new.run ≡ 0 }
     {
         let start = self.start(part);
         let Some(taken) = self.execution.take() else {
@@ -109,6 +116,10 @@ impl Machine {
         requires few { M.served memory.old ≤ 4294967296 }
         ensures ran { (t : Behaviour) → StandsFor code.now (M.served memory.old) input.now self.old.run t
             → RanInstance code.now (M.served memory.old) input.now t (M.made memory.old) (M.made memory.new) self.new.run result }
+        ensures tree { (d : Interaction ColumnEnd) → StandsForTree code.now (M.served memory.old) input.now self.old.run d
+            → RanTree code.now (M.served memory.old) input.now d (natural code.now.limits.steps) (M.made memory.old) (M.made memory.new) self.new.run
+            result }
+        ensures budget { self.new.run.budget ≡ natural code.now.limits.steps }
         ensures made { (c : FlatCode) → IsMadeFor c self.old → IsMadeFor c self.new }
         ensures counts { Counts (Some result) self.old.run.state.stage.count self.new.run.state.stage.count (natural code.now.limits.stages) }
         ensures stops { StopsOnly (Some result) (M.stopped memory.new) }
@@ -134,6 +145,9 @@ impl Machine {
         requires few { M.served memory.old ≤ 4294967296 }
         ensures ran { (t : Behaviour) → IsStopped code.now (M.served memory.old) input.now self.old.run t
             → RanInstance code.now (M.served memory.old) input.now t (M.made memory.old) (M.made memory.new) self.new.run result }
+        ensures tree { (d : Interaction ColumnEnd) → IsStoppedTree code.now (M.served memory.old) input.now self.old.run d
+            → RanTree code.now (M.served memory.old) input.now d self.old.run.left (M.made memory.old) (M.made memory.new) self.new.run result }
+        ensures budget { self.new.run.budget ≡ self.old.run.budget }
         ensures made { (c : FlatCode) → IsMadeFor c self.old → IsMadeFor c self.new }
         ensures counts { Counts (Some result) self.old.run.state.stage.count self.new.run.state.stage.count (natural code.now.limits.stages) }
         ensures stops { StopsOnly (Some result) (M.stopped memory.new) }
@@ -147,6 +161,17 @@ impl Machine {
                 self.execution = Some(execution);
                 end
             }
+        }
+    }
+
+    /// Returns the steps so far of the stage instance that was run last: its budget without the
+    /// steps that are left of it. Returns 0 if none was run since `new` or `reset`.
+    pub fn steps(&self) -> i64
+        ensures { result ≡ pos (steps_of self.now.run) }
+    {
+        match &self.execution {
+            None => unreachable!(),
+            Some(execution) => execution.steps(),
         }
     }
 }

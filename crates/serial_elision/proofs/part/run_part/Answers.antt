@@ -1,14 +1,17 @@
 use Rattle.std.proofs.Common.{◌∙◌, ◌≤◌, ◌+◌, ap, sym, subst, arith, length, length-append, rules, w64}
 use Rattle.std.proofs.lemmas.Int.{to_z-of_z}
 use mir.Val.{SFits}
+use Rattle.pipe_model.specs.declared.tree.Limits.{Limits}
 use Rattle.pipe_model.specs.Language.CheckingRules.{cell_total}
 use Rattle.pipe_model.specs.Language.Programs.{natural, store_of}
 use Rattle.pipe_model.specs.Language.SyntaxTree.{tree_of}
 use Rattle.stage_interp.specs.Standing.{behaviour_in}
+use Rattle.stage_interp.specs.TreeRuns.{interaction_in}
 use Rattle.serial_elision.specs.declared.log.Log.{Log}
 use Rattle.serial_elision.specs.InstanceRuns.{CountsNext}
 use Rattle.serial_elision.specs.Recording.{IsWhole}
 use Rattle.serial_elision.proofs.PartRuns.{left_begun, left_ended, left_entered, natural_most}
+use Rattle.serial_elision.proofs.StepCounts.{steps_begun, steps_ended, steps_entered}
 use Rattle.serial_elision.proofs.part.run_part.Goals as goal
 
 pub loop-nodes-init : goal.loop-nodes-init
@@ -19,12 +22,15 @@ loop-nodes-init c =
     let cells = c.args.log.cells.shard.cells in
     let served : cell_total tree.cells + 2 ≤ cells = omega (arith, c.requires.serves.count) in
     let stands = c.reset.ensures.stands tree code cells input c.requires.code c.requires.made served in
+    let tree_stands = c.reset.ensures.tree tree code cells input c.requires.code c.requires.made served in
     let begun = c.in_ok-log.ensures in
     let one = ap length c.in_ok-nodes.ensures in
     record {
       left = left_begun code cells input (store_of tree) (behaviour_in tree input c.args.part c.args.iteration) c.args.iteration c.args.log
           c.reset.new.self.run c.in_ok-nodes.nodes c.in_ok-log.log
           stands c.in_ok-nodes.ensures begun;
+      counted = steps_begun code cells input (store_of tree) (interaction_in tree input c.args.part c.args.iteration) c.args.iteration c.args.log
+          c.args.steps.now c.reset.new.self.run c.in_ok-log.log tree_stands begun;
       made = c.reset.ensures.made;
       shard = ap (λ (l : Log). l.cells.shard) begun;
       whole = subst (λ (l : Log). IsWhole l.cells) (sym begun) c.requires.serves.whole;
@@ -41,6 +47,7 @@ loop-nodes-preserved c =
     let s = c.loop-nodes in
     let ran = c.in_ok-end.ran in
     let fits : SFits w64 c.in-Next.number = search rules in
+    let took : SFits w64 c.steps.result = search rules in
     let entered = simp to_z-of_z at c.in_ok-log-in-Next.ensures in
     let grown = simp to_z-of_z at c.in_ok-push-in-Next.ensures.ok in
     let counts = subst (λ e. CountsNext e s.machine.run.state.stage.count c.run_instance.new.machine.run.state.stage.count
@@ -51,9 +58,14 @@ loop-nodes-preserved c =
     record {
       left = left_entered code c.args.log.cells.shard.cells s.log.cells.shard.cells input (store_of tree)
           (behaviour_in tree input c.args.part c.args.iteration) c.args.iteration c.args.log s.machine.run
-          c.run_instance.new.machine.run c.last_node-node.result s.nodes c.push.new.self s.log ran c.in_ok-log-in-Next.log c.in_ok-end.end
+          c.run_instance.new.machine.run c.last_node-node.result s.nodes c.push-in-Next.new.self s.log ran c.in_ok-log-in-Next.log c.in_ok-end.end
           c.in-Next.kind c.in-Next.number s.invariant.left
           c.in_ok-end.ensures.ran (ap (λ x. x.cells) s.invariant.shard) c.last_node-node.ensures c.in-Next.is grown entered;
+      counted = steps_entered code c.args.log.cells.shard.cells s.log.cells.shard.cells input (store_of tree)
+          (interaction_in tree input c.args.part c.args.iteration) c.args.iteration c.args.log c.args.steps.now s.machine.run
+          c.run_instance.new.machine.run c.last_node-node.result s.log ran c.in_ok-log-in-Next.log s.steps _ c.steps.result c.in_ok-end.end
+          c.in-Next.kind c.in-Next.number s.invariant.counted c.in_ok-end.ensures.tree (ap (λ x. x.cells) s.invariant.shard) c.in-Next.is
+          c.run_instance.ensures.budget c.steps.ensures (simp to_z-of_z at c.in_ok-push.ensures.ok) entered;
       made = λ k h. c.run_instance.ensures.made k (s.invariant.made k h);
       shard = ap (λ (l : Log). l.cells.shard) entered ∙ c.in_ok-end.ensures.shard ∙ s.invariant.shard;
       whole = subst (λ (l : Log). IsWhole l.cells) (sym entered) c.in_ok-end.ensures.whole;
@@ -76,3 +88,17 @@ returns-in-Ended-clause-ran c = λ before state.
 
 pub returns-in-Ended-clause-made : goal.returns-in-Ended-clause-made
 returns-in-Ended-clause-made c = λ k h. c.run_instance.ensures.made k (c.loop-nodes.invariant.made k h)
+
+pub returns-in-Ended-clause-steps : goal.returns-in-Ended-clause-steps
+returns-in-Ended-clause-steps c = λ before state.
+    let tree = tree_of c.args.prepared.now.checked.now in
+    let code = c.args.prepared.now.code.now in
+    let input = c.args.prepared.now.input.now in
+    let s = c.loop-nodes in
+    let took : SFits w64 c.steps.result = search rules in
+    steps_ended code c.args.log.cells.shard.cells s.log.cells.shard.cells input (store_of tree)
+    (interaction_in tree input c.args.part c.args.iteration) c.args.log c.args.steps.now s.machine.run
+    c.run_instance.new.machine.run c.last_node-node.result s.log c.in_ok-end.ran s.steps _ c.steps.result c.in_ok-end.end c.in-Ended.end
+    before (natural tree.limits.steps) s.invariant.counted c.in_ok-end.ensures.tree (ap (λ x. x.cells) s.invariant.shard) c.in-Ended.is
+    c.run_instance.ensures.budget c.steps.ensures (simp to_z-of_z at c.in_ok-push.ensures.ok)
+    (ap (λ (l : Limits). natural l.steps) c.requires.code.limits) state
