@@ -24,7 +24,7 @@ use Rattle.cilkp_program.specs.CommandFiles.{asks_record, asks_wave, program_by}
 use Rattle.cilkp_program.specs.Headline.{AgreesWithElision, MeetsHeadline}
 use Rattle.cilkp_program.specs.ProgramFiles.{FileContents, IsSourceOf}
 use Rattle.cilkp_program.specs.RecordedRuns.{IsRecordedRun}
-use Rattle.cilkp_program.specs.Rows.{IsLogOf, OfPlay, OfRun, OfWave, Row, NoCommand, SourceRefused, Formats, Benches, WaveRefused, InputRefused, Runs, RunsSerially, ChecksRecord}
+use Rattle.cilkp_program.specs.Rows.{IsLogOf, OfPlay, OfRun, OfWave, Row, NoCommand, SourceRefused, Formats, Benches, WaveRefused, InputRefused, Runs, RunsSerially, ChecksRecord, Weighs}
 use Rattle.cilkp_program.specs.WaveCalls.{AgreesWithGrid, IsToRunWave, ReturnsGrid}
 
 -- what agrees with the elision of the lowered program agrees with the grid
@@ -96,6 +96,7 @@ grid_row {asked} {status = status} {text = text} {reports = reports} tree number
     }
 grid_row tree numbers limit a s i (RunsSerially source input other others w o r) = absurd (apart a.command w (λ e. cc (e)))
 grid_row tree numbers limit a s i (ChecksRecord source input saved throttle other others w o r) = absurd (apart a.command w (λ e. cc (e)))
+grid_row tree numbers limit a s i (Weighs source input other others w o r) = absurd (apart a.command w (λ e. cc (e)))
 
 -- the result of a call that runs a wave loop, if no read failed
 grid_result : {asked : Option Command} {content : Content} {before now status : ℕ} {text : List ℕ} {log : Option RunLog} {reports : List Report}

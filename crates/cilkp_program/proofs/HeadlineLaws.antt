@@ -27,7 +27,7 @@ use Rattle.cilkp_program.specs.declared.program_run.FinishedRun.{FinishedRun}
 use Rattle.cilkp_program.specs.RecordedRuns.{IsRecordedRun, ReturnsRun, recorded}
 use Rattle.cilkp_program.specs.RunResults.{HasRun, IsFinishedRunOf}
 use Rattle.cilkp_program.specs.ProgramFiles.{FileContents}
-use Rattle.cilkp_program.specs.Rows.{Row, NoCommand, SourceRefused, Formats, Benches, WaveRefused, InputRefused, Runs, RunsSerially, ChecksRecord}
+use Rattle.cilkp_program.specs.Rows.{Row, NoCommand, SourceRefused, Formats, Benches, WaveRefused, InputRefused, Runs, RunsSerially, ChecksRecord, Weighs}
 use Rattle.cilkp_program.specs.SerialResults.{ElisionHasNoRace, elision_output, elision_trap}
 
 -- what is printed for the elision's output and trap, or for reports that are there exactly if the elision has a race, agrees with the elision
@@ -129,6 +129,7 @@ accepted_row {asked} {status = status} {text = text} {reports = reports} tree nu
     record { log = log; logged = refl; meets = recorded_more throttle limit (omega (arith, bound, within)) made }
 accepted_row tree numbers limit a s i (RunsSerially source input other others w o r) = absurd (runs_nothing w refl a.runs)
 accepted_row tree numbers limit a s i (ChecksRecord source input saved throttle other others w o r) = absurd (runs_nothing w refl a.runs)
+accepted_row tree numbers limit a s i (Weighs source input other others w o r) = absurd (runs_nothing w refl a.runs)
 
 -- the result of a call that runs an accepted program, if no read failed
 result_meets : {asked : Option Command} {content : Content} {before now status : ℕ} {text : List ℕ} {log : Option RunLog} {reports : List Report}

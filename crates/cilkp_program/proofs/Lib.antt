@@ -24,3 +24,4 @@ mod RunnableLaws
 mod GridCalls
 mod RecordCallLaws
 mod SavedRuns
+mod SpanLaws

@@ -4,7 +4,7 @@ use Rattle.pipe_model.specs.declared.event.RunLog.{RunLog}
 use Rattle.pipe_model.specs.Language.SyntaxTree.{SyntaxTree}
 use Rattle.cilkp_program.specs.CommandFiles.{AsksRun, KeepsLog, NamesInput, NamesRecord, NamesSource, RunsUnder, asks_wave, throttle_in}
 use Rattle.cilkp_program.specs.Rows.{IsLogOf, OfPlay, OfRun, OfWave}
-use Rattle.cilkp_words.specs.Commands.{Command, Run, Play, Serial, Format, Bench, CheckRecord, Wave}
+use Rattle.cilkp_words.specs.Commands.{Command, Run, Play, Serial, Format, Bench, CheckRecord, Wave, Span}
 
 -- the command of the words is unique
 pub one_command : {asked : Option Command} {c d : Command} → asked ≡ Some c → asked ≡ Some d → c ≡ d
@@ -50,6 +50,16 @@ run_is_not_check {throttle = throttle} {other = other} {other_input = other_inpu
 run_is_not_check {throttle = throttle} {other = other} {other_input = other_input} {saved = saved} {limit = limit} (OfWave source input workers w fits) v =
     let e : Wave source input workers throttle ≡ CheckRecord other other_input saved limit = one_command w v in cc (e)
 
+-- it is not a `span` command
+pub run_is_not_span : {asked : Option Command} {tree : SyntaxTree} {numbers : List ℤ} {throttle : ℕ} {log : RunLog} {other other_input : List ℕ}
+    → IsLogOf asked tree numbers throttle log → asked ≡ Some (Span other other_input) → ⊥
+run_is_not_span {throttle = throttle} {other = other} {other_input = other_input} (OfRun source input workers recording w) v =
+    let e : Run source input workers throttle recording ≡ Span other other_input = one_command w v in cc (e)
+run_is_not_span {throttle = throttle} {other = other} {other_input = other_input} (OfPlay source input workers seed recording w is) v =
+    let e : Play source input workers throttle seed recording ≡ Span other other_input = one_command w v in cc (e)
+run_is_not_span {throttle = throttle} {other = other} {other_input = other_input} (OfWave source input workers w fits) v =
+    let e : Wave source input workers throttle ≡ Span other other_input = one_command w v in cc (e)
+
 -- it returns the log of its run
 pub run_keeps_log : {asked : Option Command} {tree : SyntaxTree} {numbers : List ℤ} {throttle : ℕ} {log : RunLog} → IsLogOf asked tree numbers throttle log
     → KeepsLog asked
@@ -93,6 +103,7 @@ runs_no_wave (Some (Format source)) throttle v = refl
 runs_no_wave (Some (Bench seed size)) throttle v = refl
 runs_no_wave (Some (CheckRecord source input saved limit)) throttle v = refl
 runs_no_wave (Some (Wave source input workers limit)) throttle v = absurd (let e : None ≡ Some throttle = v in cc (e))
+runs_no_wave (Some (Span source input)) throttle v = refl
 
 -- a command without a run makes none
 pub runs_nothing : {asked : Option Command} {c : Command} {throttle : ℕ} → asked ≡ Some c → throttle_in c ≡ None → RunsUnder asked throttle → ⊥
@@ -194,6 +205,7 @@ wave_command (Some (Serial source input)) is = cc (is)
 wave_command (Some (Format source)) is = cc (is)
 wave_command (Some (Bench seed size)) is = cc (is)
 wave_command (Some (CheckRecord source input saved throttle)) is = cc (is)
+wave_command (Some (Span source input)) is = cc (is)
 wave_command (Some (Wave source input workers throttle)) is =
     record { source = source; input = input; workers = workers; throttle = throttle; command = refl }
 

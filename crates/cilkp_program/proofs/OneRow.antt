@@ -13,7 +13,7 @@ use Rattle.pipe_io.proofs.OneReading.{one_reading}
 use Rattle.grammar_laws.proofs.SourceRefusals.{one_accepted}
 use Rattle.cilkp_words.specs.Commands.{Command, CheckRecord, Wave}
 use Rattle.cilkp_program.proofs.Agreements.{one_agreement, one_text}
-use Rattle.cilkp_program.proofs.OneCommand.{IsOnePlay, apart, bench_has_no_input, bench_has_no_source, format_has_no_input, format_is_not_bench, no_command, no_input, no_run, no_source, one_bench, one_check, one_play, run_is_not_bench, run_is_not_check, run_is_not_format, run_is_not_play, run_is_not_serial, serial_is_not_bench, serial_is_not_format}
+use Rattle.cilkp_program.proofs.OneCommand.{IsOnePlay, apart, bench_has_no_input, bench_has_no_source, format_has_no_input, format_is_not_bench, no_command, no_input, no_run, no_source, one_bench, one_check, one_play, run_is_not_bench, run_is_not_check, run_is_not_format, run_is_not_play, run_is_not_serial, run_is_not_span, serial_is_not_bench, serial_is_not_format}
 use Rattle.cilkp_program.proofs.OneContent.{one_held, one_input, one_input_refusal, one_source, one_source_refusal, refused_no_input, refused_not_accepted_file}
 use Rattle.cilkp_program.proofs.OneReports.{one_first_races}
 use Rattle.cilkp_program.specs.Benchmarks.{IsGenerated, elision_summary}
@@ -25,9 +25,11 @@ use Rattle.cilkp_program.specs.RecordResults.{RecordResult}
 use Rattle.cilkp_program.specs.WaveRefusals.{IsRefusedWave}
 use Rattle.cilkp_program.proofs.OneWave.{one_wave_refusal, refused_no_wave}
 use Rattle.cilkp_program.proofs.OneRecord.{one_record_result}
+use Rattle.cilkp_program.proofs.SpanLaws.{one_span_text}
+use Rattle.cilkp_program.specs.SpanResults.{IsSpanText}
 use Rattle.cilkp_program.specs.RecordedRuns.{IsRecordedRun, recorded, seeded_events}
 use Rattle.cilkp_program.specs.RunReports.{run_reports}
-use Rattle.cilkp_program.specs.Rows.{IsLogOf, OfPlay, OfRun, OfWave, Row, NoCommand, SourceRefused, Formats, Benches, WaveRefused, InputRefused, Runs, RunsSerially, ChecksRecord}
+use Rattle.cilkp_program.specs.Rows.{IsLogOf, OfPlay, OfRun, OfWave, Row, NoCommand, SourceRefused, Formats, Benches, WaveRefused, InputRefused, Runs, RunsSerially, ChecksRecord, Weighs}
 use Rattle.cilkp_program.specs.SerialResults.{ElisionResult, Races, Finishes, Traps, elision_columns, elision_accesses, elision_output_text}
 
 -- two results have the same status, text and reports
@@ -206,6 +208,15 @@ both_checked {held = held} {saved = saved} {other_saved = other_saved} {throttle
     let one = one_record_result a.program r r'' in
     Same one.0 one.1 one.2 one.3
 
+-- equal files have one text of work and span
+one_weighing : {held : FileContents} (tree other_tree : SyntaxTree) (numbers others : List ℤ) {text other_text : List ℕ} → AreAccepted held tree numbers
+    → AreAccepted held other_tree others → IsSpanText tree numbers text → IsSpanText other_tree others other_text → text ≡ other_text
+one_weighing tree other_tree numbers others {other_text = other_text} a b r r' =
+    let same : tree ≡ other_tree = one_source tree other_tree a.program b.program in
+    let also : numbers ≡ others = one_input numbers others a.read b.read in
+    one_span_text tree numbers a.program r
+    (subst (λ t. IsSpanText t numbers other_text) (sym same) (subst (λ n. IsSpanText other_tree n other_text) (sym also) r'))
+
 -- a program that is refused as a wave loop is not run by `wave`, and other commands refuse none
 no_run_of_no_wave : {asked : Option Command} {held : FileContents} {numbers : List ℤ} {limit throttle workers : ℕ} {log : RunLog} {source input text : List ℕ}
     (tree other : SyntaxTree) → IsLogOf asked tree numbers limit log → asked ≡ Some (Wave source input workers throttle) → AreAccepted held tree numbers
@@ -227,6 +238,7 @@ alike (NoCommand n) (InputRefused i' tree' w' o' c' r') = absurd (no_input n w')
 alike (NoCommand n) (Runs k' l' tree' xs' w' a' m' f') = absurd (no_run n w')
 alike (NoCommand n) (RunsSerially s' i' tree' xs' w' a' r') = absurd (no_command n w')
 alike (NoCommand n) (ChecksRecord s' i' d' k' tree' xs' w' a' r') = absurd (no_command n w')
+alike (NoCommand n) (Weighs s' i' tree' xs' w' a' r') = absurd (no_command n w')
 alike (SourceRefused s w r) (NoCommand n') = absurd (no_source n' w)
 alike (SourceRefused s w r) (SourceRefused s' w' r') = Same refl (one_source_refusal r (rw (one_held _ s s' w w') r')) refl refl
 alike (SourceRefused s w r) (Formats s' tree' w' o') = absurd (refused_not_accepted_file tree' r o')
@@ -236,6 +248,7 @@ alike (SourceRefused s w r) (InputRefused i' tree' w' o' c' r') = absurd (refuse
 alike (SourceRefused s w r) (Runs k' l' tree' xs' w' a' m' f') = absurd (refused_not_accepted_file tree' r a'.program)
 alike (SourceRefused s w r) (RunsSerially s' i' tree' xs' w' a' r') = absurd (refused_not_accepted_file tree' r a'.program)
 alike (SourceRefused s w r) (ChecksRecord s' i' d' k' tree' xs' w' a' r') = absurd (refused_not_accepted_file tree' r a'.program)
+alike (SourceRefused s w r) (Weighs s' i' tree' xs' w' a' r') = absurd (refused_not_accepted_file tree' r a'.program)
 alike (Formats s tree w o) (NoCommand n') = absurd (no_command n' w)
 alike (Formats s tree w o) (SourceRefused s' w' r') = absurd (refused_not_accepted_file tree r' o)
 alike (Formats s tree w o) (Formats s' tree' w' o') = Same refl (ap program_text (one_source tree tree' o o')) refl refl
@@ -245,6 +258,7 @@ alike (Formats s tree w o) (InputRefused i' tree' w' o' c' r') = absurd (format_
 alike (Formats s tree w o) (Runs k' l' tree' xs' w' a' m' f') = absurd (run_is_not_format w' w)
 alike (Formats s tree w o) (RunsSerially s' i' tree' xs' w' a' r') = absurd (serial_is_not_format w' w)
 alike (Formats s tree w o) (ChecksRecord s' i' d' k' tree' xs' w' a' r') = absurd (apart w w' (λ e. cc (e)))
+alike (Formats s tree w o) (Weighs s' i' tree' xs' w' a' r') = absurd (apart w w' (λ e. cc (e)))
 alike (Benches n m tree xs w g) (NoCommand n') = absurd (no_command n' w)
 alike (Benches n m tree xs w g) (SourceRefused s' w' r') = absurd (bench_has_no_source w w')
 alike (Benches n m tree xs w g) (Formats s' tree' w' o') = absurd (format_is_not_bench w' w)
@@ -254,6 +268,7 @@ alike (Benches n m tree xs w g) (InputRefused i' tree' w' o' c' r') = absurd (be
 alike (Benches n m tree xs w g) (Runs k' l' tree' xs' w' a' m' f') = absurd (run_is_not_bench w' w)
 alike (Benches n m tree xs w g) (RunsSerially s' i' tree' xs' w' a' r') = absurd (serial_is_not_bench w' w)
 alike (Benches n m tree xs w g) (ChecksRecord s' i' d' k' tree' xs' w' a' r') = absurd (apart w w' (λ e. cc (e)))
+alike (Benches n m tree xs w g) (Weighs s' i' tree' xs' w' a' r') = absurd (apart w w' (λ e. cc (e)))
 alike (WaveRefused s i n k tree w o r) (NoCommand n') = absurd (no_command n' w)
 alike (WaveRefused s i n k tree w o r) (SourceRefused s' w' r') = absurd (refused_not_accepted_file tree r' o)
 alike (WaveRefused s i n k tree w o r) (Formats s' tree' w' o') = absurd (apart w w' (λ e. cc (e)))
@@ -263,6 +278,7 @@ alike (WaveRefused s i n k tree w o r) (InputRefused i' tree' w' o' c' r') = abs
 alike (WaveRefused s i n k tree w o r) (Runs k' l' tree' xs' w' a' m' f') = absurd (no_run_of_no_wave tree' tree w' w a' o r)
 alike (WaveRefused s i n k tree w o r) (RunsSerially s' i' tree' xs' w' a' r') = absurd (apart w w' (λ e. cc (e)))
 alike (WaveRefused s i n k tree w o r) (ChecksRecord s' i' d' k' tree' xs' w' a' r') = absurd (apart w w' (λ e. cc (e)))
+alike (WaveRefused s i n k tree w o r) (Weighs s' i' tree' xs' w' a' r') = absurd (apart w w' (λ e. cc (e)))
 alike (InputRefused i tree w o c r) (NoCommand n') = absurd (no_input n' w)
 alike (InputRefused i tree w o c r) (SourceRefused s' w' r') = absurd (refused_not_accepted_file tree r' o)
 alike (InputRefused i tree w o c r) (Formats s' tree' w' o') = absurd (format_has_no_input w' w)
@@ -272,6 +288,7 @@ alike (InputRefused i tree w o c r) (InputRefused i' tree' w' o' c' r') = Same r
 alike (InputRefused i tree w o c r) (Runs k' l' tree' xs' w' a' m' f') = absurd (refused_no_input xs' r a'.read)
 alike (InputRefused i tree w o c r) (RunsSerially s' i' tree' xs' w' a' r') = absurd (refused_no_input xs' r a'.read)
 alike (InputRefused i tree w o c r) (ChecksRecord s' i' d' k' tree' xs' w' a' r') = absurd (refused_no_input xs' r a'.read)
+alike (InputRefused i tree w o c r) (Weighs s' i' tree' xs' w' a' r') = absurd (refused_no_input xs' r a'.read)
 alike (Runs k l tree xs w a m f) (NoCommand n') = absurd (no_run n' w)
 alike (Runs k l tree xs w a m f) (SourceRefused s' w' r') = absurd (refused_not_accepted_file tree r' a.program)
 alike (Runs k l tree xs w a m f) (Formats s' tree' w' o') = absurd (run_is_not_format w w')
@@ -281,6 +298,7 @@ alike (Runs k l tree xs w a m f) (InputRefused i' tree' w' o' c' r') = absurd (r
 alike (Runs k l tree xs w a m f) (Runs k' l' tree' xs' w' a' m' f') = both_run tree tree' xs xs' l l' w a m f w' a' m' f'
 alike (Runs k l tree xs w a m f) (RunsSerially s' i' tree' xs' w' a' r') = absurd (run_is_not_serial w w')
 alike (Runs k l tree xs w a m f) (ChecksRecord s' i' d' k' tree' xs' w' a' r') = absurd (run_is_not_check w w')
+alike (Runs k l tree xs w a m f) (Weighs s' i' tree' xs' w' a' r') = absurd (run_is_not_span w w')
 alike (RunsSerially s i tree xs w a r) (NoCommand n') = absurd (no_command n' w)
 alike (RunsSerially s i tree xs w a r) (SourceRefused s' w' r') = absurd (refused_not_accepted_file tree r' a.program)
 alike (RunsSerially s i tree xs w a r) (Formats s' tree' w' o') = absurd (serial_is_not_format w w')
@@ -290,6 +308,7 @@ alike (RunsSerially s i tree xs w a r) (InputRefused i' tree' w' o' c' r') = abs
 alike (RunsSerially s i tree xs w a r) (Runs k' l' tree' xs' w' a' m' f') = absurd (run_is_not_serial w' w)
 alike (RunsSerially s i tree xs w a r) (RunsSerially s' i' tree' xs' w' a' r') = let one = one_elision tree tree' xs xs' a a' r r' in Same one.0 one.1 refl one.2
 alike (RunsSerially s i tree xs w a r) (ChecksRecord s' i' d' k' tree' xs' w' a' r') = absurd (apart w w' (λ e. cc (e)))
+alike (RunsSerially s i tree xs w a r) (Weighs s' i' tree' xs' w' a' r') = absurd (apart w w' (λ e. cc (e)))
 alike (ChecksRecord s i d k tree xs w a r) (NoCommand n') = absurd (no_command n' w)
 alike (ChecksRecord s i d k tree xs w a r) (SourceRefused s' w' r') = absurd (refused_not_accepted_file tree r' a.program)
 alike (ChecksRecord s i d k tree xs w a r) (Formats s' tree' w' o') = absurd (apart w w' (λ e. cc (e)))
@@ -299,6 +318,17 @@ alike (ChecksRecord s i d k tree xs w a r) (InputRefused i' tree' w' o' c' r') =
 alike (ChecksRecord s i d k tree xs w a r) (Runs k' l' tree' xs' w' a' m' f') = absurd (run_is_not_check w' w)
 alike (ChecksRecord s i d k tree xs w a r) (RunsSerially s' i' tree' xs' w' a' r') = absurd (apart w w' (λ e. cc (e)))
 alike (ChecksRecord s i d k tree xs w a r) (ChecksRecord s' i' d' k' tree' xs' w' a' r') = both_checked tree tree' xs xs' w a r w' a' r'
+alike (ChecksRecord s i d k tree xs w a r) (Weighs s' i' tree' xs' w' a' r') = absurd (apart w w' (λ e. cc (e)))
+alike (Weighs s i tree xs w a r) (NoCommand n') = absurd (no_command n' w)
+alike (Weighs s i tree xs w a r) (SourceRefused s' w' r') = absurd (refused_not_accepted_file tree r' a.program)
+alike (Weighs s i tree xs w a r) (Formats s' tree' w' o') = absurd (apart w w' (λ e. cc (e)))
+alike (Weighs s i tree xs w a r) (Benches n' m' tree' xs' w' g') = absurd (apart w w' (λ e. cc (e)))
+alike (Weighs s i tree xs w a r) (WaveRefused s' i' n' k' tree' w' o' r') = absurd (apart w w' (λ e. cc (e)))
+alike (Weighs s i tree xs w a r) (InputRefused i' tree' w' o' c' r') = absurd (refused_no_input xs r' a.read)
+alike (Weighs s i tree xs w a r) (Runs k' l' tree' xs' w' a' m' f') = absurd (run_is_not_span w' w)
+alike (Weighs s i tree xs w a r) (RunsSerially s' i' tree' xs' w' a' r') = absurd (apart w w' (λ e. cc (e)))
+alike (Weighs s i tree xs w a r) (ChecksRecord s' i' d' k' tree' xs' w' a' r') = absurd (apart w w' (λ e. cc (e)))
+alike (Weighs s i tree xs w a r) (Weighs s' i' tree' xs' w' a' r') = Same refl (one_weighing tree tree' xs xs' a a' r r') refl refl
 
 -- two rows of a command other than `run` and `wave` are equal
 pub one_row : {asked : Option Command} {held : FileContents} {status other : ℕ} {text other_text : List ℕ} {log other_log : Option RunLog}

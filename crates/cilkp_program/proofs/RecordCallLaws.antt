@@ -12,7 +12,7 @@ use Rattle.cilkp_program.specs.CallResults.{IsCallResult, OfRow, SourceFault, In
 use Rattle.cilkp_program.specs.ProgramFiles.{FileContents}
 use Rattle.cilkp_program.specs.RecordCalls.{IsToCheck, ReturnsCheck}
 use Rattle.cilkp_program.specs.RecordResults.{RecordResult}
-use Rattle.cilkp_program.specs.Rows.{Row, NoCommand, SourceRefused, Formats, Benches, WaveRefused, InputRefused, Runs, RunsSerially, ChecksRecord}
+use Rattle.cilkp_program.specs.Rows.{Row, NoCommand, SourceRefused, Formats, Benches, WaveRefused, InputRefused, Runs, RunsSerially, ChecksRecord, Weighs}
 
 check_row : {asked : Option Command} {content : Content} {held : FileContents} {status : ℕ} {text : List ℕ} {log : Option RunLog}
     {reports : List Report} (tree : SyntaxTree) (numbers : List ℤ) (throttle : ℕ) (saved : List ℕ)
@@ -34,6 +34,7 @@ check_row {held = held} {status = status} {text = text} {log = log} {reports = r
     (subst (λ n. RecordResult other n throttle saved held.saved status text log reports) also
     (subst (λ k. RecordResult other others k saved held.saved status text log reports) check.throttle_is
     (subst (λ d. RecordResult other others limit d held.saved status text log reports) check.saved_is r)))
+check_row tree numbers throttle saved a s i (Weighs source input other others w o r) = absurd (apart a.command w (λ e. cc (e)))
 
 -- the result of a call that checks a record, if no read failed
 check_result : {asked : Option Command} {content : Content} {before now status : ℕ} {text : List ℕ} {log : Option RunLog} {reports : List Report}

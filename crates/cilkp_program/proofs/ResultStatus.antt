@@ -9,7 +9,7 @@ use Rattle.cilkp_words.specs.Commands.{Command}
 use Rattle.cilkp_program.specs.CallResults.{IsCallResult, OfRow, SourceFault, InputFault, RecordFault}
 use Rattle.cilkp_program.specs.CommandFiles.{KeepsLog}
 use Rattle.cilkp_program.specs.ProgramFiles.{FileContents}
-use Rattle.cilkp_program.specs.Rows.{Row, NoCommand, SourceRefused, Formats, Benches, WaveRefused, InputRefused, Runs, RunsSerially, ChecksRecord}
+use Rattle.cilkp_program.specs.Rows.{Row, NoCommand, SourceRefused, Formats, Benches, WaveRefused, InputRefused, Runs, RunsSerially, ChecksRecord, Weighs}
 use Rattle.cilkp_program.proofs.Agreements.{agreed_status}
 use Rattle.cilkp_program.proofs.OneCommand.{bench_keeps_no_log, format_keeps_no_log, run_keeps_log}
 use Rattle.cilkp_program.specs.Headline.{IsRunStatus}
@@ -94,6 +94,7 @@ row_status (InputRefused i tree w o can r) = refusal
 row_status (Runs k log tree numbers w a m f) = with_run log (run_keeps_log w) (agreed_status m.meets.agrees)
 row_status (RunsSerially s i tree numbers w a r) = without_log (λ keeps. let d : false ≡ true = rw w at keeps in cc (d)) (outcome_status r)
 row_status (ChecksRecord s i r k tree numbers w a outcome) = checked_status (rw w refl) outcome
+row_status (Weighs s i tree numbers w a r) = without_log (λ keeps. let d : false ≡ true = rw w at keeps in cc (d)) (inl refl)
 
 -- the status of a result
 tells_status : {asked : Option Command} {holds : Option Content} {before now status : ℕ} {text : List ℕ} {log : Option RunLog} {reports : List Report}

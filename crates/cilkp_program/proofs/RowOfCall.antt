@@ -15,7 +15,7 @@ use Rattle.workload_laws.proofs.ReadInputs.{inputs_are_read}
 use Rattle.workload_laws.specs.GeneratedNumbers.{items_from}
 use Rattle.workload_laws.specs.GeneratedPrograms.{generated_tree}
 use Rattle.cilkp_words.specs.CommandRanges.{IsInRange}
-use Rattle.cilkp_words.specs.Commands.{Command, Run, Play, Serial, Format, Bench, CheckRecord, Wave}
+use Rattle.cilkp_words.specs.Commands.{Command, Run, Play, Serial, Format, Bench, CheckRecord, Wave, Span}
 use Rattle.cilkp_program.specs.declared.command_result.CommandResult.{CommandResult}
 use Rattle.cilkp_program.specs.declared.load.Source.TheVariants as sources
 use Rattle.cilkp_program.specs.declared.load.Input.TheVariants as inputs
@@ -28,8 +28,9 @@ use Rattle.cilkp_program.specs.RunnablePrograms.{IsRunnableResult, IsSourceOfNoW
 use Rattle.cilkp_program.specs.declared.wave_loop.Runnable.TheVariants as runnables
 use Rattle.cilkp_program.specs.ProgramFiles.{AreHeldBy, FileContents, SourceRefusal}
 use Rattle.cilkp_program.specs.SerialResults.{ElisionResult}
+use Rattle.cilkp_program.specs.SpanResults.{IsSpanText}
 use Rattle.cilkp_program.specs.Benchmarks.{IsGenerated, elision_summary}
-use Rattle.cilkp_program.specs.Rows.{IsLogOf, OfPlay, OfRun, OfWave, NoCommand, SourceRefused, Formats, Benches, WaveRefused, InputRefused, Runs, RunsSerially, ChecksRecord}
+use Rattle.cilkp_program.specs.Rows.{IsLogOf, OfPlay, OfRun, OfWave, NoCommand, SourceRefused, Formats, Benches, WaveRefused, InputRefused, Runs, RunsSerially, ChecksRecord, Weighs}
 use Rattle.cilkp_program.specs.PreparedFiles.{AreReady}
 use Rattle.cilkp_program.specs.RecordedRuns.{IsRecordedRun, seeded_events}
 use Rattle.cilkp_program.specs.RunResults.{IsPlayResult, IsRunResult}
@@ -257,6 +258,26 @@ result_of_serial holds before now source input tree numbers (Ok a) ready outcome
       (subst (λ t. ElisionResult t numbers a.status a.text a.reports) ready.program_is outcome);
 }))
 result_of_serial holds before now source input tree numbers (Err m) ready outcome log = log
+
+-- by `span`: its elision is weighed, whatever races it has
+pub result_of_span : (holds : Option Content) (before now : ℕ) (source input : List ℕ) (tree : SyntaxTree) (numbers : List ℤ) (text : List ℕ)
+    → AreReady holds before now source input false tree numbers → IsSpanText tree numbers text
+    → IsCallResult (Some (Span source input)) holds before now 0 text None []
+result_of_span holds before now source input tree numbers text ready weighed = OfRow ready.calm (record {
+  held = with_input ready.source_file ready.input_file holds (Some (Span source input));
+  known = files_known (Some (Span source input)) holds source input ready.source_file ready.input_file refl refl ready.source_known ready.input_known;
+  row = Weighs source input ready.tree numbers refl (record { program = ready.accepted; read = ready.read })
+      (subst (λ t. IsSpanText t numbers text) ready.program_is weighed);
+})
+
+pub result_of_weighed : (holds : Option Content) (before now : ℕ) (source input : List ℕ) (tree : SyntaxTree) (numbers : List ℤ)
+    (r : Result CommandResult NoMemory) → AreReady holds before now source input false tree numbers
+    → IfOk r (λ a. IsSpanText tree numbers a.text)
+    → IfOk r (λ a. a ≡ record { status = 0; text = a.text; run_log = None; reports = [] })
+    → IfOk r (λ a. IsCallResult (Some (Span source input)) holds before now a.status a.text a.run_log a.reports)
+result_of_weighed holds before now source input tree numbers (Ok a) ready weighed others =
+    rw others (result_of_span holds before now source input tree numbers a.text ready weighed)
+result_of_weighed holds before now source input tree numbers (Err m) ready weighed others = others
 
 -- ---- a record that is checked
 

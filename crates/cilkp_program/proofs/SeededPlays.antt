@@ -25,7 +25,7 @@ use Rattle.cilkp_program.specs.declared.program_run.FinishedRun.{FinishedRun}
 use Rattle.cilkp_program.specs.Headline.{IsToRun}
 use Rattle.cilkp_program.specs.ProgramFiles.{FileContents}
 use Rattle.cilkp_program.specs.RecordedRuns.{HasSeededEvents, IsFinishedLog, IsToPlay, ReturnsRun, recorded, seeded_events}
-use Rattle.cilkp_program.specs.Rows.{Row, NoCommand, SourceRefused, Formats, Benches, WaveRefused, InputRefused, Runs, RunsSerially, ChecksRecord, IsLogOf, OfPlay, OfRun, OfWave}
+use Rattle.cilkp_program.specs.Rows.{Row, NoCommand, SourceRefused, Formats, Benches, WaveRefused, InputRefused, Runs, RunsSerially, ChecksRecord, Weighs, IsLogOf, OfPlay, OfRun, OfWave}
 use Rattle.cilkp_program.specs.RunReports.{run_reports}
 use Rattle.cilkp_program.specs.RunResults.{IsPlayResult, IsSeededPlay}
 use Rattle.cilkp_program.specs.RunTexts.{IsPrintedAs}
@@ -101,6 +101,7 @@ scheduled_row tree numbers workers throttle seed a s i (WaveRefused source input
 scheduled_row tree numbers workers throttle seed a s i (InputRefused input other w o can r) = tt
 scheduled_row tree numbers workers throttle seed a s i (RunsSerially source input other others w o r) = tt
 scheduled_row tree numbers workers throttle seed a s i (ChecksRecord source input saved limit other others w o r) = absurd (apart a.command w (λ e. cc (e)))
+scheduled_row tree numbers workers throttle seed a s i (Weighs source input other others w o r) = absurd (apart a.command w (λ e. cc (e)))
 
 scheduled_result : {asked : Option Command} {content : Content} {before now status : ℕ} {text : List ℕ} {log : Option RunLog} {reports : List Report}
     (tree : SyntaxTree) (numbers : List ℤ) (workers throttle seed : ℕ)

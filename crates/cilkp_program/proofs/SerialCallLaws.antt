@@ -12,7 +12,7 @@ use Rattle.cilkp_program.proofs.OneContent.{one_input, one_source, refused_no_in
 use Rattle.cilkp_program.specs.CallResults.{IsCallResult, OfRow, SourceFault, InputFault, RecordFault, IsPrinted}
 use Rattle.cilkp_program.specs.ProgramFiles.{FileContents}
 use Rattle.cilkp_program.specs.SerialResults.{ElisionResult}
-use Rattle.cilkp_program.specs.Rows.{Row, NoCommand, SourceRefused, Formats, Benches, WaveRefused, InputRefused, Runs, RunsSerially, ChecksRecord}
+use Rattle.cilkp_program.specs.Rows.{Row, NoCommand, SourceRefused, Formats, Benches, WaveRefused, InputRefused, Runs, RunsSerially, ChecksRecord, Weighs}
 use Rattle.cilkp_program.specs.SerialCalls.{ReturnsElision, IsToRunSerially}
 
 -- the result is that of the program's elision, without a log
@@ -36,6 +36,7 @@ elided_row tree numbers a s i (RunsSerially source input other others w o r) =
     let also : others ≡ numbers = one_input others numbers o.read (rw (← i) a.read) in
     record { unlogged = refl; outcome = rw (← same, ← also) r }
 elided_row tree numbers a s i (ChecksRecord source input saved throttle other others w o r) = absurd (apart a.command w (λ e. cc (e)))
+elided_row tree numbers a s i (Weighs source input other others w o r) = absurd (apart a.command w (λ e. cc (e)))
 
 -- the result of a call that runs the elision of an accepted program, if no read failed
 result_elided : {asked : Option Command} {content : Content} {before now status : ℕ} {text : List ℕ} {log : Option RunLog} {reports : List Report}

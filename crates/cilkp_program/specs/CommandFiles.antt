@@ -3,7 +3,7 @@ use Rattle.std.specs.Prelude.{◌≡◌, ℕ, List, Bool, true, false, Option, S
 use Rattle.pipe_model.specs.Language.SyntaxTree.{SyntaxTree}
 use Rattle.wave_laws.specs.Waves.LoweredLoops.{lowered}
 use Rattle.wave_laws.specs.Waves.WaveFaults.{wave_fault}
-use Rattle.cilkp_words.specs.Commands.{Command, Run, Play, Serial, Format, Bench, CheckRecord, Wave}
+use Rattle.cilkp_words.specs.Commands.{Command, Run, Play, Serial, Format, Bench, CheckRecord, Wave, Span}
 
 -- the name of the command's source; none if it has no files
 abbrev pub source_in : Command → Option (List ℕ)
@@ -14,6 +14,7 @@ source_in (Format source) = Some source
 source_in (Bench seed size) = None
 source_in (CheckRecord source input saved throttle) = Some source
 source_in (Wave source input workers throttle) = Some source
+source_in (Span source input) = Some source
 
 -- the name of the command's input; none if it has no input
 abbrev pub input_in : Command → Option (List ℕ)
@@ -24,6 +25,7 @@ input_in (Format source) = None
 input_in (Bench seed size) = None
 input_in (CheckRecord source input saved throttle) = Some input
 input_in (Wave source input workers throttle) = Some input
+input_in (Span source input) = Some input
 
 -- the name of the saved run log that the command checks; none if it checks none
 abbrev pub record_in : Command → Option (List ℕ)
@@ -34,6 +36,7 @@ record_in (Format source) = None
 record_in (Bench seed size) = None
 record_in (CheckRecord source input saved throttle) = Some saved
 record_in (Wave source input workers throttle) = None
+record_in (Span source input) = None
 
 -- whether the command returns the log of a run, if it is not refused
 abbrev pub keeps_log : Command → Bool
@@ -44,6 +47,7 @@ keeps_log (Format source) = false
 keeps_log (Bench seed size) = false
 keeps_log (CheckRecord source input saved throttle) = true
 keeps_log (Wave source input workers throttle) = true
+keeps_log (Span source input) = false
 
 -- whether the command is `run` or `wave`, of whose runs no clause picks one
 abbrev pub is_run : Command → Bool
@@ -54,6 +58,7 @@ is_run (Format source) = false
 is_run (Bench seed size) = false
 is_run (CheckRecord source input saved throttle) = false
 is_run (Wave source input workers throttle) = true
+is_run (Span source input) = false
 
 -- the words are a command with this source
 abbrev pub NamesSource : Option Command → List ℕ → Type 0
@@ -86,6 +91,7 @@ throttle_in (Format source) = None
 throttle_in (Bench seed size) = None
 throttle_in (CheckRecord source input saved throttle) = None
 throttle_in (Wave source input workers throttle) = None
+throttle_in (Span source input) = None
 
 -- the words are a `run` or a `play` command with this throttling limit
 abbrev pub RunsUnder : Option Command → ℕ → Type 0
@@ -100,6 +106,7 @@ records (Format source) = false
 records (Bench seed size) = false
 records (CheckRecord source input saved throttle) = false
 records (Wave source input workers throttle) = false
+records (Span source input) = false
 
 abbrev pub asks_record : Option Command → Bool
 asks_record None = false
@@ -114,6 +121,7 @@ is_wave (Format source) = false
 is_wave (Bench seed size) = false
 is_wave (CheckRecord source input saved throttle) = false
 is_wave (Wave source input workers throttle) = true
+is_wave (Span source input) = false
 
 abbrev pub asks_wave : Option Command → Bool
 asks_wave None = false

@@ -12,6 +12,8 @@ pub mod RowLaws
 pub mod RunTexts
 pub mod RunResults
 pub mod SerialCalls
+pub mod SpanResults
+pub mod SpanCalls
 pub mod Formatting
 pub mod BenchCalls
 pub mod RefusalLines

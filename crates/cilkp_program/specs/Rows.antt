@@ -12,9 +12,10 @@ use Rattle.cilkp_program.specs.RecordedRuns.{IsRecordedRun, seeded_events}
 use Rattle.cilkp_program.specs.RecordResults.{RecordResult}
 use Rattle.cilkp_program.specs.RunReports.{run_reports}
 use Rattle.cilkp_program.specs.SerialResults.{ElisionResult}
+use Rattle.cilkp_program.specs.SpanResults.{IsSpanText}
 use Rattle.cilkp_program.specs.WaveRefusals.{IsRefusedWave}
 use Rattle.wave_laws.specs.Waves.WaveFaults.{wave_fault}
-use Rattle.cilkp_words.specs.Commands.{Command, Run, Play, Serial, Format, Bench, CheckRecord, Wave}
+use Rattle.cilkp_words.specs.Commands.{Command, Run, Play, Serial, Format, Bench, CheckRecord, Wave, Span}
 
 -- the log may be one of a command that makes a run: `run`, and `wave` for a wave loop, may have any, and that of `play` has the events that the choices of its
 -- seed make
@@ -51,3 +52,5 @@ pub data Row (asked : Option Command) (held : FileContents) : ℕ → List ℕ �
   ChecksRecord : (source input saved : List ℕ) (throttle : ℕ) {status : ℕ} {text : List ℕ} {log : Option RunLog} {reports : List Report} (tree : SyntaxTree)
       (numbers : List ℤ) → asked ≡ Some (CheckRecord source input saved throttle) → AreAccepted held tree numbers
       → RecordResult tree numbers throttle saved held.saved status text log reports → Row asked held status text log reports
+  Weighs : (source input : List ℕ) {text : List ℕ} (tree : SyntaxTree) (numbers : List ℤ) → asked ≡ Some (Span source input)
+      → AreAccepted held tree numbers → IsSpanText tree numbers text → Row asked held 0 text None []

@@ -1,5 +1,5 @@
 //! The top call: runs a program, plays it by a schedule, runs its serial elision alone, prints its canonical text, runs a
-//! generated program and prints a summary, checks a saved run log, or runs a wave loop.
+//! generated program and prints a summary, checks a saved run log, runs a wave loop, or finds work and span.
 
 ghost use Rattle.std.specs.Prelude.{◌≡◌, ◌≢◌, ℕ, ℤ, ◌≤◌, ◌⊎◌, ◌↔◌, List, [], Option, None, Some, IfOk, IfSome, OnErr, is_some, true};
 ghost use Rattle.pipe_model.specs.Language.CanonicalText.{program_text};
@@ -15,13 +15,14 @@ ghost use Rattle.cilkp_program.specs.CommandFiles.{KeepsLog, asks_record};
 ghost use Rattle.cilkp_program.specs.BenchCalls.{IsToBench, ReturnsSummary};
 ghost use Rattle.cilkp_program.specs.SerialResults.{ElisionResult};
 ghost use Rattle.cilkp_words.specs.CommandRanges.{IsInRange};
-ghost use Rattle.cilkp_words.specs.Commands.{Bench, CheckRecord, Format, Play, Run, Serial, Wave, command_data};
+ghost use Rattle.cilkp_words.specs.Commands.{Bench, CheckRecord, Format, Play, Run, Serial, Span, Wave, command_data};
 ghost use Rattle.cilkp_words.specs.declared.ranges.TheConstants as ranges;
 ghost use Rattle.pipe_gen.specs.declared.choices.TheConstants as seeds;
 ghost use Rattle.pipe_io.specs.Reads.{Content};
 ghost use Rattle.cilkp_words.specs.CommandWords.{command_of, words_of};
 ghost use Rattle.cilkp_program.specs.SerialCalls.{ReturnsElision, IsToRunSerially};
 ghost use Rattle.cilkp_program.specs.RecordCalls.{IsToCheck, ReturnsCheck};
+ghost use Rattle.cilkp_program.specs.SpanCalls.{IsToWeigh, ReturnsSpan};
 ghost use Rattle.cilkp_program.specs.WaveCalls.{IsToRunWave, ReturnsGrid};
 
 use crate::bench::bench;
@@ -32,6 +33,7 @@ use crate::program_play::play_program;
 use crate::program_run::{printed_run, recorded, run_elision, run_program};
 use crate::saved_run::check_saved;
 use crate::text::line;
+use crate::work_and_span::weighed_result;
 use cilkp_words::commands::Command;
 use cilkp_words::words::read_words;
 use pipe_check::checked::Checked;
@@ -308,6 +310,24 @@ fn execute_wave<R: Threads + Wait + Sync, F: Files, G: Gate + Sync>(
     }
 }
 
+// The result of `span SOURCE INPUT`.
+fn execute_span<F: Files>(
+    alloc: Global,
+    files: &mut F,
+    source: &str,
+    input: &str,
+) -> Result<CommandResult, NoMemory>
+    ensures keeps { F.holds files.new ≡ F.holds files.old }
+    ensures grows { OnErr result (F.faults files.old ≤ F.faults files.new) }
+    ensures outcome { IfOk result (λ a. IsCallResult (Some (Span source.now input.now)) (F.holds files.old)
+        (F.faults files.old) (F.faults files.new) a.status a.text a.run_log a.reports) }
+{
+    match prepare(alloc, files, source, input, false)? {
+        Prepared::Ready(program, numbers) => weighed_result(alloc, &program, &numbers),
+        Prepared::Decided(outcome) => Ok(outcome),
+    }
+}
+
 fn execute_command<R: Threads + Wait + Sync, F: Files, G: Gate + Sync>(
     rt: &R,
     alloc: Global,
@@ -354,6 +374,7 @@ fn execute_command<R: Threads + Wait + Sync, F: Files, G: Gate + Sync>(
             workers,
             throttle,
         } => execute_wave(rt, alloc, files, source, input, workers, throttle, gate),
+        Command::Span { source, input } => execute_span(alloc, files, source, input),
     }
 }
 
@@ -377,8 +398,8 @@ fn execute<R: Threads + Wait + Sync, F: Files, G: Gate + Sync>(
 
 /// Executes the command `run SOURCE INPUT [--workers P] [--throttle K] [--record]`,
 /// `play SOURCE INPUT [--workers P] [--throttle K] [--seed N] [--record]`, `serial SOURCE INPUT`,
-/// `format SOURCE`, `bench [--seed N] [--size M]`, `check-record SOURCE INPUT RECORD [--throttle K]` or
-/// `wave SOURCE INPUT [--workers P] [--throttle K]`. Writes all text to `out`, and returns the
+/// `format SOURCE`, `bench [--seed N] [--size M]`, `check-record SOURCE INPUT RECORD [--throttle K]`,
+/// `wave SOURCE INPUT [--workers P] [--throttle K]` or `span SOURCE INPUT`. Writes all text to `out`, and returns the
 /// status, the log of the run, the reports of races, and how many bytes `out` took. `run` runs the
 /// program of an accepted source on the numbers of an input with `P` workers, each on a thread of its
 /// own, while at most `K` iterations are alive. `play` plays the program on one thread by the schedule
@@ -388,8 +409,9 @@ fn execute<R: Threads + Wait + Sync, F: Files, G: Gate + Sync>(
 /// on a generated input twice, with 1 and with 8 workers, and prints a summary. `check-record` checks
 /// whether a saved run log is a run of the program on the input while at most `K` iterations are alive,
 /// says how far the run is, and reports its races. `wave` lowers a wave loop to a pipeline, and runs it
-/// as `run` does. A worker of `run`, `bench` or `wave` asks the gate before each stage instance. Returns an error only if memory runs out; a run
-/// that was stopped because memory ran out ends so too.
+/// as `run` does. `span` prints the work, the span and the heaviest path of the serial elision, each weighed in
+/// steps. A worker of `run`, `bench` or `wave` asks the gate before each stage instance. Returns an error
+/// only if memory runs out; a run that was stopped because memory ran out ends so too.
 pub fn cilkp<R: Threads + Wait + Sync, F: Files, S: Sink, G: Gate + Sync>(
     rt: &R,
     alloc: Global,
@@ -446,6 +468,13 @@ pub fn cilkp<R: Threads + Wait + Sync, F: Files, S: Sink, G: Gate + Sync>(
         IfSome (F.holds files.old) (λ content. (tree : SyntaxTree) (numbers : List ℤ) (limit : ℕ) →
         IsToRunWave (command_of (words_of words.now)) content tree numbers limit →
         ReturnsGrid tree numbers limit e.status e.written e.run_log e.reports (S.taken out.old) (S.taken out.new))) }
+    // For every accepted program and input, if the files' content is known and neither count of faults
+    // rises, a `span` call that returns `Ok` has written the work, the span and the heaviest path of the
+    // program's serial elision, whatever races or trap that has.
+    ensures weighed { IfOk result (λ e. ¬ (CountRose (F.faults files.old) (F.faults files.new)) → ¬ (CountRose (S.faults out.old) (S.faults out.new)) →
+        IfSome (F.holds files.old) (λ content. (tree : SyntaxTree) (numbers : List ℤ) →
+        IsToWeigh (command_of (words_of words.now)) content tree numbers →
+        ReturnsSpan tree numbers e.status e.written e.run_log e.reports (S.taken out.old) (S.taken out.new))) }
     // If the count of the sink's faults does not rise, a `bench` call that returns `Ok` has written
     // the summary of the generated program and input completely.
     ensures benched { IfOk result (λ e. ¬ (CountRose (S.faults out.old) (S.faults out.new)) → (tree : SyntaxTree) (numbers : List ℤ) →

@@ -13,3 +13,4 @@ pub mod refusal;
 mod saved_run;
 pub mod text;
 mod wave_loop;
+mod work_and_span;

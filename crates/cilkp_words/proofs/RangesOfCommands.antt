@@ -6,7 +6,7 @@ use Rattle.std.specs.Str.{bytes_eq}
 use Rattle.clap.specs.Walk.{Row, Text, first_of}
 use Rattle.cilkp_words.specs.CommandRanges.{IsInRange}
 use Rattle.cilkp_words.specs.Commands.{Command}
-use Rattle.cilkp_words.specs.CommandWords.{bench_of, check_record_of, command_named, format_of, play_of, run_of, seed_of, serial_of, throttle_of, wave_of, workers_of}
+use Rattle.cilkp_words.specs.CommandWords.{bench_of, check_record_of, command_named, format_of, play_of, run_of, seed_of, serial_of, span_of, throttle_of, wave_of, workers_of}
 use Rattle.cilkp_words.specs.OptionNumbers.{number_in, number_or}
 use Rattle.cilkp_words.specs.declared.ranges.TheConstants.{DEFAULT_SEED, DEFAULT_SIZE, DEFAULT_WORKERS, MOST_THROTTLE, MOST_WORKERS, THROTTLE_PER_WORKER}
 use Rattle.pipe_gen.specs.declared.choices.TheConstants.{MOST_SEED}
@@ -91,9 +91,13 @@ play_between rows =
     after (seed_of rows) _ IsInRange (λ seed too.
     (w, (throttle_between rows workers throttle w also, seed_between rows seed too)))))))
 
--- `serial` and `format` have no numbers
+-- `serial`, `span` and `format` have no numbers
 serial_between : (rows : List Row) → IfSome (serial_of rows) IsInRange
 serial_between rows =
+    after (first_of (codes "source") rows) _ IsInRange (λ source d. after (first_of (codes "input") rows) _ IsInRange (λ input e. tt))
+
+span_between : (rows : List Row) → IfSome (span_of rows) IsInRange
+span_between rows =
     after (first_of (codes "source") rows) _ IsInRange (λ source d. after (first_of (codes "input") rows) _ IsInRange (λ input e. tt))
 
 format_between : (rows : List Row) → IfSome (format_of rows) IsInRange
@@ -108,7 +112,8 @@ named_between name rows =
     (branches (bytes_eq name (codes "format")) _ _ IsInRange (format_between rows)
     (branches (bytes_eq name (codes "bench")) _ _ IsInRange (bench_between rows)
     (branches (bytes_eq name (codes "check-record")) _ _ IsInRange (check_record_between rows)
-    (branches (bytes_eq name (codes "wave")) _ _ IsInRange (wave_between rows) tt))))))
+    (branches (bytes_eq name (codes "wave")) _ _ IsInRange (wave_between rows)
+    (branches (bytes_eq name (codes "span")) _ _ IsInRange (span_between rows) tt)))))))
 
 -- the command of the subcommand that was given, if one was
 pub command_between : (found : Option Command) (given : Option (Text × List Row)) → found ≡ option_and_then (λ p. command_named p.0 p.1) given

@@ -1,4 +1,4 @@
--- The command line: seven subcommands with their files and options, without help and version.
+-- The command line: eight subcommands with their files and options, without help and version.
 use Rattle.std.specs.Prelude.{true, false, List, [], ◌∷◌, codes, Some}
 use Rattle.clap.specs.Simple.{App, Shape, new_rule, new_shape}
 use Rattle.clap.specs.Walk.{Rule, Text}
@@ -52,6 +52,10 @@ abbrev pub wave_shape : Shape
 wave_shape = subcommand_shape (codes "wave") (file_rule (codes "source") ∷ file_rule (codes "input") ∷ option_rule (codes "workers") ∷ option_rule
     (codes "throttle") ∷ [])
 
+-- span SOURCE INPUT
+abbrev pub span_shape : Shape
+span_shape = subcommand_shape (codes "span") (file_rule (codes "source") ∷ file_rule (codes "input") ∷ [])
+
 -- the command line without its subcommands; the name of the program is not among the words
 abbrev pub bare_line : App
 bare_line = record {
@@ -63,5 +67,5 @@ bare_line = record {
 abbrev pub command_line : App
 command_line = record {
   top = record bare_line.top { is_leaf = false };
-  subs = run_shape ∷ play_shape ∷ serial_shape ∷ format_shape ∷ bench_shape ∷ check_record_shape ∷ wave_shape ∷ [];
+  subs = run_shape ∷ play_shape ∷ serial_shape ∷ format_shape ∷ bench_shape ∷ check_record_shape ∷ wave_shape ∷ span_shape ∷ [];
 }

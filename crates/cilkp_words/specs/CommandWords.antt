@@ -9,7 +9,7 @@ use Rattle.clap.specs.Walk.{Row, Text, first_of}
 use Rattle.pipe_gen.specs.declared.choices.TheConstants.{MOST_SEED}
 use Rattle.pipe_gen.specs.declared.workload.TheConstants.{MOST_SIZE}
 use Rattle.cilkp_words.specs.CommandLine.{command_line}
-use Rattle.cilkp_words.specs.Commands.{Command, Run, Play, Serial, Format, Bench, CheckRecord, Wave}
+use Rattle.cilkp_words.specs.Commands.{Command, Run, Play, Serial, Format, Bench, CheckRecord, Wave, Span}
 use Rattle.cilkp_words.specs.OptionNumbers.{number_or}
 use Rattle.cilkp_words.specs.declared.ranges.TheConstants.{DEFAULT_SEED, DEFAULT_SIZE, DEFAULT_WORKERS, MOST_THROTTLE, MOST_WORKERS, THROTTLE_PER_WORKER}
 
@@ -71,6 +71,10 @@ wave_of rows = option_and_then (λ source. option_and_then (λ input.
     (throttle_of workers rows)) (workers_of rows))
     (first_of (codes "input") rows)) (first_of (codes "source") rows)
 
+abbrev pub span_of : List Row → Option Command
+span_of rows = option_and_then (λ source. option_and_then (λ input. Some (Span source input))
+    (first_of (codes "input") rows)) (first_of (codes "source") rows)
+
 -- ---- the command of a whole line
 
 -- the command of the subcommand with this name
@@ -82,7 +86,8 @@ command_named name rows =
     else (if bytes_eq name (codes "format") then format_of rows
     else (if bytes_eq name (codes "bench") then bench_of rows
     else (if bytes_eq name (codes "check-record") then check_record_of rows
-    else (if bytes_eq name (codes "wave") then wave_of rows else None))))))
+    else (if bytes_eq name (codes "wave") then wave_of rows
+    else (if bytes_eq name (codes "span") then span_of rows else None)))))))
 
 -- the command that the words ask for, if they are one: the command line accepts them, and their subcommand has a command
 abbrev pub command_of : List Text → Option Command

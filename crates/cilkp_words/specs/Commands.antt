@@ -12,6 +12,7 @@ pub data Command : Type 0 where
   Bench : (seed size : ℕ) → Command
   CheckRecord : (source input saved : Text) (throttle : ℕ) → Command
   Wave : (source input : Text) (workers throttle : ℕ) → Command
+  Span : (source input : Text) → Command
 
 -- the plain data of a command
 abbrev pub command_data : RustCommand → Command
@@ -22,3 +23,4 @@ command_data (commands.Format source) = Format source.now
 command_data (commands.Bench seed size) = Bench seed size
 command_data (commands.CheckRecord source input saved throttle) = CheckRecord source.now input.now saved.now throttle
 command_data (commands.Wave source input workers throttle) = Wave source.now input.now workers throttle
+command_data (commands.Span source input) = Span source.now input.now

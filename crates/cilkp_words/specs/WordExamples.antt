@@ -1,7 +1,7 @@
 -- Worked command lines.
 use Rattle.std.specs.Prelude.{◌≡◌, ℕ, ◌==◌, true, false, List, [], ◌∷◌, codes, Some, None, if◌then◌else◌}
 use Rattle.clap.specs.Walk.{Text}
-use Rattle.cilkp_words.specs.Commands.{Command, Run, Play, Serial, Format, Bench, CheckRecord, Wave}
+use Rattle.cilkp_words.specs.Commands.{Command, Run, Play, Serial, Format, Bench, CheckRecord, Wave, Span}
 use Rattle.cilkp_words.specs.CommandWords.{command_of}
 
 -- ---- the words of a line
@@ -109,11 +109,13 @@ CallsForHelp =
     × AsksNothing (codes "run a b -h")
     × AsksNothing (codes "help run")
 
--- the commands `serial`, `format` and `bench`
+-- the commands `serial`, `span`, `format` and `bench`
 abbrev pub OtherCommands : Type 0
 OtherCommands =
     Asks (codes "serial a b") (Serial (codes "a") (codes "b"))
     × AsksNothing (codes "serial a")
+    × Asks (codes "span a b") (Span (codes "a") (codes "b"))
+    × AsksNothing (codes "span a")
     × Asks (codes "format a") (Format (codes "a"))
     × AsksNothing (codes "format")
     × AsksNothing (codes "format a b")

@@ -28,6 +28,11 @@ pub enum Command<'a> {
         source: &'a str,
         input: &'a str,
     },
+    /// Finds the work, the span and a heaviest path of the serial elision of a source on an input.
+    Span {
+        source: &'a str,
+        input: &'a str,
+    },
     /// Prints the canonical text of a source.
     Format {
         source: &'a str,

@@ -29,7 +29,7 @@ pub fn calls_for_help()
     ensures { CallsForHelp }
 {}
 
-/// The commands `serial`, `format` and `bench`.
+/// The commands `serial`, `span`, `format` and `bench`.
 pub fn other_commands()
     ensures { OtherCommands }
 {}

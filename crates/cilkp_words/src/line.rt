@@ -4,7 +4,7 @@ ghost use Rattle.std.specs.Prelude.{◌≡◌, ◌∷◌, [], IfOk, codes, false
 ghost use Rattle.clap.specs.Simple.{app_of, shape_of};
 ghost use Rattle.clap.specs.Walk.{rule_of};
 ghost use Rattle.clap.specs.declared.builder.command.Command.TheViews.{out-Command as fields_of};
-ghost use Rattle.cilkp_words.specs.CommandLine.{bare_line, bench_shape, check_record_shape, command_line, file_rule, flag_rule, format_shape, option_rule, play_shape, run_shape, serial_shape, wave_shape};
+ghost use Rattle.cilkp_words.specs.CommandLine.{bare_line, bench_shape, check_record_shape, command_line, file_rule, flag_rule, format_shape, option_rule, play_shape, run_shape, serial_shape, span_shape, wave_shape};
 
 use clap::{Arg, ArgAction, Command};
 use std::alloc::{AllocError, Global};
@@ -112,6 +112,16 @@ fn wave<'a>(alloc: Global) -> Result<Command<'a>, AllocError>
     Ok(command)
 }
 
+fn span<'a>(alloc: Global) -> Result<Command<'a>, AllocError>
+    ensures shape { IfOk result (λ c. shape_of c ≡ span_shape) }
+    ensures local { IfOk result (λ c. (fields_of c).has_globals ≡ false) }
+{
+    let command = Command::new(alloc, "span")
+        .arg(file(alloc, "source"))?
+        .arg(file(alloc, "input"))?;
+    Ok(command)
+}
+
 // The command line without its subcommands.
 fn bare_line<'a>(alloc: Global) -> Command<'a>
     ensures { app_of result ≡ bare_line }
@@ -133,6 +143,7 @@ pub fn command_line<'a>(alloc: Global) -> Result<Command<'a>, AllocError>
         .subcommand(format(alloc)?)?
         .subcommand(bench(alloc)?)?
         .subcommand(check_record(alloc)?)?
-        .subcommand(wave(alloc)?)?;
+        .subcommand(wave(alloc)?)?
+        .subcommand(span(alloc)?)?;
     Ok(line)
 }

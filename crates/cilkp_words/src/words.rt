@@ -6,7 +6,7 @@ ghost use Rattle.clap.specs.Simple.{subcommand_rows_of};
 ghost use Rattle.clap.specs.Walk.{first_of, rows_of};
 ghost use Rattle.cilkp_words.specs.CommandRanges.{IsInRange};
 ghost use Rattle.cilkp_words.specs.Commands.{command_data};
-ghost use Rattle.cilkp_words.specs.CommandWords.{bench_of, check_record_of, command_named, command_of, format_of, play_of, records, run_of, seed_of, serial_of, throttle_of, wave_of, words_of, workers_of};
+ghost use Rattle.cilkp_words.specs.CommandWords.{bench_of, check_record_of, command_named, command_of, format_of, play_of, records, run_of, seed_of, serial_of, span_of, throttle_of, wave_of, words_of, workers_of};
 ghost use Rattle.cilkp_words.specs.declared.ranges.TheConstants as ranges;
 
 use crate::commands::Command;
@@ -101,6 +101,14 @@ fn serial<'a>(matches: &ArgMatches<'a>) -> Option<Command<'a>>
     Some(Command::Serial { source, input })
 }
 
+fn span<'a>(matches: &ArgMatches<'a>) -> Option<Command<'a>>
+    ensures { option_map command_data result ≡ span_of (rows_of (found_of matches.now)) }
+{
+    let source = word(matches, "source")?;
+    let input = word(matches, "input")?;
+    Some(Command::Span { source, input })
+}
+
 fn format<'a>(matches: &ArgMatches<'a>) -> Option<Command<'a>>
     ensures { option_map command_data result ≡ format_of (rows_of (found_of matches.now)) }
 {
@@ -158,6 +166,7 @@ fn command_named<'a>(name: &str, matches: &ArgMatches<'a>) -> Option<Command<'a>
         "bench" => bench(matches),
         "check-record" => check_record(matches),
         "wave" => wave(matches),
+        "span" => span(matches),
         _ => None,
     }
 }

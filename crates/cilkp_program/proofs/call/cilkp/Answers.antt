@@ -8,6 +8,7 @@ use Rattle.cilkp_program.proofs.SeededPlays.{call_is_scheduled, plays_finish}
 use Rattle.cilkp_program.proofs.SerialCallLaws.{printed_elision}
 use Rattle.cilkp_program.proofs.RecordCallLaws.{printed_check}
 use Rattle.cilkp_program.proofs.GridCalls.{printed_grid}
+use Rattle.cilkp_program.proofs.SpanLaws.{printed_span}
 use Rattle.cilkp_program.proofs.call.cilkp.Goals.{in-Whole, in-Failed}
 use Rattle.cilkp_program.proofs.call.cilkp.Goals as goal
 
@@ -66,6 +67,15 @@ returns-clause-grid g c = λ calm_files calm_out.
     let w = c.write_text-written.ensures in
     elim c.match-written.branch [
       | in-Whole b ↦ rw b.status-is (printed_grid _ _ _ _ _ _ _ _ _ _ calm_files (text_whole _ _ _ _ _ _ _ _ _ _ _ c.in_ok-outcome.ensures.outcome
+          ((rw c.as_slice.ensures at w.whole).0 b.in-Whole.is) (rw c.as_slice.ensures at w.taken)))
+      | in-Failed b ↦ (let cause = rw b.in-Failed.is at w.cause in absurd (calm_out cause.1))
+    ]
+
+pub returns-clause-weighed : goal.returns-clause-weighed
+returns-clause-weighed g c = λ calm_files calm_out.
+    let w = c.write_text-written.ensures in
+    elim c.match-written.branch [
+      | in-Whole b ↦ rw b.status-is (printed_span _ _ _ _ _ _ _ _ _ _ calm_files (text_whole _ _ _ _ _ _ _ _ _ _ _ c.in_ok-outcome.ensures.outcome
           ((rw c.as_slice.ensures at w.whole).0 b.in-Whole.is) (rw c.as_slice.ensures at w.taken)))
       | in-Failed b ↦ (let cause = rw b.in-Failed.is at w.cause in absurd (calm_out cause.1))
     ]

@@ -4,4 +4,4 @@ use Rattle.cilkp_words.proofs.examples.other_commands.Goals as goal
 
 pub returns : goal.returns
 unfolding clap_on_literals
-returns c = (refl, refl, refl, refl, refl, refl, refl, refl, refl, refl, refl, refl)
+returns c = (refl, refl, refl, refl, refl, refl, refl, refl, refl, refl, refl, refl, refl, refl)

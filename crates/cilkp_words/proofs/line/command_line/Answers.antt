@@ -10,4 +10,5 @@ returns c =
     let four = c.in_ok-subcommand-4.ensures.shape c.in_ok-format.ensures.local ∙ ap₂ with_subcommand three c.in_ok-format.ensures.shape in
     let five = c.in_ok-subcommand-5.ensures.shape c.in_ok-bench.ensures.local ∙ ap₂ with_subcommand four c.in_ok-bench.ensures.shape in
     let six = c.in_ok-subcommand-6.ensures.shape c.in_ok-check_record.ensures.local ∙ ap₂ with_subcommand five c.in_ok-check_record.ensures.shape in
-    c.in_ok-line.ensures.shape c.in_ok-wave.ensures.local ∙ ap₂ with_subcommand six c.in_ok-wave.ensures.shape
+    let seven = c.in_ok-subcommand-7.ensures.shape c.in_ok-wave.ensures.local ∙ ap₂ with_subcommand six c.in_ok-wave.ensures.shape in
+    c.in_ok-line.ensures.shape c.in_ok-span.ensures.local ∙ ap₂ with_subcommand seven c.in_ok-span.ensures.shape
