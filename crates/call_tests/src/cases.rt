@@ -81,6 +81,14 @@ impl<'a> Case<'a> {
         }
     }
 
+    // The call that prints work, span and the heaviest path of the serial elision.
+    pub fn span(source: &'a [u8]) -> Self {
+        Case {
+            words: &["span", "a.pipe", "a.in"],
+            ..Case::of(source)
+        }
+    }
+
     // The call that prints the canonical text of the source's program.
     pub fn format(source: &'a [u8]) -> Self {
         Case {

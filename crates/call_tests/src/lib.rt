@@ -16,6 +16,8 @@ mod refusal_tests;
 #[cfg(test)]
 mod row_tests;
 #[cfg(test)]
+mod span_rows;
+#[cfg(test)]
 mod tests;
 #[cfg(test)]
 mod thread_rows;
