@@ -58,9 +58,10 @@ const WRITE_FAULT: u8 = 5;
 /// How a call ended.
 #[derive(Drop)]
 pub struct Ended {
-    /// 0: the run finished without a trap, or the canonical text of the program or the summary of a
-    /// generated one was printed. 1: the words, the source or the input were refused. 2: the program
-    /// has a race. 3: the run trapped. 4: a read failed. 5: a write failed.
+    /// 0: the run finished without a trap, the saved run has no race, or the canonical text of the
+    /// program, the summary of a generated one, or work and span were printed. 1: the words or a file
+    /// were refused. 2: the program has a race, or the saved run has one. 3: the run trapped. 4: a read
+    /// failed. 5: a write failed.
     pub status: u8,
     /// The events of the run, or of the saved run that was checked, and its columns; `None` if there
     /// is none, or only the serial elision was run.
