@@ -8,7 +8,7 @@ use std::test::Fail;
 
 // Lines of words, most of which were drawn at random from a list, and their commands: the name, the
 // files, the numbers, and whether a log is asked for. A line that asks for no command has none.
-const LINES: [(&str, &str); 47] = [
+const LINES: [(&str, &str); 53] = [
     ("run b -", "run b - 4 16"),
     ("run a a", "run a a 4 16"),
     ("run -- a.pipe -", "run a.pipe - 4 16"),
@@ -59,6 +59,12 @@ const LINES: [(&str, &str); 47] = [
     ("run --record a b", "run a b 4 16 record"),
     ("play a b --size 3", ""),
     ("serial a b --record", ""),
+    ("check-record --throttle 3 a b c", "check-record a b c 3"),
+    ("check-record a b - ", ""),
+    ("wave a --workers=2 -", "wave a - 2 8"),
+    ("wave a b --record", ""),
+    ("span a.pipe -", "span a.pipe -"),
+    ("span a b --workers 1", ""),
 ];
 
 // The words of a line, with one space between them.
@@ -112,6 +118,23 @@ fn asked(alloc: Global, line: &str) -> Result<String, NoMemory> {
         Some(Command::Serial { source, input }) => write!(text, "serial {source} {input}")?,
         Some(Command::Format { source }) => write!(text, "format {source}")?,
         Some(Command::Bench { seed, size }) => write!(text, "bench {seed} {size}")?,
+        Some(
+            Command::CheckRecord {
+                source,
+                input,
+                record,
+                throttle,
+            },
+        ) => write!(text, "check-record {source} {input} {record} {throttle}")?,
+        Some(
+            Command::Wave {
+                source,
+                input,
+                workers,
+                throttle,
+            },
+        ) => write!(text, "wave {source} {input} {workers} {throttle}")?,
+        Some(Command::Span { source, input }) => write!(text, "span {source} {input}")?,
     }
     Ok(text)
 }
