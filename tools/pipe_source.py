@@ -141,6 +141,20 @@ class Source(Text):
 
         return self.offsets("pipe_while", stage, accesses_name)
 
+    def stage_begins(self, stage: int) -> List[int]:
+        """Returns the offsets of what may begin a stage of the loop: its head, or the stage statements that may name the stage."""
+
+        def may_begin(index: int) -> bool:
+            symbol, number = self.symbols[index], self.text_after(index, 2)
+            if stage == 0 or symbol.text not in STAGE_WORDS:
+                return stage == 0 and symbol.text == "pipe_while"
+            if number == ")":
+                return symbol.stage in (stage - 1, None)
+            is_computed = not number.isdigit() or self.text_after(index, 3) != ")"
+            return is_computed or int(number) == stage
+
+        return self.offsets("pipe_while", None, may_begin)
+
     def block_has_ended(self, earlier: int, later: int) -> bool:
         """Returns whether the innermost block around one symbol ends before another."""
         depth = 0

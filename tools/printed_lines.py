@@ -16,6 +16,8 @@ ACCESS = re.compile(rf"(read|write) ([0-9]+) ({CELL}) (-?[0-9]+)")
 NAMED_STAGE = re.compile(r"(wait|continue) ([0-9]+) (-?[0-9]+)")
 ITERATION = re.compile(r"(begin|enter|end|closed) ([0-9]+)")
 RUN_KIND = re.compile(r"run (finished|unfinished|stopped)")
+WEIGHT = re.compile(r"(work|span) ([0-9]+)")
+ON_PATH = re.compile(INSTANCE)
 SUMMARY = re.compile(r"(?:(items|instances) ([0-9]+)|workers ([0-9]+) last (-?[0-9]+))")
 
 TRAPS = {
@@ -50,6 +52,11 @@ RUN_KINDS = {
     " if there are any.",
     "stopped": "The record is a run of the program that broke off with `stop`. The races of its events follow, if there are any.",
 }
+WEIGHTS = {
+    "work": "All stage instances of the loop together take {} steps.",
+    "span": "The stage instances in the lines that follow are a heaviest path: they take {} steps, and each of them has to wait for the one before it, so"
+    " work / span is the most speedup that any number of processors can give.",
+}
 SUMMARIES = {
     "items": "The generated pipeline of `bench` has {} items.",
     "instances": "The serial elision of the generated pipeline has {} stage instances.",
@@ -74,6 +81,8 @@ class Explainer:
             (NAMED_STAGE, self._named_stage),
             (ITERATION, self._iteration),
             (RUN_KIND, lambda kind: Meaning(RUN_KINDS[kind])),
+            (WEIGHT, lambda kind, steps: Meaning(WEIGHTS[kind].format(steps))),
+            (ON_PATH, self._on_path),
             (SUMMARY, self._summary),
         ]
         for form, explain in forms:
@@ -152,6 +161,11 @@ class Explainer:
             return self._about_source(f"The loop's test is 0 in iteration {i}, so the loop is closed and this iteration ends.", loop)
         ends = source.offsets("pipe_while", None, lambda index: source.symbols[index].text == "}")
         return self._about_source(f"Iteration {i} ends, at the end of the loop's body.", ends[-1:])
+
+    def _on_path(self, i: str, s: str) -> Meaning:
+        """Explains an instance of the heaviest path."""
+        sentence = f"The heaviest path goes through stage {s} of iteration {i}: with less work in that stage, the span may be less."
+        return self._about_source(sentence, self.files.source.stage_begins(int(s)))
 
     @staticmethod
     def _summary(word: Optional[str], count: Optional[str], workers: Optional[str], last: Optional[str]) -> Meaning:
