@@ -1,8 +1,9 @@
 -- Work, span and heaviest path of an elision, and the result of a call that prints them.
-use Rattle.std.proofs.Common.{◌≡◌, ◌∙◌, ap, refl, subst, sym, ℕ, ℤ, List, [], Option, Some, None, IfSome}
+use Rattle.std.proofs.Common.{◌≡◌, ◌∙◌, ap, refl, subst, sym, ℕ, ℤ, List, [], Option, Some, None, Result, Ok, Err, IfOk, IfSome}
 use Rattle.dag_build.specs.NodeColumns.{node_columns}
 use Rattle.pipe_model.specs.declared.column.Column.{Column}
 use Rattle.pipe_model.specs.declared.event.RunLog.{RunLog}
+use Rattle.pipe_model.specs.declared.memory.NoMemory.{NoMemory}
 use Rattle.pipe_model.specs.declared.report.Report.{Report}
 use Rattle.pipe_model.specs.Language.ProgramsOfTrees.{whole_of}
 use Rattle.pipe_model.specs.Language.SyntaxTree.{SyntaxTree}
@@ -38,16 +39,17 @@ one_span_text tree input s t o =
     (columns_have_one_span (elision_columns tree input) (program_steps tree input) t.found o.found full t.heaviest o.heaviest) ∙ sym o.text_is
 
 -- the text of what was found
-pub weighed_text : (tree : SyntaxTree) (input : List ℤ) (columns : List Column) (steps : List ℤ) (found : Span) (text : List ℕ)
+pub weighed_text : (tree : SyntaxTree) (input : List ℤ) (columns : List Column) (steps : List ℤ) (found : Span) (r : Result (List ℕ) NoMemory)
     → columns ≡ program_columns (whole_of tree input) → steps ≡ program_steps tree input → IsWorkAndSpan (node_columns columns) steps found
-    → text ≡ span_text (node_columns columns) found → IsSpanText tree input text
-weighed_text tree input columns steps found text c s h t =
+    → IfOk r (λ text. text ≡ span_text (node_columns columns) found) → IfOk r (IsSpanText tree input)
+weighed_text tree input columns steps found (Ok text) c s h t =
     let same = given_columns tree input columns c in
     record {
       found = found;
       heaviest = subst (λ cs. IsWorkAndSpan cs (program_steps tree input) found) same (subst (λ ss. IsWorkAndSpan (node_columns columns) ss found) s h);
       text_is = t ∙ ap (λ cs. span_text cs found) same;
     }
+weighed_text tree input columns steps found (Err m) c s h t = t
 
 -- ---- the call
 

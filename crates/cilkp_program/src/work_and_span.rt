@@ -9,7 +9,7 @@ ghost use Rattle.cilkp_program.specs.SpanResults.{IsSpanText, instance_line, spa
 
 use crate::command_result::CommandResult;
 use pipe_check::checked::Checked;
-use pipe_model::column::Column;
+use pipe_model::column::{Column, Columns};
 use pipe_model::list::{Bytes, Numbers};
 use pipe_model::memory::NoMemory;
 use pipe_model::node::NodeId;
@@ -55,6 +55,14 @@ fn span_lines(alloc: Global, columns: &[Column], found: &Span) -> Result<String,
     Ok(text)
 }
 
+// The same lines as bytes.
+fn span_bytes(alloc: Global, columns: &Columns, found: &Span) -> Result<Bytes, NoMemory>
+    ensures { IfOk result (λ bytes. bytes ≡ span_text (node_columns columns.now) found.now) }
+{
+    let text = span_lines(alloc, columns.as_slice(), found)?;
+    Ok(Bytes::from_vec(text.into_bytes()))
+}
+
 /// Returns the work, the span and the heaviest path of the serial elision of an accepted program,
 /// as text. Returns an error only if memory runs out.
 pub fn weighed_elision(alloc: Global, checked: &Checked, input: &Numbers) -> Result<Bytes, NoMemory>
@@ -64,8 +72,7 @@ pub fn weighed_elision(alloc: Global, checked: &Checked, input: &Numbers) -> Res
     let code = lower(alloc, checked)?;
     let weighed = weigh(alloc, checked, &code, input)?;
     let found = heaviest(alloc, &weighed.columns, &weighed.steps)?;
-    let text = span_lines(alloc, weighed.columns.as_slice(), &found)?;
-    Ok(Bytes::from_vec(text.into_bytes()))
+    span_bytes(alloc, &weighed.columns, &found)
 }
 
 /// Returns the result of `span` for an accepted program: the lines of work, span and heaviest path,
