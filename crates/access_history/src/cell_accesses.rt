@@ -24,8 +24,8 @@ pub struct CellAccess {
 /// Returns the history of the accesses to a cell, noted in order. Its report is the first race, for
 /// any two total orders of the instances that agree with the lists: the later access is the first
 /// that has an earlier conflicting access of another instance which is not before it in both
-/// orders, and the earlier access is such a one. The elements of all instances must be in the
-/// lists. Does not allocate.
+/// orders, and the earlier access is such a one; there is no report exactly if no access has one. The
+/// elements of all instances must be in the lists. Does not allocate.
 pub fn history_of<O: Orders>(accesses: &[CellAccess], orders: &mut O) -> History
     requires in_lists { All (λ (a : PlainAccess). AreIn (O.down_first orders.old) (O.right_first orders.old) a.who.marks) accesses.now }
     ensures history { (down right : PlainNodeId → ℕ)

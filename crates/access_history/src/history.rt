@@ -331,10 +331,12 @@ impl History {
         verdict
     }
 
-    /// Compares an access with the kept ones, and then keeps it. A write is compared with the last
-    /// writer, then with the rightmost and then with the downmost reader; a read is compared with
-    /// the last writer alone. The first race is kept as the report. The elements of `who` and of
-    /// the kept instances must be in the lists. Does not allocate.
+    /// Compares an access with the kept ones, and then keeps it. Returns the first with which it races:
+    /// a write is compared with the last writer, then with the rightmost and then with the downmost
+    /// reader; a read is compared with the last writer alone. This holds for any two orders of the
+    /// instances that agree with the lists on `who` and the kept instances. The first race is kept as
+    /// the report. The elements of `who` and of the kept instances must be in the lists, and those of
+    /// the instances that are kept afterwards are. Does not allocate.
     pub fn note<O: Orders>(&mut self, who: Who, kind: AccessKind, orders: &mut O) -> Verdict
         requires kept { KeptAreIn (O.down_first orders.old) (O.right_first orders.old) self.old }
         requires new { AreIn (O.down_first orders.old) (O.right_first orders.old) who.marks }

@@ -1,5 +1,6 @@
 //! The program `cilkp`: it passes its words, the files of the system and the standard output to the
-//! top call, and exits with the status that the call returns.
+//! top call, and exits with the status that the call returns, or with 6 if memory runs out. Words of
+//! which one is not text are no command.
 #![tactic(auto)]
 
 use cilkp_program::call::cilkp;

@@ -64,7 +64,8 @@ pub struct Ended {
     /// failed. 5: a write failed.
     pub status: u8,
     /// The events of the run, or of the saved run that was checked, and its columns; `None` if there
-    /// is none, or only the serial elision was run.
+    /// is none, or only the serial elision was run. With status 5 log and reports are still those of the
+    /// complete result.
     pub run_log: Option<RunLog>,
     /// A race of each cell that has one, rising by cell; empty if no program was run.
     pub reports: Reports,
@@ -413,6 +414,10 @@ fn execute<R: Threads + Wait + Sync, F: Files, G: Gate + Sync>(
 /// as `run` does. `span` prints the work, the span and the heaviest path of the serial elision, each weighed in
 /// steps. A worker of `run`, `bench` or `wave` asks the gate before each stage instance. Returns an error
 /// only if memory runs out; a run that was stopped because memory ran out ends so too.
+///
+/// The text was written completely, unless the status is 5 or the call returns an error: with status 5 a
+/// proper prefix was written, and with an error such a prefix or nothing. After a read that failed the
+/// text is the line `fault read NAME`. The files stay as they are.
 pub fn cilkp<R: Threads + Wait + Sync, F: Files, S: Sink, G: Gate + Sync>(
     rt: &R,
     alloc: Global,

@@ -180,7 +180,8 @@ fn command_in<'a>(matches: &ArgMatches<'a>) -> Option<Command<'a>>
 }
 
 /// Returns the command that the words ask for; `None` if they are no command. Calls for help or a
-/// version are none. Returns an error only if memory runs out.
+/// version are none, and so are words with a number that is not plain decimal or not in its range.
+/// Returns an error only if memory runs out.
 pub fn read_words<'a>(alloc: Global, words: &'a [String]) -> Result<Option<Command<'a>>, NoMemory>
     ensures command { IfOk result (λ found. option_map command_data found ≡ command_of (words_of words.now)) }
     ensures ranges { IfOk result (λ found. IfSome (option_map command_data found) IsInRange) }

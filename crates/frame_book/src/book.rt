@@ -58,6 +58,10 @@ use throttle::pool::Pool;
 /// throttling limit, the identities of the order lists, the log of its events, for each iteration the
 /// traces of the instances that have ended and where its token is, and how often a left counter was
 /// read. Only `new` allocates.
+///
+/// The ticket of an event is one more than the greater of the book's last ticket and the token's.
+/// A token that a call returns is that of a running instance, at whose start its payload is. Its ticket
+/// is that of the event that the call made; one that was left ready comes back with all its fields.
 #[derive(Drop)]
 pub struct Book<M: Payload<L>, L: ListWriter + Drop> {
     program: Program,
@@ -99,8 +103,9 @@ impl<M: Payload<L>, L: ListWriter + Drop> Model for Book<M, L> {
 impl<M: Payload<L>, L: ListWriter + Drop> Book<M, L> {
     /// Returns a book without events of a program and its input, of which it keeps copies. At most
     /// `throttle` iterations may be alive, each with one of the payloads. There must be room for every
-    /// instance of the program in the two lists, which must be empty. Returns an error only if memory
-    /// runs out.
+    /// instance of the program in the two lists, which must be empty, and for each iteration in the
+    /// book, as there is for every program that breaks no rule. Returns an error only if memory runs
+    /// out.
     pub fn new(
         alloc: Global,
         program: &Program,
@@ -348,9 +353,9 @@ impl<M: Payload<L>, L: ListWriter + Drop> Book<M, L> {
     /// Ends the token's instance, which has made the accesses of `trace` and ended with `end`: the
     /// event `Advance` or `Finish`. If the iteration names a stage that it may enter at once, the event
     /// `Enter` follows, and the token of the next instance is returned; otherwise the book keeps the
-    /// token until the left neighbour has passed the stage. The left neighbour's counter is read only
-    /// if the token's kept one does not let the iteration go on. A stopped book makes no event, and
-    /// keeps the token and the trace.
+    /// token until the left neighbour has passed the stage. The left neighbour's counter is read, and
+    /// then kept, exactly if the token's kept one does not let the iteration go on. A stopped book makes
+    /// no event, and keeps the token and the trace.
     pub fn advance(&mut self, token: FrameToken<M>, end: StageEnd, trace: Trace) -> Next<M>
         requires out { IsOutOf self.old (fields_of token) }
         requires whole { M.whole (tree_of self.old.program) token.payload }

@@ -2,7 +2,7 @@
 
 ghost use Rattle.grammar_laws.specs.TokenLaws.{SourcesHaveOneListOfTokens, SourcesHaveOneFault, SourcesWithTokensHaveNoFault, TokensStandInTheirSource};
 
-/// A source has at most one list of tokens.
+/// A source has at most one list of tokens, with their kinds, offsets and lengths.
 pub fn sources_have_one_list_of_tokens()
     ensures { SourcesHaveOneListOfTokens }
 {}

@@ -1,4 +1,4 @@
-//! The pipelines of accepted programs.
+//! The pipelines of accepted programs: of all that break no rule, whether or not a source spells them.
 
 ghost use Rattle.language_laws.specs.ProgramLaws.{ProgramsAreWellFormed};
 

@@ -25,8 +25,9 @@ pub enum Look {
     Rescue,
 }
 
-/// Returns where a worker looks after a stage instance. `popped` is false if the worker has tried to
-/// pop a task since the instance ended, and its deque returned none.
+/// Returns where a worker looks after a stage instance: in its own iteration if that goes on, and
+/// otherwise at the right neighbour, or in any iteration if `popped` is false. That is so if the worker
+/// has tried to pop a task since the instance ended, and its deque returned none.
 pub fn after(outcome: StageOutcome, popped: bool) -> Look
     ensures { result ≡ look_after outcome popped }
 {

@@ -36,8 +36,8 @@ impl Model for OmList {
 }
 
 impl OmList {
-    /// Returns the list of element 0 alone, with room for `capacity` elements in all. No other call
-    /// allocates. Returns an error only if memory runs out.
+    /// Returns the list of element 0 alone, whose label is 0, with room for `capacity` elements in all.
+    /// No other call allocates. Returns an error only if memory runs out.
     pub fn new(alloc: Global, capacity: u32) -> Result<OmList, OutOfMemory>
         requires some { 0 < capacity }
         requires few { capacity ≤ MOST_ELEMENTS }
@@ -85,9 +85,11 @@ impl OmList {
         self.links.label[x as usize] < self.links.label[y as usize]
     }
 
-    /// Inserts a new element right after `x`, and returns its number, which is the old length.
-    /// Constant time, unless no label is free between `x` and the next element: then the elements of
-    /// the smallest sparse range of labels around `x` get new labels.
+    /// Inserts a new element right after `x`, and returns its number, which is the old length. Its
+    /// label is in the middle between those of `x` and of the next element, rounded down; after the
+    /// last element it is in the middle between that label and 2^62. Constant time, unless no label is
+    /// free there: then the elements of the smallest sparse range of labels around `x` are spread
+    /// evenly over it before, and all others keep their labels.
     pub fn insert_after(&mut self, x: u32) -> u32
         requires there { x ≤ length self.old.log }
         requires room { length self.old.log + 1 < self.old.capacity }

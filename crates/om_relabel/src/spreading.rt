@@ -9,7 +9,8 @@ ghost use Rattle.pipe_model.specs.Orders.OrderList.{has};
 use crate::label_range::{LabelRange, width};
 use crate::links::{LABEL_BITS, Links, TOP};
 
-/// Returns the new label of element `k` of a sparse range, counted from 0 in the order of the list.
+/// Returns the new label of element `k` of a sparse range, counted from 0 in the order of the list. The
+/// labels rise by at least 2 each; all are in the range, and the last is at least 2 below its end.
 pub fn spread(range: &LabelRange, k: u32) -> u64
     requires there { k < range.now.count }
     requires some_bits { 1 ≤ range.now.bits }

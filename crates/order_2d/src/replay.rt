@@ -134,9 +134,11 @@ fn empty_orders(alloc: Global, count: usize) -> Result<TwoOrders<OmList>, NoMemo
     Ok(TwoOrders::new(down, right))
 }
 
-/// Returns the two orders of a run: those of its starts, in the order of its events. The events
-/// other than accesses must be a run of the control part, and the columns those that they make.
-/// Returns an error only if memory runs out.
+/// Returns the two orders of a run: those of its starts, in the order of its events. Of two instances
+/// one is before the other in both lists exactly if it precedes it in the dag of the columns. The
+/// instances are those of the columns, and their marks are in both lists. The events other than
+/// accesses must be a run of the control part that starts at most 262,145 instances, and the columns
+/// those that they make. Returns an error only if memory runs out.
 pub fn replay(alloc: Global, run_log: &RunLog) -> Result<Replayed, NoMemory>
     requires own { IsOwnLog run_log.now }
     requires few { length (log_starts run_log.now.events) ≤ MOST_INSTANCES }

@@ -69,7 +69,8 @@ fn check_marks(alloc: Global, program: &Program) -> Result<u32, CheckFault>
 
 /// Returns the program if it breaks no rule, or else its first fault: of its limits, in their
 /// order, and then of its marks, in the order of the text; at one mark the earlier rule counts. The
-/// only other error is that memory runs out.
+/// only other error is that memory runs out. The program must be spellable (`IsSpellable`), as is each
+/// that `parse` returns.
 pub fn check(alloc: Global, program: Program) -> Result<Checked, CheckFault>
     requires spellable { IsSpellable (tree_of program) }
     ensures program { IfOk result (λ checked. checked ≡ program) }

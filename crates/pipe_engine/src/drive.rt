@@ -25,7 +25,7 @@ pub struct Driven<H> {
     /// The seats of the workers.
     pub seats: Vec<H>,
     /// How many tasks are left in the deques: those that were pushed, less those that were popped or
-    /// stolen.
+    /// stolen. No clause of `drive` speaks of this number.
     pub left: u128,
 }
 

@@ -52,7 +52,8 @@ use std::thread::Threads;
 pub struct EngineRun {
     /// The events of the loop, by their tickets, and their columns. There are none if `init` trapped.
     pub run_log: RunLog,
-    /// A race of each cell for which its access history found one, rising by cell.
+    /// A race of each cell for which its access history found one, rising by cell. These are the cells
+    /// that race in the run's own dag.
     pub reports: Reports,
     /// The emitted numbers of `init`, of the loop and of `final`, in order, up to the limit.
     pub output: Numbers,
@@ -205,7 +206,7 @@ fn run_coded<R: Threads + Wait + Sync, B: RunCode + Send, G: Gate + Sync>(
 /// trap are those of the elision.
 ///
 /// # Errors
-/// Out of memory.
+/// Out of memory. The run may then have been stopped.
 pub fn run<R: Threads + Wait + Sync, G: Gate + Sync>(
     rt: &R,
     alloc: Global,

@@ -25,7 +25,10 @@ use std::sync::Wait;
 
 /// The scheduler's book and the cells, shared by workers. Each call but `access` looks at the book
 /// once; what it returns is right after the events that were there, and its own events follow them.
-/// There is no call that stops a run: a run is stopped by an access that runs out of memory.
+/// The events seen after a call begin with those seen before, and are a run of the control part. A token
+/// that a call returns is that of an instance that runs after them: its payload has the instance's seat
+/// and is at its start, and the instance has made no access. There is no call that stops a run: a run is
+/// stopped by an access that runs out of memory.
 pub trait Hall<M: Stands + Drop> {
     ghost use Rattle.std.specs.Prelude.{List};
     ghost use Rattle.pipe_model.specs.declared.event.Event.{Event};
@@ -92,8 +95,9 @@ pub trait Hall<M: Stands + Drop> {
         ensures seen_runs { ControlRun (named self.new).limit (seen self.new) (state_after (seen self.new)) };
 
     /// Reads a cell, or writes a value to it, for the instance of the token, and appends the access
-    /// to its trace. `Stopped` is returned if memory runs out, and then nothing was done but that the
-    /// run is stopped; it may also be returned if the run was stopped before.
+    /// to its trace. Of the token only the ticket changes; its payload stays ready to run what it was.
+    /// `Stopped` is returned if memory runs out, and then nothing was done but that the run is stopped;
+    /// it may also be returned if the run was stopped before.
     fn access<R: Wait>(
         &mut self,
         rt: &R,

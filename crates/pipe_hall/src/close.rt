@@ -119,8 +119,11 @@ fn raise_stop<M: Carrier>(book: &mut Book<M, OmWriter>, shards: &[Shard])
 
 /// Takes the book and the shards out of a hall of which the key is. The passes of each shard have
 /// then seen the order lists to their ends, and the ticket of `Stop`, if the run was stopped, is above
-/// those of all accesses. It waits until nobody holds one of them. Returns an error only if memory
-/// runs out; then the hall is gone.
+/// those of all accesses. The book's events begin with those that the key had seen. In the log of a
+/// shard tickets rise, each instance has started and has the entries of its trace that are to the shard's
+/// cells, in order, and each read has the value before it. The cells are those after this log, and each
+/// history is that of the accesses to its cell, by the book's two orders. It waits until nobody holds one
+/// of them. Returns an error only if memory runs out; then the hall is gone.
 pub fn close<R: Wait, M: Carrier>(
     rt: &R,
     alloc: Global,

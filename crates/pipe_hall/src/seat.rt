@@ -22,7 +22,9 @@ use std::marker::Model;
 use std::sync::Wait;
 
 /// A worker's seat beside its hall. Contracts see which hall it is, and the events of the book that
-/// it has seen.
+/// it has seen. `access` waits for the lock of one shard, and asks the order lists without a lock; the
+/// other calls of `Hall` wait for the lock of the book, once each. An access whose ticket would be above
+/// 2^62 is not made, and stops the run as one that runs out of memory does.
 #[derive(Drop)]
 pub struct HallSeat<'a, M: Carrier> {
     hall: &'a HallOf<M>,

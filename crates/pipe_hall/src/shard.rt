@@ -27,7 +27,7 @@ use std::alloc::Global;
 use std::marker::Model;
 use std::sync::Wait;
 
-/// How many shards a hall has.
+/// How many shards a hall has. Cell `c` is in shard `c % 16`.
 pub const SHARDS: u32 = 16;
 
 // The greatest ticket of an access.

@@ -33,8 +33,8 @@ pub struct Parsed {
 /// first of them in this order counts.
 #[derive(Clone, Copy, PartialEq, Eq, Debug, Error)]
 pub enum ParseFault {
-    /// The token at this offset may not come there; or the source, which has this length, ends too
-    /// early.
+    /// The token at this offset may not come there: some program begins with the tokens before it, and
+    /// none with it too. Or the source, which has this length, ends too early.
     #[error("unexpected symbol at byte {0}")]
     Unexpected(u32),
     /// With the token at this offset more than 64 brackets are open.

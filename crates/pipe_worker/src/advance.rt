@@ -19,7 +19,7 @@ use std::marker::Brand;
 use std::sync::Wait;
 
 /// Runs the instance of a token over the cells of the hall, and ends it. Returns how the iteration goes
-/// on, and the end of the instance.
+/// on, and the end of the instance. The token of a next instance is as `advance` of the hall returns it.
 pub fn run_and_advance<R: Wait, M: Runs + Drop, H: Hall<M>>(
     alloc: Global,
     rt: &R,

@@ -49,7 +49,8 @@ impl RunningInstance for Brand {
     ghost replies = { [] };
 }
 
-/// The cells of a hall, for the instance of a token.
+/// The cells of a hall, for the instance of a token. Each access is appended to the instance's trace. It
+/// has stopped only if the hall has seen the run stopped.
 #[derive(Drop)]
 pub struct InstanceMemory<'r, 'a, R: Wait, M: Stands + Drop, H: Hall<M>, J: RunningInstance> {
     rt: &'r R,

@@ -266,7 +266,8 @@ impl<M: Runs + Drop, Q: WorkTest<M>> Worker<M, Q> {
     }
 
     /// Runs instances until the run is over. Returns only after the hall has seen the run finished or
-    /// stopped; the worker's ends are then still ends of the same deques.
+    /// stopped; the worker then has the same number, and its ends are still ends of the same deques. No
+    /// clause says that it returns, or that it keeps each token.
     pub fn work<R: Wait, H: Hall<M>, G: Gate>(
         &mut self,
         rt: &R,

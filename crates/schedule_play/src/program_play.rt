@@ -51,7 +51,8 @@ pub struct Played {
     /// The events of the loop in the order in which they were made, and their columns. There are
     /// none if `init` trapped.
     pub run_log: RunLog,
-    /// A race of each cell for which its access history found one, rising by cell.
+    /// A race of each cell for which its access history found one, rising by cell. These are the cells
+    /// that race in the run's own dag.
     pub reports: Reports,
     /// The emitted numbers of `init`, of the loop and of `final`, in order, up to the limit.
     pub output: Numbers,
@@ -180,7 +181,8 @@ fn turns_of_instance(limits: Limits) -> u64
 }
 
 /// Returns a number of turns that is enough for every schedule of the program: for each instance that a
-/// run may have, two for each step and two more. It is less than 2^50.
+/// run may have, `iterations` times `stages` and one of them by the limits, two for each step and two
+/// more. It is less than 2^50.
 pub fn enough_turns(code: &Code) -> u64
     ensures { (tree : SyntaxTree) → IsCodeOf tree code.now → result ≡ enough_turns tree }
 {
@@ -195,7 +197,8 @@ pub fn enough_turns(code: &Code) -> u64
 /// number of candidates; after the last choice the first is used again, and without choices the index
 /// is 0. The candidates are the next event of each iteration, by rising number, and then the beginning
 /// of the next one; an event that starts an instance is one only while fewer than `workers` run. At
-/// most `turns` events are made. Both `workers` and `throttle` are at least 1.
+/// most `turns` events are made, and fewer only if the run is finished. Both `workers` and `throttle`
+/// are at least 1.
 ///
 /// If the run is finished, it has a report exactly if the program's serial elision has a race, and
 /// otherwise the elision's columns, output and trap. Until then each state has a candidate, and there are at

@@ -15,7 +15,8 @@ use std::sync::Wait;
 pub(crate) type Owner<T, Q> = Worker<T, Global, Tally, Tested<Q>>;
 
 /// The ends of deques that a worker has: the back of its own deque, and the fronts of all deques, its
-/// own included.
+/// own included. All calls keep them ends of the same deques. No clause says that `pop` or `steal` finds
+/// a task that is there.
 #[derive(Drop)]
 pub struct Ends<T: Drop, Q: TaskTest<T>> {
     own: Owner<T, Q>,
