@@ -1,11 +1,13 @@
 // For LD_PRELOAD: makes one allocation of a program fail, of the number in REFUSE_AT, counted from 1 over all threads; none if it is 0.
-// At the end it writes the number of allocations to the file COUNT_TO.
+// At the end, which is a call of `_exit`, it writes the number of allocations to the file COUNT_TO.
 #define _GNU_SOURCE
 #include <dlfcn.h>
 #include <errno.h>
 #include <stdatomic.h>
 #include <stdio.h>
 #include <stdlib.h>
+#include <sys/syscall.h>
+#include <unistd.h>
 
 static atomic_long allocations;
 static long refused_number = -1;
@@ -26,7 +28,7 @@ __attribute__((constructor)) static void begin(void) {
     refused_number = at ? atol(at) : 0;
 }
 
-__attribute__((destructor)) static void end(void) {
+void _exit(int status) {
     long count = allocations;
     refused_number = -1;
     const char *name = getenv("COUNT_TO");
@@ -35,6 +37,8 @@ __attribute__((destructor)) static void end(void) {
         fprintf(file, "%ld\n", count);
         fclose(file);
     }
+    syscall(SYS_exit_group, status);
+    __builtin_unreachable();
 }
 
 static int is_refused(void) {
