@@ -20,9 +20,10 @@ time_calls() {
 # Prints the nanoseconds of one of so many things, if all take this many seconds.
 nanoseconds_each() { awk -v seconds="$1" -v number="$2" 'BEGIN { printf "%.0f\n", seconds * 1e9 / number }'; }
 
-# Copies the crates into the folder `room`, as a repository.
+# Copies the crates into the folder `room`, as a repository, with the libraries that are built.
 copy_crates() {
     tar -C "$top" -c --exclude='crates/*/out' --exclude='crates/*/must-fail' crates crates.txt HANDLES | tar -x -C "$room"
+    "$top/.ci/link_libraries" "$room"
 }
 
 # Adds the program NAME of bench/programs to the copy; the other words are the crates that it uses.
