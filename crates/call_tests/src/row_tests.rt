@@ -501,6 +501,11 @@ fn more_faults(rt: &(impl Threads + Wait + Sync), alloc: Global) -> Result<(), F
         ..good
     };
     both.check(rt, alloc, "a read and a write fail", 5, "fa")?;
+    let first = Case {
+        write_fails: Some(0),
+        ..both
+    };
+    first.check(rt, alloc, "the first read and the first write fail", 5, "")?;
     Ok(())
 }
 

@@ -90,6 +90,31 @@ fn held_run(
     }
 }
 
+// The last stage of iteration 0 is held until an instance that never comes: it goes on after its turns.
+fn starved_run(rt: &(impl Threads + Wait + Sync), alloc: Global) -> Result<(), Fail> {
+    let source = source(alloc, [8, 4, 100, 8], PREFIX_SUMS)?;
+    let case = Case {
+        words: &["run", "a.pipe", "a.in", "--workers", "2", "--throttle", "2"],
+        ..Case::of(source.as_bytes())
+    };
+    let never = NodeId {
+        iteration: 5,
+        index: 0,
+    };
+    let gate = HoldGate::new(last_stage(0), never, 1000);
+    let mut call = case.set_up(alloc)?;
+    let status = call.make_at(rt, alloc, &gate)?.status;
+    if status != 0 || gate.met() || call.sink.taken().as_slice() != b"1\n3\n6\n".as_slice() {
+        return Err(Fail::new(format_args!("status {status}, met {}", gate.met())));
+    }
+    Ok(())
+}
+
+#[test]
+fn a_held_instance_goes_on(rt: HostRuntime) -> Result<(), Fail> {
+    starved_run(&rt, rt.alloc())
+}
+
 #[test]
 fn workers_overlap(rt: HostRuntime) -> Result<(), Fail> {
     prefix_sums(&rt, rt.alloc())?;

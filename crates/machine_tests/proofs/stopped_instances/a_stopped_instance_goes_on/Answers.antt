@@ -10,7 +10,7 @@ run_stage-end-requires-clause-before g c =
     let tree = tree_of c.in_ok-checked.checked in (
       behaviour_in tree c.new-input.result parts.Pipe 0,
       c.reset.ensures.stands tree c.in_ok-code.code (length c.in_ok-memory.memory.values.items) c.new-input.result
-          (record { accepted = c.in_ok-checked.ensures; limits = c.in_ok-code.ensures.limits; runs = c.in_ok-code.ensures.runs }) c.in_ok-machine.ensures
+          (record { accepted = c.in_ok-checked.ensures; limits = c.in_ok-code.ensures.limits; runs = c.in_ok-code.ensures.runs }) c.in_ok-machine.ensures.made
           (omega (arith, c.cell_count.ensures.count, c.in_ok-memory.ensures)),
     )
 
@@ -18,7 +18,7 @@ pub go_on-end-requires-clause-before : goal.go_on-end-requires-clause-before
 go_on-end-requires-clause-before g c =
     let tree = tree_of c.in_ok-checked.checked in
     let stands = c.reset.ensures.stands tree c.in_ok-code.code (length c.in_ok-memory.memory.values.items) c.new-input.result
-    (record { accepted = c.in_ok-checked.ensures; limits = c.in_ok-code.ensures.limits; runs = c.in_ok-code.ensures.runs }) c.in_ok-machine.ensures
+    (record { accepted = c.in_ok-checked.ensures; limits = c.in_ok-code.ensures.limits; runs = c.in_ok-code.ensures.runs }) c.in_ok-machine.ensures.made
     (omega (arith, c.cell_count.ensures.count, c.in_ok-memory.ensures)) in
     let ran = c.run_stage-end.ensures.ran (behaviour_in tree c.new-input.result parts.Pipe 0) stands in
     let left = behaviour_after_all (behaviour_in tree c.new-input.result parts.Pipe 0) (map Accessed ran.accesses) in (
