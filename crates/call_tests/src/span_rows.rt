@@ -10,7 +10,7 @@ use std::thread::Threads;
 // The limits and the rest of a source, and the text of its `span` call.
 type Row = ([u32; 4], &'static str, &'static str);
 
-const ROWS: [Row; 7] = [
+const ROWS: [Row; 10] = [
     // One column.
     ([1, 1, 2, 0], "pipe_while (0) { }", "work 2\nspan 2\n0/0\n"),
     // No column.
@@ -36,6 +36,24 @@ const ROWS: [Row; 7] = [
         [3, 2, 99, 9],
         "pipe_while (iter() < 3) { pipe_wait(1); if (iter() == 1) { emit 1 / 0; } }",
         "work 37\nspan 23\n0/0\n1/0\n1/1\n2/1\n",
+    ),
+    // An instance that ends with the trap `Budget` has the whole budget.
+    (
+        [1, 1, 1, 0],
+        "pipe_while (0) { }",
+        "work 1\nspan 1\n0/0\n",
+    ),
+    // A stage statement that traps has its steps, and there is no further instance; `final` does not count.
+    (
+        [1, 2, 99, 9],
+        "pipe_while (iter() < 1) { pipe_wait(1); pipe_wait(1); } final { emit 1 / 0; }",
+        "work 12\nspan 10\n0/0\n1/0\n",
+    ),
+    // The trap `IterLimit` comes after the steps of the loop's test.
+    (
+        [1, 2, 99, 9],
+        "pipe_while (1) { pipe_wait(1); }",
+        "work 6\nspan 6\n0/0\n1/0\n",
     ),
     // Paths of twelve steps lead to 1/1 from 1/0 and from 0/1: the first is taken.
     (
