@@ -38,11 +38,7 @@ const ROWS: [Row; 10] = [
         "work 37\nspan 23\n0/0\n1/0\n1/1\n2/1\n",
     ),
     // An instance that ends with the trap `Budget` has the whole budget.
-    (
-        [1, 1, 1, 0],
-        "pipe_while (0) { }",
-        "work 1\nspan 1\n0/0\n",
-    ),
+    ([1, 1, 1, 0], "pipe_while (0) { }", "work 1\nspan 1\n0/0\n"),
     // A stage statement that traps has its steps, and there is no further instance; `final` does not count.
     (
         [1, 2, 99, 9],
