@@ -8,3 +8,4 @@ pub mod CallResults
 pub mod ResultTokens
 pub mod HallViews
 pub mod SeatedTokens
+pub mod TokenCounts

@@ -11,6 +11,7 @@ ghost use Rattle.pipe_frame.specs.ResultTokens.{IfGo, IfStarted, IfToken};
 ghost use Rattle.pipe_frame.specs.StageEndCases.{NamesNextStage};
 ghost use Rattle.pipe_frame.specs.RunningTokens.{IsTokenOf};
 ghost use Rattle.pipe_frame.specs.SeatedTokens.{IsGivenToken, IsSeated, seated_entries, seated_replies};
+ghost use Rattle.pipe_frame.specs.TokenCounts.{Exchanges, tokens_begun, tokens_entered, tokens_next, tokens_rescued};
 ghost use Rattle.pipe_frame.specs.TokenFields.{fields_of};
 ghost use Rattle.std.specs.Prelude.{ℕ, ℤ, List};
 ghost use Rattle.pipe_model.specs.Language.SyntaxTree.{SyntaxTree};
@@ -33,6 +34,7 @@ pub trait Hall<M: Stands + Drop> {
     ghost use Rattle.std.specs.Prelude.{List};
     ghost use Rattle.pipe_model.specs.declared.event.Event.{Event};
     ghost use Rattle.pipe_frame.specs.Ties.{HallName};
+    ghost use Rattle.pipe_frame.specs.TokenCounts.{TokenCounts};
 
     /// Its program, input and throttling limit, and which hall it is. No call changes them.
     ghost named: { Self → HallName };
@@ -40,10 +42,14 @@ pub trait Hall<M: Stands + Drop> {
     /// The events of the book, as far as this value has seen them.
     ghost seen: { Self → List Event };
 
+    /// How many tokens its calls have given, and how many they have taken back.
+    ghost tokens: { Self → TokenCounts };
+
     /// Begins the next iteration if it may begin.
     fn begin<R: Wait>(&mut self, rt: &R) -> Begun<M>
         ensures named { named self.new ≡ named self.old }
         ensures sees { Sees (seen self.old) (seen self.new) (begin_events result) (λ s. BeginReturns (named self.old).limit s result) }
+        ensures tokens { Exchanges (tokens_begun result) 0 (tokens self.old) (tokens self.new) }
         ensures seen_runs { ControlRun (named self.new).limit (seen self.new) (state_after (seen self.new)) }
         ensures token { IfStarted result (IsGivenToken M.stands M.tie (named self.old)) }
         ensures runs { IfStarted result (λ t. IsTokenOf (seen self.new) (fields_of t)) };
@@ -65,6 +71,7 @@ pub trait Hall<M: Stands + Drop> {
         requires stopped { end ≡ StageEnd.Stopped → (state_after (seen self.old)).stopped ≡ true }
         ensures named { named self.new ≡ named self.old }
         ensures sees { Sees (seen self.old) (seen self.new) (advance_events token.iteration end result) (λ s. AdvanceReturns s token.iteration token.index end result) }
+        ensures tokens { Exchanges (tokens_next result) 1 (tokens self.old) (tokens self.new) }
         ensures seen_runs { ControlRun (named self.new).limit (seen self.new) (state_after (seen self.new)) }
         ensures token { IfGo result (IsGivenToken M.stands M.tie (named self.old)) }
         ensures runs { IfGo result (λ t. IsTokenOf (seen self.new) (fields_of t)) };
@@ -73,6 +80,7 @@ pub trait Hall<M: Stands + Drop> {
     fn check_right<R: Wait>(&mut self, rt: &R, iteration: u32) -> Option<FrameToken<M>>
         ensures named { named self.new ≡ named self.old }
         ensures sees { Sees (seen self.old) (seen self.new) (enter_events result) (λ s. EnterReturns s (iteration + 1) result) }
+        ensures tokens { Exchanges (tokens_entered result) 0 (tokens self.old) (tokens self.new) }
         ensures seen_runs { ControlRun (named self.new).limit (seen self.new) (state_after (seen self.new)) }
         ensures token { IfSome result (IsGivenToken M.stands M.tie (named self.old)) }
         ensures runs { IfSome result (λ t. IsTokenOf (seen self.new) (fields_of t)) };
@@ -81,6 +89,7 @@ pub trait Hall<M: Stands + Drop> {
     fn rescue<R: Wait>(&mut self, rt: &R) -> Rescue<M>
         ensures named { named self.new ≡ named self.old }
         ensures sees { RescueSees (named self.old).limit (seen self.old) (seen self.new) result }
+        ensures tokens { Exchanges (tokens_rescued result) 0 (tokens self.old) (tokens self.new) }
         ensures seen_runs { ControlRun (named self.new).limit (seen self.new) (state_after (seen self.new)) }
         ensures token { IfToken result (IsGivenToken M.stands M.tie (named self.old)) }
         ensures runs { IfToken result (λ t. IsTokenOf (seen self.new) (fields_of t)) };
@@ -92,6 +101,7 @@ pub trait Hall<M: Stands + Drop> {
         requires stands { M.stands (named self.old).tree (named self.old).input token.payload token.iteration (seated_replies (M.tie token.payload)) }
         ensures named { named self.new ≡ named self.old }
         ensures sees { Sees (seen self.old) (seen self.new) [] (λ s. Unit {0}) }
+        ensures tokens { Exchanges 0 1 (tokens self.old) (tokens self.new) }
         ensures seen_runs { ControlRun (named self.new).limit (seen self.new) (state_after (seen self.new)) };
 
     /// Reads a cell, or writes a value to it, for the instance of the token, and appends the access
@@ -119,6 +129,7 @@ pub trait Hall<M: Stands + Drop> {
         ensures trace { trace.new ≡ seated_entries (M.tie token.new.payload) }
         ensures stopped { result ≡ Reply.Stopped → (state_after (seen self.new)).stopped ≡ true }
         ensures seen { BeginsWith (seen self.new) (seen self.old) }
+        ensures tokens { Exchanges 0 0 (tokens self.old) (tokens self.new) }
         ensures seen_runs { ControlRun (named self.new).limit (seen self.new) (state_after (seen self.new)) }
         ensures unseen { (result ≡ Reply.Stopped → ⊥) → seen self.new ≡ seen self.old };
 }

@@ -16,3 +16,4 @@ pub mod Freeing
 pub mod ReplayedAccesses
 pub mod FirstTables
 pub mod Crossing
+pub mod TokenMoves

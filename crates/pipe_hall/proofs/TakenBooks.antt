@@ -11,6 +11,7 @@ use Rattle.pipe_frame.specs.CallResults.{AdvanceReturns, advance_events, begin_e
 use Rattle.pipe_frame.specs.HallViews.{BeginsWith, Sees}
 use Rattle.pipe_frame.specs.ResultTokens.{IfGo, IfStarted, IfToken}
 use Rattle.pipe_frame.specs.Ties.{Tie}
+use Rattle.pipe_frame.specs.TokenCounts.{TokenCounts}
 use Rattle.pipe_frame.specs.TokenFields.{TokenFields}
 use Rattle.pipe_frame.specs.declared.results.Begun.{Begun}
 use Rattle.pipe_frame.specs.declared.results.Begun.TheVariants as begun
@@ -25,7 +26,7 @@ use Rattle.pipe_hall.specs.BookCalls.{IsBookCall}
 use Rattle.pipe_hall.specs.HallRule.{view_of}
 use Rattle.pipe_hall.specs.SeatViews.{HallConstants, InstanceData, TheBook, constants_of}
 use Rattle.pipe_hall.specs.Steps.{BookSnapshot, ViewAndSlots, after_book, holding}
-use Rattle.pipe_hall.specs.WorkerSeats.{HasTaken, IsDataOf, IsIdle, StaysIdle, name_of}
+use Rattle.pipe_hall.specs.WorkerSeats.{HasTaken, IsDataOf, IsIdle, StaysIdle, counts_with, name_of}
 use Rattle.pipe_hall.specs.declared.slot.Slot.TheVariants as slots
 use Rattle.pipe_hall.proofs.BookCalls.{events_stamped, unchanged_call}
 use Rattle.pipe_hall.proofs.EndingCalls.{ends_not_stopped, finishes, holds_back, waits_not_stopped}
@@ -35,6 +36,7 @@ use Rattle.pipe_hall.proofs.EndingCalls.{ends_not_stopped, finishes, holds_back,
 -- by a seat that was idle, and may have taken in that of an instance since
 module _ (M : Type 0) (m k n : ViewAndSlots M) (b : BookState) (back : Option InstanceData) (idle : IsIdle m)
     (constants : k.0.it.constants ≡ m.0.it.constants) (seen : k.0.it.seen ≡ m.0.it.seen) (held : k.0.it.held ≡ m.0.it.held) (empty : k.1 ≡ m.1) (run : k.0.it.run ≡ back)
+    (counts : k.0.it.tokens ≡ counts_with back m.0.it.tokens)
     (taken : n ≡ (view_of (holding k.0.it 0 (TheBook b)), (0, slots.Out) ∷ k.1)) (shot : BookSnapshot k.0.it 0 b) where
   knew : m.0.it.constants ≡ Some (constants_of b)
   knew = idle.knows ∙ ap (λ x. Some x) (shot.constants idle.constants (constants ∙ idle.knows))
@@ -49,6 +51,7 @@ module _ (M : Type 0) (m k n : ViewAndSlots M) (b : BookState) (back : Option In
     knew = knew;
     knows = ap (λ (x : ViewAndSlots M). x.0.it.constants) taken;
     seen = subst (BeginsWith (events_of b.log)) seen shot.seen;
+    counts = ap (λ (x : ViewAndSlots M). x.0.it.tokens) taken ∙ counts;
     control = shot.control;
     tokens = shot.tokens;
     traces = shot.traces;
@@ -66,7 +69,7 @@ module _ (M : Type 0) (m n : ViewAndSlots M) (b x : BookState) where
 -- ---- the book is given back
 
 module _ (M : Type 0) (m n : ViewAndSlots M) (b : BookState) (back : Option InstanceData) (h : HasTaken m n b back) (z : ViewAndSlots M) (c : BookState)
-    (given : z ≡ (view_of (after_book n.0.it c None), [])) where
+    (counts : TokenCounts) (given : z ≡ (view_of (record (after_book n.0.it c None) { tokens = counts }), [])) where
   pub seen_after : z.0.it.seen ≡ events_of c.log
   seen_after = ap (λ (x : ViewAndSlots M). x.0.it.seen) given
 

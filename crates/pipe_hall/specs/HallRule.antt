@@ -6,6 +6,7 @@ use lib.ListN.{get_elem?}
 use Rattle.atomic_table.specs.Table.{State}
 use Rattle.pipe_model.specs.Races.DeterminacyRaces.{Among}
 use Rattle.pipe_frame.specs.HallViews.{BeginsWith}
+use Rattle.pipe_frame.specs.TokenCounts.{no_tokens}
 use Rattle.frame_book.specs.BookStates.{BookState, events_of}
 use Rattle.pipe_hall.specs.SeatViews.{HallConstants, HallStart, InstanceData, SeatView, ShardValue, SlotValue, TheBook, TheShard, constants_of}
 use Rattle.pipe_hall.specs.BookParts.{HasSeats}
@@ -31,7 +32,7 @@ view_of v = record { it = v }
 
 -- the view of the first seat
 abbrev pub first_view : HallStart → View
-first_view start = view_of (record { constants = Some start.constants; seen = []; met = []; run = None; held = [] })
+first_view start = view_of (record { constants = Some start.constants; seen = []; met = []; run = None; held = []; tokens = no_tokens })
 
 -- a value in its slot
 abbrev pub slot_of : {M : Type 0} → SlotValue → Slot M

@@ -8,6 +8,7 @@ use Rattle.pipe_model.specs.declared.ticket.ShardEntry.{ShardEntry}
 use Rattle.access_history.specs.declared.history.History.{History}
 use Rattle.cell_store.specs.ShardState.{ShardState}
 use Rattle.pipe_frame.specs.Ties.{ListIdentities, SeenLists}
+use Rattle.pipe_frame.specs.TokenCounts.{TokenCounts, no_tokens}
 use Rattle.pipe_frame.specs.TokenFields.{TokenFields}
 use Rattle.frame_book.specs.BookStates.{BookState}
 
@@ -50,14 +51,16 @@ pub data SlotValue : Type 0 where
   TheShard : ShardValue → SlotValue
 
 -- what a seat knows: the constants of its hall, the events of the book that it has seen, those that a seat which it has taken in had
--- seen, the running instance whose seat it is, and what it has taken out of slots, as it was when it was taken
+-- seen, the running instance whose seat it is, what it has taken out of slots, as it was when it was taken, and how many tokens it has given
+-- out and taken back
 pub record SeatView : Type 0 where
   pub constants : Option HallConstants
   pub seen : List Event
   pub met : List Event
   pub run : Option InstanceData
   pub held : List (ℕ × SlotValue)
+  pub tokens : TokenCounts
 
 -- a seat that knows nothing
 abbrev pub nothing_known : SeatView
-nothing_known = record { constants = None; seen = []; met = []; run = None; held = [] }
+nothing_known = record { constants = None; seen = []; met = []; run = None; held = []; tokens = no_tokens }

@@ -1,5 +1,5 @@
 -- What each step on the table of a hall does to the seat that makes it: of the step, the seat before, the number found and the seat after.
-use Rattle.std.specs.Prelude.{◌≡◌, ◌≢◌, ℕ, suc, List, [], ◌∷◌, ◌++◌, ◌<◌, length, drop, Option, Some, None}
+use Rattle.std.specs.Prelude.{◌≡◌, ◌≢◌, ℕ, suc, List, [], ◌∷◌, ◌++◌, ◌+◌, ◌<◌, length, drop, Option, Some, None}
 use mathlib.Core.Option.{some}
 use Rattle.atomic_table.specs.Table.{Me, Step}
 use Rattle.pipe_model.specs.declared.access.Access.{Access}
@@ -9,6 +9,7 @@ use Rattle.pipe_model.specs.Races.DeterminacyRaces.{Among}
 use Rattle.pipe_model.specs.Runs.ControlRun.{ControlRun}
 use Rattle.pipe_model.specs.Runs.RunLogs.{state_after}
 use Rattle.pipe_frame.specs.HallViews.{BeginsWith}
+use Rattle.pipe_frame.specs.TokenCounts.{TokenCounts, no_tokens}
 use Rattle.pipe_frame.specs.TokenFields.{TokenFields, fields_of}
 use Rattle.pipe_frame.specs.declared.token.FrameToken.{FrameToken}
 use Rattle.frame_book.specs.BookStates.{BookState, events_of, replies_at, state_of}
@@ -105,27 +106,37 @@ returns_shard {M} st m r n = (i : ℕ) (x y : ShardValue) → m.0.it.held ≡ (i
 
 -- ---- splits and joins
 
--- the new seat stands for the instance
+-- one token more was given, or taken back
+abbrev pub one_given : TokenCounts → TokenCounts
+one_given c = record c { given = c.given + 1 }
+
+abbrev pub one_returned : TokenCounts → TokenCounts
+one_returned c = record c { returned = c.returned + 1 }
+
+-- the new seat stands for the instance, whose token is given out with it
 abbrev pub without_run : SeatView → SeatView
-without_run v = record v { run = None }
+without_run v = record v { run = None; tokens = one_given v.tokens }
 
 abbrev pub run_seat : SeatView → SeatView
-run_seat v = record v { seen = []; met = []; held = [] }
+run_seat v = record v { seen = []; met = []; held = []; tokens = no_tokens }
 
 -- a seat of a further worker
 abbrev pub worker_seat : SeatView → SeatView
-worker_seat v = record v { run = None; held = [] }
+worker_seat v = record v { run = None; held = []; tokens = no_tokens }
 
--- the seat takes in that of an instance
+-- the seat takes in that of an instance, whose token has come back
 abbrev pub with_run : SeatView → SeatView → SeatView
-with_run v w = record v { run = w.run }
+with_run v w = record v { run = w.run; tokens = one_returned v.tokens }
 
 abbrev pub longer : List Event → List Event → List Event
 longer xs ys = xs ++ drop (length xs) ys
 
+abbrev pub both_counts : TokenCounts → TokenCounts → TokenCounts
+both_counts c d = record { given = c.given + d.given; returned = c.returned + d.returned }
+
 -- of two workers, the second one's seat is taken in
 abbrev pub joined : SeatView → SeatView → SeatView
-joined v w = record v { met = w.seen }
+joined v w = record v { met = w.seen; tokens = both_counts v.tokens w.tokens }
 
 -- the seat has then seen what the other had
 abbrev pub with_longer : SeatView → SeatView

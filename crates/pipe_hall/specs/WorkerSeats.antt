@@ -10,11 +10,12 @@ use Rattle.pipe_model.specs.Runs.RunLogs.{state_after}
 use Rattle.pipe_frame.specs.HallViews.{BeginsWith}
 use Rattle.pipe_frame.specs.SeatedTokens.{seated_entries, seated_replies}
 use Rattle.pipe_frame.specs.Ties.{HallName, Tie}
+use Rattle.pipe_frame.specs.TokenCounts.{TokenCounts}
 use Rattle.pipe_frame.specs.TokenFields.{TokenFields}
 use Rattle.frame_book.specs.BookStates.{BookState, events_of, replies_at, state_of}
 use Rattle.frame_book.specs.GivenTokens.{IsOutOf}
 use Rattle.pipe_hall.specs.SeatViews.{HallConstants, InstanceData, TheBook, constants_of}
-use Rattle.pipe_hall.specs.Steps.{ViewAndSlots}
+use Rattle.pipe_hall.specs.Steps.{ViewAndSlots, one_returned}
 use Rattle.pipe_hall.specs.declared.view.View.{View}
 use Rattle.pipe_hall.specs.declared.slot.Slot.TheVariants as slots
 
@@ -58,10 +59,11 @@ pub record HallState : Type 0 where
   pub hall : HallId
   pub before : List Access
 
--- a worker's seat between two calls: its hall, and the events of the book that it has seen
+-- a worker's seat between two calls: its hall, the events of the book that it has seen, and how many tokens it has given out and taken back
 pub record WorkerSeat : Type 0 where
   pub hall : HallId
   pub seen : List Event
+  pub tokens : TokenCounts
 
 -- the seat holds nothing, knows the constants of the hall, and what it has seen is the beginning of a run
 pub record IsIdle {S : Type 0} (m : Me S View) : Type 0 where
@@ -83,12 +85,18 @@ pub record HoldsBook {M : Type 0} (m : ViewAndSlots M) (b : BookState) (back : O
   pub held : m.0.it.held ≡ (0, TheBook b) ∷ []
   pub run : m.0.it.run ≡ back
 
+-- one token has come back with the seat of this instance
+abbrev pub counts_with : Option InstanceData → TokenCounts → TokenCounts
+counts_with None c = c
+counts_with (Some d) c = one_returned c
+
 -- an idle seat has taken the book; `back` is the instance whose seat it has taken in before that, if there is one
 pub record HasTaken {M : Type 0} (m n : ViewAndSlots M) (b : BookState) (back : Option InstanceData) : Type 0 where
   pub holds : HoldsBook n b back
   pub knew : m.0.it.constants ≡ Some (constants_of b)
   pub knows : n.0.it.constants ≡ Some (constants_of b)
   pub seen : BeginsWith (events_of b.log) m.0.it.seen
+  pub counts : n.0.it.tokens ≡ counts_with back m.0.it.tokens
   pub control : ControlRun b.limit (events_of b.log) (state_of b)
   pub tokens : length b.tokens ≡ length (state_of b).frames
   pub traces : length b.traces ≡ length (state_of b).frames

@@ -3,6 +3,7 @@
 ghost use Rattle.std.specs.Prelude.{◌≡◌, ◌<◌, ◌≤◌, ◌+◌, ◌++◌, [], ℕ, List, Some, IfOk, length, replicate, vec_capacity};
 ghost use Rattle.frame_book.specs.NewBooks.{new_book};
 ghost use Rattle.pipe_model.specs.Language.SyntaxTree.{tree_of};
+ghost use Rattle.pipe_frame.specs.TokenCounts.{no_tokens};
 ghost use Rattle.pipe_hall.specs.Closing.{shard_in};
 ghost use Rattle.pipe_hall.specs.HallRule.{place, stride};
 ghost use Rattle.pipe_hall.specs.NewShards.{IsNewShard, shard_slots, spaced};
@@ -48,8 +49,8 @@ impl<M: Carrier> Model for HallOf<M> {
     ghost view = { λ h. hall_state h.locks.table.shared.table_id h.locks.table.shared.key };
 }
 
-/// A worker's seat without its hall. Contracts see which hall it is of, and the events of the book
-/// that it has seen.
+/// A worker's seat without its hall. Contracts see which hall it is of, the events of the book that it
+/// has seen, and how many tokens its calls have given and taken back.
 #[derive(Drop)]
 pub struct HallKey<M: Carrier> {
     pub(crate) seat: Seat<Slot<M>, View>,
@@ -65,7 +66,7 @@ impl<M: Carrier> Model for HallKey<M> {
 
     ghost coded = { Prim.hlevel (codes, expr.the_row.coded, stmt.the_row.coded) };
 
-    ghost view = { λ k. record { hall = record { table = k.seat.table_id; constants = k.seat.me.0.it.constants }; seen = k.seat.me.0.it.seen } };
+    ghost view = { λ k. record { hall = record { table = k.seat.table_id; constants = k.seat.me.0.it.constants }; seen = k.seat.me.0.it.seen; tokens = k.seat.me.0.it.tokens } };
 
     ghost invariant = { λ k. IsIdle k.seat.me };
 }
@@ -131,6 +132,7 @@ pub fn hall_after<M: Carrier>(
     ensures before { IfOk result (λ opened. opened.0.before ≡ before.now) }
     ensures key { IfOk result (λ opened. opened.1.hall ≡ opened.0.hall) }
     ensures seen { IfOk result (λ opened. opened.1.seen ≡ []) }
+    ensures tokens { IfOk result (λ opened. opened.1.tokens ≡ no_tokens) }
 {
     let opening = Opening {
         book: Snapshot::of(&book),
@@ -169,6 +171,7 @@ pub fn hall<M: Carrier>(
     ensures before { IfOk result (λ opened. opened.0.before ≡ []) }
     ensures key { IfOk result (λ opened. opened.1.hall ≡ opened.0.hall) }
     ensures seen { IfOk result (λ opened. opened.1.seen ≡ []) }
+    ensures tokens { IfOk result (λ opened. opened.1.tokens ≡ no_tokens) }
 {
     hall_after(alloc, book, checked, &Accesses::new(alloc), passes)
 }

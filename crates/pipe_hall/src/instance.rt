@@ -3,6 +3,7 @@
 ghost use Rattle.std.specs.Prelude.{◌≡◌, ◌<◌, [], length, Option, Some, None, true, IfSome};
 ghost use Rattle.pipe_model.specs.Language.Programs.{store_of};
 ghost use Rattle.pipe_frame.specs.Ties.{AreElementsOf, AreSeenLists};
+ghost use Rattle.pipe_frame.specs.TokenCounts.{Exchanges};
 ghost use Rattle.pipe_frame.specs.TokenFields.{TokenFields, fields_of};
 ghost use Rattle.pipe_model.specs.Races.Columns.{at};
 ghost use Rattle.std.specs.Prelude.{List, ℕ, ℤ};
@@ -172,6 +173,7 @@ pub(crate) fn access_at<R: Wait, M: Carrier>(
     ensures trace { trace.new ≡ seated_entries (M.tie token.new.payload) }
     ensures stopped { result ≡ Reply.Stopped → (state_after seat.new.me.0.it.seen).stopped ≡ true }
     ensures seen { BeginsWith seat.new.me.0.it.seen seat.old.me.0.it.seen }
+    ensures tokens { Exchanges 0 0 seat.old.me.0.it.tokens seat.new.me.0.it.tokens }
     ensures unseen { (result ≡ Reply.Stopped → ⊥) → seat.new.me.0.it.seen ≡ seat.old.me.0.it.seen }
 {
     match access_of(rt, hall, token, trace, cell, write) {

@@ -8,7 +8,7 @@ ghost use Rattle.pipe_hall.specs.SeatViews.{HallConstants, InstanceData, ShardVa
 ghost use Rattle.pipe_hall.specs.HallRule.{place, slot_of, view_of, width};
 ghost use Rattle.pipe_hall.specs.WorkerSeats.{HoldsBook};
 ghost use Rattle.pipe_hall.specs.InstanceSeats.{badge_view};
-ghost use Rattle.pipe_hall.specs.Steps.{BookSnapshot, ShardSnapshot, IsSnapshot, after_book, after_shard, holding, new_instance, run_seat, with_run};
+ghost use Rattle.pipe_hall.specs.Steps.{BookSnapshot, ShardSnapshot, IsSnapshot, after_book, after_shard, holding, new_instance, run_seat, with_run, without_run};
 ghost use Rattle.pipe_hall.specs.BookCalls.{IsBookCall};
 ghost use Rattle.pipe_hall.specs.Accesses.{MadeBy};
 ghost use Rattle.pipe_hall.specs.declared.view.View.{View};
@@ -166,7 +166,7 @@ impl<M: Carrier> Locks<M> {
         requires call { (b : BookState) × (back : Option InstanceData) × HoldsBook seat.old.me b back × IsBookCall b back book (Some (new_instance book (fields_of token))) }
         requires constants { (a : HallConstants) × (seat.old.me.0.it.constants ≡ Some a) }
         ensures own { (seat.new.table_id ≡ seat.old.table_id) × (seat.new.id ≡ seat.old.id) }
-        ensures given { seat.new.me ≡ (view_of (after_book seat.old.me.0.it book None), []) }
+        ensures given { seat.new.me ≡ (view_of (without_run (after_book seat.old.me.0.it book None)), []) }
         ensures token { (r : RunSeat) × (result ≡ record token { payload = M.with_seat token.payload (Some r) }) × (r.badge.table_id ≡ seat.old.table_id) × (r.badge.views ≡ view_of (run_seat (after_book seat.old.me.0.it book (Some (new_instance book (fields_of token))))) ∷ []) }
     {
         let shared = &self.table.shared;

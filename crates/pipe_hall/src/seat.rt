@@ -2,6 +2,8 @@
 
 ghost use Rattle.std.specs.Prelude.{◌≡◌};
 ghost use Rattle.pipe_frame.specs.HallViews.{BeginsWith};
+ghost use Rattle.pipe_frame.specs.TokenCounts.{no_tokens};
+ghost use Rattle.pipe_hall.specs.Steps.{both_counts};
 ghost use Rattle.pipe_hall.specs.WorkerSeats.{IsSameHall};
 
 use crate::carrier::Carrier;
@@ -21,8 +23,8 @@ use pipe_model::ticket::Trace;
 use std::marker::Model;
 use std::sync::Wait;
 
-/// A worker's seat beside its hall. Contracts see which hall it is, and the events of the book that
-/// it has seen. `access` waits for the lock of one shard, and asks the order lists without a lock; the
+/// A worker's seat beside its hall. Contracts see which hall it is, the events of the book that it has
+/// seen, and how many tokens its calls have given and taken back. `access` waits for the lock of one shard, and asks the order lists without a lock; the
 /// other calls of `Hall` wait for the lock of the book, once each. An access whose ticket would be above
 /// 2^62 is not made, and stops the run as one that runs out of memory does.
 #[derive(Drop)]
@@ -42,7 +44,7 @@ impl<'a, M: Carrier> Model for HallSeat<'a, M> {
 
     ghost coded = { Prim.hlevel (codes, expr.the_row.coded, stmt.the_row.coded) };
 
-    ghost view = { λ s. record { hall = record { table = s.seat.table_id; constants = s.seat.me.0.it.constants }; seen = s.seat.me.0.it.seen } };
+    ghost view = { λ s. record { hall = record { table = s.seat.table_id; constants = s.seat.me.0.it.constants }; seen = s.seat.me.0.it.seen; tokens = s.seat.me.0.it.tokens } };
 
     ghost invariant = { λ s. IsIdle s.seat.me × (s.seat.table_id ≡ s.hall.now.hall.table) };
 }
@@ -59,12 +61,15 @@ impl<'a, M: Carrier> Hall<M> for HallSeat<'a, M> {
     ghost use Rattle.pipe_frame.specs.RunningTokens.{IsTokenOf};
     ghost use Rattle.pipe_frame.specs.SeatedTokens.{IsGivenToken, IsSeated, seated_entries, seated_replies};
     ghost use Rattle.pipe_frame.specs.StageEndCases.{NamesNextStage};
+    ghost use Rattle.pipe_frame.specs.TokenCounts.{Exchanges, tokens_next};
     ghost use Rattle.pipe_frame.specs.TokenFields.{fields_of};
     ghost use Rattle.pipe_hall.specs.WorkerSeats.{hall_name};
 
     ghost named = { λ s. hall_name s.hall };
 
     ghost seen = { λ s. s.seen };
+
+    ghost tokens = { λ s. s.tokens };
 
     fn begin<R: Wait>(&mut self, rt: &R) -> Begun<M> {
         let hall = self.hall;
@@ -86,6 +91,7 @@ impl<'a, M: Carrier> Hall<M> for HallSeat<'a, M> {
         requires stopped { end ≡ StageEnd.Stopped → (state_after self.old.seen).stopped ≡ true }
         ensures named { hall_name self.new.hall ≡ hall_name self.old.hall }
         ensures sees { Sees self.old.seen self.new.seen (advance_events token.iteration end result) (λ s. AdvanceReturns s token.iteration token.index end result) }
+        ensures tokens { Exchanges (tokens_next result) 1 self.old.tokens self.new.tokens }
         ensures seen_runs { ControlRun (hall_name self.new.hall).limit self.new.seen (state_after self.new.seen) }
         ensures token { IfGo result (IsGivenToken M.stands M.tie (hall_name self.old.hall)) }
         ensures runs { IfGo result (λ t. IsTokenOf self.new.seen (fields_of t)) }
@@ -110,6 +116,7 @@ impl<'a, M: Carrier> Hall<M> for HallSeat<'a, M> {
         requires stands { M.stands (hall_name self.old.hall).tree (hall_name self.old.hall).input token.payload token.iteration (seated_replies (M.tie token.payload)) }
         ensures named { hall_name self.new.hall ≡ hall_name self.old.hall }
         ensures sees { Sees self.old.seen self.new.seen [] (λ s. Unit {0}) }
+        ensures tokens { Exchanges 0 1 self.old.tokens self.new.tokens }
         ensures seen_runs { ControlRun (hall_name self.new.hall).limit self.new.seen (state_after self.new.seen) }
     {
         let hall = self.hall;
@@ -147,10 +154,10 @@ impl<'a, M: Carrier> HallSeat<'a, M> {
         HallKey { seat }
     }
 
-    /// Returns a seat for a further worker, which has seen the same.
+    /// Returns a seat for a further worker, which has seen the same. It has given no token.
     pub fn split(&mut self) -> HallSeat<'a, M>
         ensures same { self.new ≡ self.old }
-        ensures new { result ≡ self.old }
+        ensures new { result ≡ record self.old { tokens = no_tokens } }
     {
         let hall = self.hall;
         let shared = &hall.locks.table.shared;
@@ -159,12 +166,13 @@ impl<'a, M: Carrier> HallSeat<'a, M> {
     }
 
     /// Takes in the seat of a worker of the same hall that has nothing to do any more. It has then
-    /// seen what either had seen.
+    /// seen what either had seen, and its tokens are those of both.
     pub fn join(&mut self, other: HallKey<M>)
         requires same { IsSameHall other.hall self.old.hall }
         ensures hall { self.new.hall ≡ self.old.hall }
         ensures own { BeginsWith self.new.seen self.old.seen }
         ensures theirs { BeginsWith self.new.seen other.seen }
+        ensures tokens { self.new.tokens ≡ both_counts self.old.tokens other.tokens }
     {
         let HallKey { seat } = other;
         let hall = self.hall;

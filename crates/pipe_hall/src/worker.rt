@@ -10,6 +10,7 @@ ghost use Rattle.pipe_frame.specs.Replies.{IsPerformed, replies_of};
 ghost use Rattle.pipe_frame.specs.StageEndCases.{NamesNextStage};
 ghost use Rattle.pipe_frame.specs.RunningTokens.{IsTokenOf};
 ghost use Rattle.pipe_frame.specs.SeatedTokens.{IsGivenToken, IsSeated, seated_entries, seated_replies};
+ghost use Rattle.pipe_frame.specs.TokenCounts.{Exchanges, tokens_begun, tokens_entered, tokens_next, tokens_rescued};
 ghost use Rattle.pipe_frame.specs.TokenFields.{fields_of};
 ghost use Rattle.pipe_frame.specs.ResultTokens.{IfGo, IfStarted, IfToken};
 ghost use Rattle.frame_book.specs.BookStates.{BookState, events_of};
@@ -17,7 +18,7 @@ ghost use Rattle.frame_book.specs.GivenTokens.{IsGivenBy};
 ghost use Rattle.pipe_hall.specs.BookCalls.{IsBookCall};
 ghost use Rattle.pipe_hall.specs.HallRule.{view_of};
 ghost use Rattle.pipe_hall.specs.SeatViews.{InstanceData, constants_of};
-ghost use Rattle.pipe_hall.specs.Steps.{ViewAndSlots, after_book, new_instance};
+ghost use Rattle.pipe_hall.specs.Steps.{ViewAndSlots, after_book, new_instance, without_run};
 ghost use Rattle.pipe_hall.specs.WorkerSeats.{HasTaken, HoldsBook, IsDataOf, IsIdle, StaysIdle, hall_of, name_of};
 ghost use Rattle.pipe_hall.specs.declared.run_seat.RunSeat.{RunSeat};
 ghost use Rattle.pipe_hall.specs.declared.slot.Slot.{Slot as SlotOf};
@@ -94,7 +95,7 @@ fn return_token<M: Carrier>(
     requires constants { seat.old.me.0.it.constants ≡ Some (constants_of book) }
     requires token { IsGivenBy M.stands M.tie book token }
     ensures own { seat.new.table_id ≡ seat.old.table_id }
-    ensures given { seat.new.me ≡ (view_of (after_book seat.old.me.0.it book None), []) }
+    ensures given { seat.new.me ≡ (view_of (without_run (after_book seat.old.me.0.it book None)), []) }
     ensures same { (r : RunSeat) × (result ≡ record token { payload = M.with_seat token.payload (Some r) }) }
     ensures token { IsGivenToken M.stands M.tie (hall_of seat.old.table_id seat.old.me) result }
     ensures runs { IsTokenOf (events_of book.log) (fields_of result) }
@@ -113,6 +114,7 @@ pub(crate) fn begin_at<R: Wait, M: Carrier>(
     ensures own { seat.new.table_id ≡ seat.old.table_id }
     ensures idle { StaysIdle seat.old.me seat.new.me }
     ensures sees { Sees seat.old.me.0.it.seen seat.new.me.0.it.seen (begin_events result) (λ s. BeginReturns (hall_of seat.old.table_id seat.old.me).limit s result) }
+    ensures tokens { Exchanges (tokens_begun result) 0 seat.old.me.0.it.tokens seat.new.me.0.it.tokens }
     ensures runs { IfStarted result (λ t. IsTokenOf seat.new.me.0.it.seen (fields_of t)) }
     ensures token { IfStarted result (IsGivenToken M.stands M.tie (hall_of seat.old.table_id seat.old.me)) }
 {
@@ -141,6 +143,7 @@ pub(crate) fn check_right_at<R: Wait, M: Carrier>(
     ensures own { seat.new.table_id ≡ seat.old.table_id }
     ensures idle { StaysIdle seat.old.me seat.new.me }
     ensures sees { Sees seat.old.me.0.it.seen seat.new.me.0.it.seen (enter_events result) (λ s. EnterReturns s (iteration + 1) result) }
+    ensures tokens { Exchanges (tokens_entered result) 0 seat.old.me.0.it.tokens seat.new.me.0.it.tokens }
     ensures runs { IfSome result (λ t. IsTokenOf seat.new.me.0.it.seen (fields_of t)) }
     ensures token { IfSome result (IsGivenToken M.stands M.tie (hall_of seat.old.table_id seat.old.me)) }
 {
@@ -168,6 +171,7 @@ pub(crate) fn rescue_at<R: Wait, M: Carrier>(
     ensures own { seat.new.table_id ≡ seat.old.table_id }
     ensures idle { StaysIdle seat.old.me seat.new.me }
     ensures sees { RescueSees (hall_of seat.old.table_id seat.old.me).limit seat.old.me.0.it.seen seat.new.me.0.it.seen result }
+    ensures tokens { Exchanges (tokens_rescued result) 0 seat.old.me.0.it.tokens seat.new.me.0.it.tokens }
     ensures runs { IfToken result (λ t. IsTokenOf seat.new.me.0.it.seen (fields_of t)) }
     ensures token { IfToken result (IsGivenToken M.stands M.tie (hall_of seat.old.table_id seat.old.me)) }
 {
@@ -199,6 +203,7 @@ pub(crate) fn leave_ready_at<R: Wait, M: Carrier>(
     ensures own { seat.new.table_id ≡ seat.old.table_id }
     ensures idle { StaysIdle seat.old.me seat.new.me }
     ensures sees { Sees seat.old.me.0.it.seen seat.new.me.0.it.seen [] (λ s. Unit {0}) }
+    ensures tokens { Exchanges 0 1 seat.old.me.0.it.tokens seat.new.me.0.it.tokens }
 {
     let mut book = take_back(rt, hall, seat, &mut token);
     let lent = book.get_mut();
@@ -227,6 +232,7 @@ pub(crate) fn advance_at<R: Wait, M: Carrier>(
     ensures own { seat.new.table_id ≡ seat.old.table_id }
     ensures idle { StaysIdle seat.old.me seat.new.me }
     ensures sees { Sees seat.old.me.0.it.seen seat.new.me.0.it.seen (advance_events token.iteration end result) (λ s. AdvanceReturns s token.iteration token.index end result) }
+    ensures tokens { Exchanges (tokens_next result) 1 seat.old.me.0.it.tokens seat.new.me.0.it.tokens }
     ensures runs { IfGo result (λ t. IsTokenOf seat.new.me.0.it.seen (fields_of t)) }
     ensures token { IfGo result (IsGivenToken M.stands M.tie (hall_of seat.old.table_id seat.old.me)) }
 {
@@ -251,6 +257,7 @@ pub(crate) fn stop_at<R: Wait, M: Carrier>(rt: &R, hall: &Locks<M>, seat: &mut S
     ensures idle { StaysIdle seat.old.me seat.new.me }
     ensures later { BeginsWith seat.new.me.0.it.seen seat.old.me.0.it.seen }
     ensures stopped { (state_after seat.new.me.0.it.seen).stopped ≡ true }
+    ensures tokens { seat.new.me.0.it.tokens ≡ seat.old.me.0.it.tokens }
 {
     let mut book = take_book(rt, hall, seat);
     let lent = book.get_mut();

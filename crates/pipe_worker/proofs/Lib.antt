@@ -1,2 +1,3 @@
 pub mod SeenRuns
 pub mod SameEnds
+pub mod TokenSums

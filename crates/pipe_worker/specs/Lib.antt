@@ -2,3 +2,4 @@ pub mod Machines
 pub mod HeldInstances
 pub mod Tasks
 pub mod Workers
+pub mod HeldTokens

@@ -3,6 +3,7 @@
 ghost use Rattle.std.specs.Prelude.{◌≡◌};
 ghost use Rattle.pipe_frame.specs.ResultTokens.{IfGo};
 ghost use Rattle.pipe_frame.specs.SeatedTokens.{IsGivenToken};
+ghost use Rattle.pipe_frame.specs.TokenCounts.{Exchanges, tokens_next};
 ghost use Rattle.pipe_worker.specs.Machines.{CanDrive};
 
 use crate::instance::run_instance;
@@ -31,6 +32,7 @@ pub fn run_and_advance<R: Wait, M: Runs + Drop, H: Hall<M>>(
     requires drives { CanDrive M.code (H.named hall.old) code.now input.now }
     requires given { IsGivenToken M.stands M.tie (H.named hall.old) token }
     ensures named { H.named hall.new ≡ H.named hall.old }
+    ensures tokens { Exchanges (tokens_next result.0) 1 (H.tokens hall.old) (H.tokens hall.new) }
     ensures token { IfGo result.0 (IsGivenToken M.stands M.tie (H.named hall.old)) }
 {
     let lent = LentHall { hall };

@@ -2,6 +2,7 @@
 
 ghost use Rattle.std.specs.Prelude.{◌≡◌, ◌≤◌, Some};
 ghost use Rattle.pipe_frame.specs.SeatedTokens.{IsGivenToken, seated_replies};
+ghost use Rattle.pipe_frame.specs.TokenCounts.{Exchanges};
 ghost use Rattle.pipe_frame.specs.TokenFields.{fields_of};
 ghost use Rattle.pipe_model.specs.Pipelines.Behaviour.{Behaviour};
 ghost use Rattle.pipe_worker.specs.HeldInstances.{MayAdvance};
@@ -55,12 +56,14 @@ pub fn run_instance<'a, R: Wait, M: Runs + Drop, H: Hall<M>, J: RunningInstance>
 ) -> (LentHall<'a, H>, FrameToken<M>, Trace, StageEnd)
     requires reference { lent.hall.ghost_name ≡ J.reference }
     requires named { H.named lent.hall.now ≡ J.named }
+    requires counts { H.tokens lent.hall.now ≡ J.counts }
     requires drives { CanDrive M.code J.named code.now input.now }
     requires given { IsGivenToken M.stands M.tie J.named token }
     requires iteration { token.iteration ≡ J.iteration }
     requires replies { seated_replies (M.tie token.payload) ≡ J.replies }
     ensures reference { result.0.hall.ghost_name ≡ lent.entry.hall.ghost_name }
     ensures named { H.named result.0.hall.now ≡ J.named }
+    ensures tokens { Exchanges 0 0 J.counts (H.tokens result.0.hall.now) }
     ensures advances { MayAdvance M.whole M.stands M.tie J.named (H.seen result.0.hall.now) result.1 result.2 result.3 }
 {
     let mut machine = token.payload.take_machine();

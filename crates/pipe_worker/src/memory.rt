@@ -2,6 +2,7 @@
 
 ghost use Rattle.std.specs.Prelude.{◌≡◌, [], false};
 ghost use Rattle.instance_laws.specs.EndedInstances.{accesses_of};
+ghost use Rattle.pipe_frame.specs.TokenCounts.{Exchanges};
 ghost use Rattle.pipe_frame.specs.TokenFields.{fields_of};
 ghost use Rattle.pipe_worker.specs.HeldInstances.{IsHeld, StopsSeen};
 
@@ -22,12 +23,16 @@ use std::sync::Wait;
 pub trait RunningInstance {
     ghost use Rattle.std.specs.Prelude.{ℕ, ℤ, List};
     ghost use Rattle.pipe_frame.specs.Ties.{HallName};
+    ghost use Rattle.pipe_frame.specs.TokenCounts.{TokenCounts};
 
     /// The name of the reference to the hall.
     ghost reference: { ℕ };
 
     /// The hall.
     ghost named: { HallName };
+
+    /// The tokens that the hall had given and taken back at the start of the instance.
+    ghost counts: { TokenCounts };
 
     /// The iteration.
     ghost iteration: { ℕ };
@@ -38,11 +43,14 @@ pub trait RunningInstance {
 
 impl RunningInstance for Brand {
     ghost use Rattle.std.specs.Prelude.{[]};
+    ghost use Rattle.pipe_frame.specs.TokenCounts.{no_tokens};
     ghost use Rattle.pipe_worker.specs.HeldInstances.{no_hall};
 
     ghost reference = { 0 };
 
     ghost named = { no_hall };
+
+    ghost counts = { no_tokens };
 
     ghost iteration = { 0 };
 
@@ -65,6 +73,7 @@ impl<'r, 'a, R: Wait, M: Stands + Drop, H: Hall<M>, J: RunningInstance> Model
     for InstanceMemory<'r, 'a, R, M, H, J> {
     ghost use Rattle.std.specs.Prelude.{◌≡◌};
     ghost use Rattle.instance_laws.specs.EndedInstances.{accesses_of};
+    ghost use Rattle.pipe_frame.specs.TokenCounts.{Exchanges};
     ghost use Rattle.pipe_frame.specs.TokenFields.{fields_of};
     ghost use Rattle.pipe_worker.specs.HeldInstances.{IsHeld, MemoryState, StopsSeen};
 
@@ -74,7 +83,7 @@ impl<'r, 'a, R: Wait, M: Stands + Drop, H: Hall<M>, J: RunningInstance> Model
 
     ghost invariant = { λ m. (m.lent.hall.ghost_name ≡ J.reference) × (H.named m.lent.hall.now ≡ J.named)
         × IsHeld J.named J.iteration J.replies (fields_of m.token) (M.tie m.token.payload) m.trace
-        × StopsSeen m.stopped (H.seen m.lent.hall.now) };
+        × StopsSeen m.stopped (H.seen m.lent.hall.now) × Exchanges 0 0 J.counts (H.tokens m.lent.hall.now) };
 }
 
 impl<'r, 'a, R: Wait, M: Stands + Drop, H: Hall<M>, J: RunningInstance> InstanceMemory<
@@ -89,6 +98,7 @@ impl<'r, 'a, R: Wait, M: Stands + Drop, H: Hall<M>, J: RunningInstance> Instance
     pub fn new(alloc: Global, rt: &'r R, lent: LentHall<'a, H>, token: FrameToken<M>) -> Self
         requires reference { lent.hall.ghost_name ≡ J.reference }
         requires named { H.named lent.hall.now ≡ J.named }
+        requires counts { H.tokens lent.hall.now ≡ J.counts }
         requires held { IsHeld J.named J.iteration J.replies (fields_of token) (M.tie token.payload) [] }
         ensures { result ≡ record { made = []; stopped = false } }
     {
@@ -108,6 +118,7 @@ impl<'r, 'a, R: Wait, M: Stands + Drop, H: Hall<M>, J: RunningInstance> Instance
         ensures named { H.named result.0.hall.now ≡ J.named }
         ensures held { IsHeld J.named J.iteration J.replies (fields_of result.1) (M.tie result.1.payload) result.2 }
         ensures stopped { StopsSeen self.entry.stopped (H.seen result.0.hall.now) }
+        ensures tokens { Exchanges 0 0 J.counts (H.tokens result.0.hall.now) }
         ensures made { self.entry.made ≡ accesses_of result.2 }
     {
         let InstanceMemory {

@@ -7,8 +7,10 @@ use work_deques::tally::TaskTest;
 /// The test of the tasks of one hall: their tokens are as a call of the hall returns them. It has no
 /// calls, and is a parameter of the deques.
 pub trait WorkTest<M: Stands + Drop>: TaskTest<Task<M>> {
+    ghost use Rattle.std.specs.Prelude.{◌≡◌, ℕ};
     ghost use Rattle.pipe_frame.specs.SeatedTokens.{IsGivenToken};
     ghost use Rattle.pipe_frame.specs.Ties.{HallName};
+    ghost use Rattle.pipe_frame.specs.TokenCounts.{tokens_in};
     ghost use Rattle.pipe_frame.specs.declared.token.Task.{Task};
     ghost use Rattle.pipe_worker.specs.Tasks.{IsTask};
 
@@ -20,4 +22,10 @@ pub trait WorkTest<M: Stands + Drop>: TaskTest<Task<M>> {
 
     /// Each task of the hall may be in a deque.
     ghost gives: { (t : Task M) → IsTask (IsGivenToken M.stands M.tie named) t → Self.meets t };
+
+    /// How many tokens a task with this number has.
+    ghost weight: { ℕ → ℕ };
+
+    /// The number of a task tells how many tokens it has.
+    ghost weighs: { (t : Task M) → weight (Self.tag t) ≡ tokens_in t };
 }

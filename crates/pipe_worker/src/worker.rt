@@ -2,6 +2,8 @@
 
 ghost use Rattle.std.specs.Prelude.{◌≡◌, IfSome};
 ghost use Rattle.pipe_frame.specs.SeatedTokens.{IsGivenToken};
+ghost use Rattle.pipe_frame.specs.TokenCounts.{tokens_in};
+ghost use Rattle.pipe_worker.specs.HeldTokens.{KeepsTokens, TakesTokens, tokens_taken};
 ghost use Rattle.pipe_worker.specs.Machines.{CanDrive};
 ghost use Rattle.pipe_worker.specs.Tasks.{IsOver, IsStopSeen};
 ghost use Rattle.pipe_worker.specs.Workers.{IsSameWorker, ends_of, number_of};
@@ -72,6 +74,7 @@ impl<M: Runs + Drop, Q: WorkTest<M>> Worker<M, Q> {
     // Takes a task from the deque of another worker, if one has some.
     fn steal<R: Wait>(&mut self, rt: &R) -> Option<Task<M>>
         ensures task { IfSome result Q.meets }
+        ensures tokens { TakesTokens Q.weight (tokens_taken result) (ends_of self.old) (ends_of self.new) }
         ensures worker { IsSameWorker self.old self.new }
     {
         let workers = self.ends.workers();
@@ -87,6 +90,7 @@ impl<M: Runs + Drop, Q: WorkTest<M>> Worker<M, Q> {
     // Takes the last task of the worker's own deque, or else one of another worker.
     fn take_task<R: Wait>(&mut self, rt: &R) -> Option<Task<M>>
         ensures task { IfSome result Q.meets }
+        ensures tokens { TakesTokens Q.weight (tokens_taken result) (ends_of self.old) (ends_of self.new) }
         ensures worker { IsSameWorker self.old self.new }
     {
         match self.ends.pop() {
@@ -100,6 +104,7 @@ impl<M: Runs + Drop, Q: WorkTest<M>> Worker<M, Q> {
         requires named { H.named hall.old ≡ Q.named }
         requires given { IsGivenToken M.stands M.tie Q.named token }
         ensures named { H.named hall.new ≡ Q.named }
+        ensures tokens { KeepsTokens Q.weight 1 0 (H.tokens hall.old) (ends_of self.old) (H.tokens hall.new) (ends_of self.new) }
         ensures worker { IsSameWorker self.old self.new }
     {
         if let Err(Task::Resume(token)) = self.ends.push(Task::Resume(token)) {
@@ -113,6 +118,7 @@ impl<M: Runs + Drop, Q: WorkTest<M>> Worker<M, Q> {
         requires named { H.named hall.old ≡ Q.named }
         ensures named { H.named hall.new ≡ Q.named }
         ensures stopped { IsStopSeen (H.seen hall.old) → IsStopSeen (H.seen hall.new) }
+        ensures tokens { KeepsTokens Q.weight 0 0 (H.tokens hall.old) (ends_of self.old) (H.tokens hall.new) (ends_of self.new) }
         ensures worker { IsSameWorker self.old self.new }
     {
         for _ in rt.forever() {
@@ -134,6 +140,7 @@ impl<M: Runs + Drop, Q: WorkTest<M>> Worker<M, Q> {
     )
         requires named { H.named hall.old ≡ Q.named }
         ensures named { H.named hall.new ≡ Q.named }
+        ensures tokens { KeepsTokens Q.weight 0 0 (H.tokens hall.old) (ends_of self.old) (H.tokens hall.new) (ends_of self.new) }
         ensures worker { IsSameWorker self.old self.new }
     {
         match after(outcome, true) {
@@ -160,6 +167,7 @@ impl<M: Runs + Drop, Q: WorkTest<M>> Worker<M, Q> {
         requires drives { CanDrive M.code Q.named code.now input.now }
         requires given { IsGivenToken M.stands M.tie Q.named token }
         ensures named { H.named hall.new ≡ Q.named }
+        ensures tokens { KeepsTokens Q.weight 1 0 (H.tokens hall.old) (ends_of self.old) (H.tokens hall.new) (ends_of self.new) }
         ensures worker { IsSameWorker self.old self.new }
     {
         let mut token = token;
@@ -201,6 +209,7 @@ impl<M: Runs + Drop, Q: WorkTest<M>> Worker<M, Q> {
         requires named { H.named hall.old ≡ Q.named }
         requires drives { CanDrive M.code Q.named code.now input.now }
         ensures named { H.named hall.new ≡ Q.named }
+        ensures tokens { KeepsTokens Q.weight 0 0 (H.tokens hall.old) (ends_of self.old) (H.tokens hall.new) (ends_of self.new) }
         ensures worker { IsSameWorker self.old self.new }
     {
         match hall.begin(rt) {
@@ -224,6 +233,7 @@ impl<M: Runs + Drop, Q: WorkTest<M>> Worker<M, Q> {
         requires drives { CanDrive M.code Q.named code.now input.now }
         requires task { Q.meets task }
         ensures named { H.named hall.new ≡ Q.named }
+        ensures tokens { KeepsTokens Q.weight (tokens_in task) 0 (H.tokens hall.old) (ends_of self.old) (H.tokens hall.new) (ends_of self.new) }
         ensures worker { IsSameWorker self.old self.new }
     {
         match task {
@@ -245,6 +255,7 @@ impl<M: Runs + Drop, Q: WorkTest<M>> Worker<M, Q> {
         requires drives { CanDrive M.code Q.named code.now input.now }
         ensures named { H.named hall.new ≡ Q.named }
         ensures over { result ≡ Rescued.Over → IsOver (H.seen hall.new) }
+        ensures tokens { KeepsTokens Q.weight 0 0 (H.tokens hall.old) (ends_of self.old) (H.tokens hall.new) (ends_of self.new) }
         ensures worker { IsSameWorker self.old self.new }
     {
         match hall.rescue(rt) {
@@ -266,8 +277,10 @@ impl<M: Runs + Drop, Q: WorkTest<M>> Worker<M, Q> {
     }
 
     /// Runs instances until the run is over. Returns only after the hall has seen the run finished or
-    /// stopped; the worker then has the same number, and its ends are still ends of the same deques. No
-    /// clause says that it returns, or that it keeps each token.
+    /// stopped; the worker then has the same number, and its ends are still ends of the same deques. It
+    /// holds no token then that it did not hold before: each token that the hall gave to it, or that
+    /// came with a task, it has given back to the hall or pushed with a task. No clause says that it
+    /// returns, or that its own deque is empty then.
     pub fn work<R: Wait, H: Hall<M>, G: Gate>(
         &mut self,
         rt: &R,
@@ -280,6 +293,7 @@ impl<M: Runs + Drop, Q: WorkTest<M>> Worker<M, Q> {
         requires drives { CanDrive M.code Q.named code.now input.now }
         ensures named { H.named hall.new ≡ Q.named }
         ensures over { IsOver (H.seen hall.new) }
+        ensures tokens { KeepsTokens Q.weight 0 0 (H.tokens hall.old) (ends_of self.old) (H.tokens hall.new) (ends_of self.new) }
         ensures worker { IsSameWorker self.old self.new }
     {
         let mut idle = Idle::new();

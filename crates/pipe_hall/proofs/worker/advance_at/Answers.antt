@@ -12,6 +12,8 @@ use Rattle.pipe_hall.specs.SeatViews.{constants_of}
 use Rattle.pipe_hall.proofs.BookCalls.{stopped_later}
 use Rattle.pipe_hall.proofs.EndingCalls.{enters_not_stopped, goes_on}
 use Rattle.pipe_hall.proofs.TakenBooks.{advanced, ended_without, lent_with, none_goes, sees, stays_idle}
+use Rattle.pipe_frame.specs.TokenCounts.{Exchanges}
+use Rattle.pipe_hall.proofs.TokenMoves.{none_next, token_comes, token_comes_and_goes}
 use Rattle.pipe_hall.proofs.worker.advance_at.Goals as goal
 
 pub advance-next-requires-clause-stopped : goal.advance-next-requires-clause-stopped
@@ -54,7 +56,7 @@ return_book-requires g c =
 pub returns-in-Go-clause-idle : goal.returns-in-Go-clause-idle
 returns-in-Go-clause-idle g c =
     let t = lent_with g.row.M.Denot c.args.seat.now.me c.take_back-book.new.seat.me c.take_back-book.result c.get_mut-lent.result.now _ _ c.get_mut-lent.ensures.value c.take_back-book.ensures.taken in
-    stays_idle g.row.M.Denot c.args.seat.now.me c.take_back-book.new.seat.me c.get_mut-lent.result.now (Some t.0) t.1 c.return_token.new.seat.me c.advance-next.new.self c.return_token.ensures.given
+    stays_idle g.row.M.Denot c.args.seat.now.me c.take_back-book.new.seat.me c.get_mut-lent.result.now (Some t.0) t.1 c.return_token.new.seat.me c.advance-next.new.self _ c.return_token.ensures.given
     (ap constants_of c.in-Go.ensures.book) c.entries.ensures.control
 
 pub returns-in-Go-clause-sees : goal.returns-in-Go-clause-sees
@@ -72,7 +74,7 @@ returns-in-Go-clause-sees g c =
     subst (λ (x : FrameToken g.row.M.Denot). Sees m.0.it.seen z.0.it.seen (stage_end_events c.args.token.iteration c.args.end ++ Enter c.args.token.iteration ∷ [])
     (λ q. AdvanceReturns q c.args.token.iteration c.args.token.index c.args.end (nexts.Go x))) (sym s.1)
     (subst (λ (k : TokenFields). Sees m.0.it.seen z.0.it.seen (stage_end_events k.iteration c.args.end ++ Enter k.iteration ∷ []) (λ q. AdvanceReturns q k.iteration k.index c.args.end (nexts.Go u))) same
-    (sees g.row.M.Denot m c.take_back-book.new.seat.me b (Some t.0) t.1 z c.advance-next.new.self c.return_token.ensures.given es (λ q. AdvanceReturns q f.iteration f.index c.args.end (nexts.Go u))
+    (sees g.row.M.Denot m c.take_back-book.new.seat.me b (Some t.0) t.1 z c.advance-next.new.self _ c.return_token.ensures.given es (λ q. AdvanceReturns q f.iteration f.index c.args.end (nexts.Go u))
     (advanced {M = g.row.M.Denot} b c.advance-next.new.self f c.args.trace c.args.end (nexts.Go c.in-Go.token) e.book).1 e.answer))
 
 pub returns-in_default : goal.returns-in_default
@@ -90,9 +92,15 @@ returns-in_default g c =
     let q = advanced b x f c.args.trace c.args.end r e.book in
     record {
       own = c.return_book.ensures.own.0 ∙ c.take_back-book.ensures.own;
-      idle = stays_idle g.row.M.Denot m n b (Some t.0) t.1 z x c.return_book.ensures.given q.0 c.entries.ensures.control;
+      idle = stays_idle g.row.M.Denot m n b (Some t.0) t.1 z x _ c.return_book.ensures.given q.0 c.entries.ensures.control;
       sees = subst (λ (k : TokenFields). Sees m.0.it.seen z.0.it.seen (advance_events k.iteration c.args.end r) (λ s. AdvanceReturns s k.iteration k.index c.args.end r)) same
-          (sees g.row.M.Denot m n b (Some t.0) t.1 z x c.return_book.ensures.given (advance_events f.iteration c.args.end r) (λ s. AdvanceReturns s f.iteration f.index c.args.end r) q.1 e.answer);
+          (sees g.row.M.Denot m n b (Some t.0) t.1 z x _ c.return_book.ensures.given (advance_events f.iteration c.args.end r) (λ s. AdvanceReturns s f.iteration f.index c.args.end r) q.1 e.answer);
+      tokens = subst (λ k. Exchanges k 1 m.0.it.tokens z.0.it.tokens) (sym (none_next r c.in_default.not-Go)) (token_comes g.row.M.Denot m n z b x t.0 t.1 c.return_book.ensures.given);
       runs = none_goes r _ c.in_default.not-Go;
       token = none_goes r _ c.in_default.not-Go;
     }
+
+pub returns-in-Go-clause-tokens : goal.returns-in-Go-clause-tokens
+returns-in-Go-clause-tokens g c =
+    let t = lent_with g.row.M.Denot c.args.seat.now.me c.take_back-book.new.seat.me c.take_back-book.result c.get_mut-lent.result.now _ _ c.get_mut-lent.ensures.value c.take_back-book.ensures.taken in
+    token_comes_and_goes g.row.M.Denot c.args.seat.now.me c.take_back-book.new.seat.me c.return_token.new.seat.me c.get_mut-lent.result.now c.advance-next.new.self t.0 t.1 c.return_token.ensures.given

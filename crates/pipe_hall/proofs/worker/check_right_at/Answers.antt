@@ -7,6 +7,7 @@ use Rattle.pipe_hall.specs.BookCalls.{IsBookCall}
 use Rattle.pipe_hall.specs.SeatViews.{constants_of}
 use Rattle.pipe_hall.proofs.BookCalls.{enter_call, unchanged_call}
 use Rattle.pipe_hall.proofs.TakenBooks.{lent_of, stays_idle}
+use Rattle.pipe_hall.proofs.TokenMoves.{none_moves, token_goes}
 use Rattle.pipe_hall.proofs.worker.check_right_at.Goals as goal
 
 pub return_token-requires-clause-call : goal.return_token-requires-clause-call
@@ -30,9 +31,17 @@ return_book-requires-clause-call g c =
 pub returns-in-Some-clause-idle : goal.returns-in-Some-clause-idle
 returns-in-Some-clause-idle g c =
     stays_idle g.row.M.Denot c.args.seat.now.me c.take_book-book.new.seat.me c.get_mut-lent.result.now None (lent_of g.row.M.Denot c.args.seat.now.me c.take_book-book.new.seat.me c.take_book-book.result c.get_mut-lent.result.now None c.get_mut-lent.ensures.value c.take_book-book.ensures.taken) c.return_token.new.seat.me c.check_right-entered.new.self
-    c.return_token.ensures.given (ap constants_of c.in-Some.ensures.book) c.entries.ensures.control
+    _ c.return_token.ensures.given (ap constants_of c.in-Some.ensures.book) c.entries.ensures.control
 
 pub returns-in-None-clause-idle : goal.returns-in-None-clause-idle
 returns-in-None-clause-idle g c =
     stays_idle g.row.M.Denot c.args.seat.now.me c.take_book-book.new.seat.me c.get_mut-lent.result.now None (lent_of g.row.M.Denot c.args.seat.now.me c.take_book-book.new.seat.me c.take_book-book.result c.get_mut-lent.result.now None c.get_mut-lent.ensures.value c.take_book-book.ensures.taken) c.return_book.new.seat.me c.check_right-entered.new.self
-    c.return_book.ensures.given (ap constants_of c.in-None.ensures.book) c.entries.ensures.control
+    _ c.return_book.ensures.given (ap constants_of c.in-None.ensures.book) c.entries.ensures.control
+
+pub returns-in-Some-clause-tokens : goal.returns-in-Some-clause-tokens
+returns-in-Some-clause-tokens g c =
+    token_goes g.row.M.Denot c.args.seat.now.me c.take_book-book.new.seat.me c.return_token.new.seat.me c.get_mut-lent.result.now c.check_right-entered.new.self (lent_of g.row.M.Denot c.args.seat.now.me c.take_book-book.new.seat.me c.take_book-book.result c.get_mut-lent.result.now None c.get_mut-lent.ensures.value c.take_book-book.ensures.taken) c.return_token.ensures.given
+
+pub returns-in-None-clause-tokens : goal.returns-in-None-clause-tokens
+returns-in-None-clause-tokens g c =
+    none_moves g.row.M.Denot c.args.seat.now.me c.take_book-book.new.seat.me c.return_book.new.seat.me c.get_mut-lent.result.now c.check_right-entered.new.self (lent_of g.row.M.Denot c.args.seat.now.me c.take_book-book.new.seat.me c.take_book-book.result c.get_mut-lent.result.now None c.get_mut-lent.ensures.value c.take_book-book.ensures.taken) c.return_book.ensures.given

@@ -10,6 +10,7 @@ use Rattle.pipe_hall.specs.WorkerSeats.{name_of}
 use Rattle.pipe_hall.proofs.Answering.{lists_with}
 use Rattle.pipe_hall.proofs.EndingCalls.{left_call}
 use Rattle.pipe_hall.proofs.TakenBooks.{lent_with, name_is, sees, stays_idle}
+use Rattle.pipe_hall.proofs.TokenMoves.{token_comes}
 use Rattle.pipe_hall.proofs.worker.leave_ready_at.Goals as goal
 
 pub leave_ready-requires-clause-payload : goal.leave_ready-requires-clause-payload
@@ -56,12 +57,17 @@ return_book-requires-clause-call g c =
 pub returns-clause-idle : goal.returns-clause-idle
 returns-clause-idle g c =
     let t = lent_with g.row.M.Denot c.args.seat.now.me c.take_back-book.new.seat.me c.take_back-book.result c.get_mut-lent.result.now _ _ c.get_mut-lent.ensures.value c.take_back-book.ensures.taken in
-    stays_idle g.row.M.Denot c.args.seat.now.me c.take_back-book.new.seat.me c.get_mut-lent.result.now (Some t.0) t.1 c.return_book.new.seat.me c.leave_ready.new.self c.return_book.ensures.given
+    stays_idle g.row.M.Denot c.args.seat.now.me c.take_back-book.new.seat.me c.get_mut-lent.result.now (Some t.0) t.1 c.return_book.new.seat.me c.leave_ready.new.self _ c.return_book.ensures.given
     (ap constants_of c.leave_ready.ensures) c.entries.ensures.control
 
 pub returns-clause-sees : goal.returns-clause-sees
 returns-clause-sees g c =
     let t = lent_with g.row.M.Denot c.args.seat.now.me c.take_back-book.new.seat.me c.take_back-book.result c.get_mut-lent.result.now _ _ c.get_mut-lent.ensures.value c.take_back-book.ensures.taken in
     let b = c.get_mut-lent.result.now in
-    sees g.row.M.Denot c.args.seat.now.me c.take_back-book.new.seat.me b (Some t.0) t.1 c.return_book.new.seat.me c.leave_ready.new.self c.return_book.ensures.given [] (λ s. Unit {0})
+    sees g.row.M.Denot c.args.seat.now.me c.take_back-book.new.seat.me b (Some t.0) t.1 c.return_book.new.seat.me c.leave_ready.new.self _ c.return_book.ensures.given [] (λ s. Unit {0})
     (ap (λ (x : BookState). events_of x.log) c.leave_ready.ensures ∙ sym (append-nil (events_of b.log))) tt
+
+pub returns-clause-tokens : goal.returns-clause-tokens
+returns-clause-tokens g c =
+    let t = lent_with g.row.M.Denot c.args.seat.now.me c.take_back-book.new.seat.me c.take_back-book.result c.get_mut-lent.result.now _ _ c.get_mut-lent.ensures.value c.take_back-book.ensures.taken in
+    token_comes g.row.M.Denot c.args.seat.now.me c.take_back-book.new.seat.me c.return_book.new.seat.me c.get_mut-lent.result.now c.leave_ready.new.self t.0 t.1 c.return_book.ensures.given

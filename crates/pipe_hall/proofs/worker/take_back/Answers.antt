@@ -44,7 +44,7 @@ returns-clause-taken g c =
     let r = t.snapshot.run h.run_data run in (
       h.run_data,
       has_taken g.row.M.Denot c.args.seat.now.me k c.take_book.new.seat.me b (Some h.run_data) i (ap (λ (x : ViewAndSlots g.row.M.Denot). x.0.it.constants) j)
-          (ap (λ (x : ViewAndSlots g.row.M.Denot). x.0.it.seen) j) (ap (λ (x : ViewAndSlots g.row.M.Denot). x.0.it.held) j) (ap (λ (x : ViewAndSlots g.row.M.Denot). x.1) j) run t.taken t.snapshot,
+          (ap (λ (x : ViewAndSlots g.row.M.Denot). x.0.it.seen) j) (ap (λ (x : ViewAndSlots g.row.M.Denot). x.0.it.held) j) (ap (λ (x : ViewAndSlots g.row.M.Denot). x.1) j) run (ap (λ (x : ViewAndSlots g.row.M.Denot). x.0.it.tokens) j) t.taken t.snapshot,
       record {
         out = subst (IsOutOf b) h.fields r.out;
         fields = h.fields;

@@ -8,4 +8,4 @@ returns-clause-taken g c =
     let m = c.args.seat.now.me in
     let t = c.take_book.ensures in
     let i = c.requires.idle in
-    has_taken g.row.M.Denot m m c.take_book.new.seat.me c.take_book.result None i refl refl refl refl i.run t.taken t.snapshot
+    has_taken g.row.M.Denot m m c.take_book.new.seat.me c.take_book.result None i refl refl refl refl i.run refl t.taken t.snapshot

@@ -1,6 +1,7 @@
 use Rattle.std.proofs.Common.{◌≡◌}
 use Rattle.pipe_worker.specs.Tasks.{IsStopSeen}
-use Rattle.pipe_worker.specs.Workers.{IsSameWorker}
+use Rattle.pipe_worker.specs.HeldTokens.{KeepsTokens}
+use Rattle.pipe_worker.specs.Workers.{IsSameWorker, ends_of}
 use Rattle.pipe_worker.proofs.worker.Worker.empty.Given as goal
 
 abbrev pub invariant-loop : goal.invariant-loop
@@ -8,4 +9,5 @@ invariant-loop g l = record {
   named : g.H.Hall.named l.hall ≡ g.Q.WorkTest.named;
   stopped : IsStopSeen (g.H.Hall.seen l.fn.hall) → IsStopSeen (g.H.Hall.seen l.hall);
   worker : IsSameWorker l.fn.self l.self;
+  tokens : KeepsTokens g.Q.WorkTest.weight 0 0 (g.H.Hall.tokens l.fn.hall) (ends_of l.fn.self) (g.H.Hall.tokens l.hall) (ends_of l.self);
 }

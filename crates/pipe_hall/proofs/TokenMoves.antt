@@ -1,0 +1,65 @@
+-- How the counts of a seat change when tokens are given out and taken back.
+use Rattle.std.proofs.Common.{◌≡◌, ◌∙◌, ℕ, arith, ap, refl, subst, sym, Option, Some, None}
+use Rattle.pipe_frame.specs.TokenCounts.{Exchanges, TokenCounts, tokens_begun, tokens_next, tokens_rescued}
+use Rattle.pipe_frame.specs.declared.results.Begun.{Begun}
+use Rattle.pipe_frame.specs.declared.results.Begun.TheVariants as begun
+use Rattle.pipe_frame.specs.declared.results.Next.{Next}
+use Rattle.pipe_frame.specs.declared.results.Next.TheVariants as nexts
+use Rattle.pipe_frame.specs.declared.results.Rescue.{Rescue}
+use Rattle.pipe_frame.specs.declared.results.Rescue.TheVariants as rescue
+use Rattle.pipe_frame.specs.declared.token.FrameToken.{FrameToken}
+use Rattle.frame_book.specs.BookStates.{BookState}
+use Rattle.pipe_hall.specs.HallRule.{view_of}
+use Rattle.pipe_hall.specs.SeatViews.{InstanceData}
+use Rattle.pipe_hall.specs.Steps.{ViewAndSlots, after_book, one_given, one_returned, without_run}
+use Rattle.pipe_hall.specs.WorkerSeats.{HasTaken, counts_with}
+
+module _ (c d : TokenCounts) where
+  same_counts : d ≡ c → Exchanges 0 0 c d
+  same_counts e = subst (Exchanges 0 0 c) (sym e) refl
+
+  one_goes : d ≡ one_given c → Exchanges 1 0 c d
+  one_goes e = subst (Exchanges 1 0 c) (sym e) (omega arith)
+
+  one_comes : d ≡ one_returned c → Exchanges 0 1 c d
+  one_comes e = subst (Exchanges 0 1 c) (sym e) (omega arith)
+
+  one_comes_and_goes : d ≡ one_given (one_returned c) → Exchanges 1 1 c d
+  one_comes_and_goes e = subst (Exchanges 1 1 c) (sym e) (omega arith)
+
+-- ---- the book was taken, and given back, without a token or beside one
+
+module _ (M : Type 0) (m n z : ViewAndSlots M) (b c : BookState) where
+  pub none_moves : HasTaken m n b None → z ≡ (view_of (after_book n.0.it c None), []) → Exchanges 0 0 m.0.it.tokens z.0.it.tokens
+  none_moves h given = same_counts m.0.it.tokens z.0.it.tokens (ap (λ (x : ViewAndSlots M). x.0.it.tokens) given ∙ h.counts)
+
+  pub token_goes : HasTaken m n b None → z ≡ (view_of (without_run (after_book n.0.it c None)), []) → Exchanges 1 0 m.0.it.tokens z.0.it.tokens
+  token_goes h given = one_goes m.0.it.tokens z.0.it.tokens (ap (λ (x : ViewAndSlots M). x.0.it.tokens) given ∙ ap one_given h.counts)
+
+  pub token_comes : (d : InstanceData) → HasTaken m n b (Some d) → z ≡ (view_of (after_book n.0.it c None), []) → Exchanges 0 1 m.0.it.tokens z.0.it.tokens
+  token_comes d h given = one_comes m.0.it.tokens z.0.it.tokens (ap (λ (x : ViewAndSlots M). x.0.it.tokens) given ∙ h.counts)
+
+  pub token_comes_and_goes : (d : InstanceData) → HasTaken m n b (Some d) → z ≡ (view_of (without_run (after_book n.0.it c None)), []) → Exchanges 1 1 m.0.it.tokens z.0.it.tokens
+  token_comes_and_goes d h given = one_comes_and_goes m.0.it.tokens z.0.it.tokens (ap (λ (x : ViewAndSlots M). x.0.it.tokens) given ∙ ap one_given h.counts)
+
+-- ---- results without a token
+
+pub none_begun : {M : Type 0} (r : Begun M) → ((t : FrameToken M) → r ≡ begun.Started t → ⊥) → tokens_begun r ≡ 0
+none_begun begun.Stopped none = refl
+none_begun begun.Closed none = refl
+none_begun begun.NotYet none = refl
+none_begun begun.Throttled none = refl
+none_begun (begun.Started t) none = absurd (none t refl)
+
+pub none_rescued : {M : Type 0} (r : Rescue M) → ((t : FrameToken M) → r ≡ rescue.Token t → ⊥) → tokens_rescued r ≡ 0
+none_rescued rescue.Stopped none = refl
+none_rescued rescue.Finished none = refl
+none_rescued rescue.MayBegin none = refl
+none_rescued rescue.Nothing none = refl
+none_rescued (rescue.Token t) none = absurd (none t refl)
+
+pub none_next : {M : Type 0} (r : Next M) → ((t : FrameToken M) → r ≡ nexts.Go t → ⊥) → tokens_next r ≡ 0
+none_next nexts.Stopped none = refl
+none_next nexts.Ended none = refl
+none_next nexts.Suspended none = refl
+none_next (nexts.Go t) none = absurd (none t refl)
