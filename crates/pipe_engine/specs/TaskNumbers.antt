@@ -1,5 +1,5 @@
 -- Numbers of tasks, by which tallies of deques count them.
-use Rattle.std.specs.Prelude.{◌+◌, ◌*◌, ℕ}
+use Rattle.std.specs.Prelude.{◌+◌, ◌*◌, ℕ, zero, suc}
 use Rattle.pipe_frame.specs.declared.token.Task.{Task}
 use Rattle.pipe_frame.specs.declared.token.Task.TheVariants.{Begin, Resume}
 
@@ -11,3 +11,8 @@ INDICES = 4294967296
 abbrev pub task_number : {M : Type 0} → Task M → ℕ
 task_number Begin = 0
 task_number (Resume t) = t.iteration * INDICES + t.index + 1
+
+-- how many tokens a task with this number has
+abbrev pub tokens_of_number : ℕ → ℕ
+tokens_of_number zero = 0
+tokens_of_number (suc n) = 1

@@ -38,9 +38,16 @@ impl<J: DrivenHall, M: Runs + Drop> TaskTest<Task<M>> for TestOf<J, M> {
 }
 
 impl<J: DrivenHall, M: Runs + Drop> WorkTest<M> for TestOf<J, M> {
+    ghost use Rattle.pipe_engine.specs.TaskNumbers.{tokens_of_number};
+    ghost use Rattle.pipe_engine.proofs.NumberedTokens.{number_weighs};
+
     ghost named = { J.named };
 
     ghost takes = { λ t met. met };
 
     ghost gives = { λ t task. task };
+
+    ghost weight = { tokens_of_number };
+
+    ghost weighs = { number_weighs };
 }

@@ -155,16 +155,16 @@ module _ (who : Who) (f : TokenFields) (is : who ≡ record { node = at f.iterat
       })
 
   -- the seat has one access more, if it was made
-  pub run_done : (o : Option Entry) (v w : SeatView) → w.held ≡ [] → w.constants ≡ v.constants → w.seen ≡ v.seen → w.met ≡ v.met → v.held ≡ [] → w.run ≡ after_log v.run x.log y.log
+  pub run_done : (o : Option Entry) (v w : SeatView) → w.held ≡ [] → w.constants ≡ v.constants → w.seen ≡ v.seen → w.met ≡ v.met → w.tokens ≡ v.tokens → v.held ≡ [] → w.run ≡ after_log v.run x.log y.log
       → IfNone o ((y ≡ x) × (new ≡ old)) → IfSome o (IsMadeNow who now c write x y old new) → w ≡ ran v o
-  run_done None v w held constants seen met none_held run h k =
+  run_done None v w held constants seen met tokens none_held run h k =
       let r : w.run ≡ v.run = run ∙ (ap (λ (z : ShardValue). after_log v.run x.log z.log) h.0 ∙ run_same v.run x.log) in
       let t : w.held ≡ v.held = held ∙ sym none_held in
-      λ j. record { constants = constants j; seen = seen j; met = met j; run = r j; held = t j }
-  run_done (Some e) v w held constants seen met none_held run h k =
+      λ j. record { constants = constants j; seen = seen j; met = met j; run = r j; held = t j; tokens = tokens j }
+  run_done (Some e) v w held constants seen met tokens none_held run h k =
       let r : w.run ≡ run_more v.run e = run ∙ (ap (after_log v.run x.log) k.made.accessed.log ∙ run_one v.run x.log (record { ticket = e.ticket; node = who.node; access = e.access })) in
       let t : w.held ≡ v.held = held ∙ sym none_held in
-      λ j. record { constants = constants j; seen = seen j; met = met j; run = r j; held = t j }
+      λ j. record { constants = constants j; seen = seen j; met = met j; run = r j; held = t j; tokens = tokens j }
 
   -- what was done to the trace
   pub trace_done : (o : Option Entry) → IfNone o ((y ≡ x) × (new ≡ old)) → IfSome o (IsMadeNow who now c write x y old new) → TraceAfter c write old new o

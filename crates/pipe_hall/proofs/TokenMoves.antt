@@ -1,5 +1,5 @@
 -- How the counts of a seat change when tokens are given out and taken back.
-use Rattle.std.proofs.Common.{◌≡◌, ◌∙◌, ℕ, arith, ap, refl, subst, sym, Option, Some, None}
+use Rattle.std.proofs.Common.{◌≡◌, ◌∙◌, [], arith, ap, refl, subst, sym, Some, None}
 use Rattle.pipe_frame.specs.TokenCounts.{Exchanges, TokenCounts, tokens_begun, tokens_next, tokens_rescued}
 use Rattle.pipe_frame.specs.declared.results.Begun.{Begun}
 use Rattle.pipe_frame.specs.declared.results.Begun.TheVariants as begun
@@ -12,7 +12,7 @@ use Rattle.frame_book.specs.BookStates.{BookState}
 use Rattle.pipe_hall.specs.HallRule.{view_of}
 use Rattle.pipe_hall.specs.SeatViews.{InstanceData}
 use Rattle.pipe_hall.specs.Steps.{ViewAndSlots, after_book, one_given, one_returned, without_run}
-use Rattle.pipe_hall.specs.WorkerSeats.{HasTaken, counts_with}
+use Rattle.pipe_hall.specs.WorkerSeats.{HasTaken}
 
 module _ (c d : TokenCounts) where
   same_counts : d ≡ c → Exchanges 0 0 c d

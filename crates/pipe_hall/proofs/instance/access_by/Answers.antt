@@ -63,7 +63,7 @@ returns-clause-ran g c =
     let given = c.return_shard.ensures.given x held in
     let w : SeatView = after_shard c.take_shard-shard.new.seat.me.0.it x y in
     given ∙ ap (λ (u : SeatView). (view_of u, [])) (run_done c.args.who q.0 q.2 c.args.now c.args.cell.0 q.3 c.args.write x y c.args.trace.now c.access-done.new.trace c.access-done.result v w refl
-    (ap (λ (k : ViewAndSlots g.row.M.Denot). k.0.it.constants) t) (ap (λ (k : ViewAndSlots g.row.M.Denot). k.0.it.seen) t) (ap (λ (k : ViewAndSlots g.row.M.Denot). k.0.it.met) t) r.held
+    (ap (λ (k : ViewAndSlots g.row.M.Denot). k.0.it.constants) t) (ap (λ (k : ViewAndSlots g.row.M.Denot). k.0.it.seen) t) (ap (λ (k : ViewAndSlots g.row.M.Denot). k.0.it.met) t) (ap (λ (k : ViewAndSlots g.row.M.Denot). k.0.it.tokens) t) r.held
     (ap (λ (k : ViewAndSlots g.row.M.Denot). after_log k.0.it.run x.log y.log) t) e.none e.made)
 
 pub returns-clause-trace : goal.returns-clause-trace
