@@ -67,11 +67,14 @@ impl<M: Stands + Drop, H: Hall<M>> Hall<M> for Counting<H> {
     ghost use Rattle.pipe_frame.specs.RunningTokens.{IsTokenOf};
     ghost use Rattle.pipe_frame.specs.SeatedTokens.{IsGivenToken, IsSeated, seated_entries, seated_replies};
     ghost use Rattle.pipe_frame.specs.StageEndCases.{NamesNextStage};
+    ghost use Rattle.pipe_frame.specs.TokenCounts.{Exchanges, tokens_next};
     ghost use Rattle.pipe_frame.specs.TokenFields.{fields_of};
 
     ghost named = { λ s. H.named s.hall };
 
     ghost seen = { λ s. H.seen s.hall };
+
+    ghost tokens = { λ s. H.tokens s.hall };
 
     fn begin<R: Wait>(&mut self, rt: &R) -> Begun<M> {
         count(&mut self.calls.begin);
@@ -93,6 +96,7 @@ impl<M: Stands + Drop, H: Hall<M>> Hall<M> for Counting<H> {
         requires stopped { end ≡ StageEnd.Stopped → (state_after (H.seen self.old.hall)).stopped ≡ true }
         ensures named { H.named self.new.hall ≡ H.named self.old.hall }
         ensures sees { Sees (H.seen self.old.hall) (H.seen self.new.hall) (advance_events token.iteration end result) (λ s. AdvanceReturns s token.iteration token.index end result) }
+        ensures tokens { Exchanges (tokens_next result) 1 (H.tokens self.old.hall) (H.tokens self.new.hall) }
         ensures seen_runs { ControlRun (H.named self.new.hall).limit (H.seen self.new.hall) (state_after (H.seen self.new.hall)) }
         ensures token { IfGo result (IsGivenToken M.stands M.tie (H.named self.old.hall)) }
         ensures runs { IfGo result (λ t. IsTokenOf (H.seen self.new.hall) (fields_of t)) }
@@ -117,6 +121,7 @@ impl<M: Stands + Drop, H: Hall<M>> Hall<M> for Counting<H> {
         requires stands { M.stands (H.named self.old.hall).tree (H.named self.old.hall).input token.payload token.iteration (seated_replies (M.tie token.payload)) }
         ensures named { H.named self.new.hall ≡ H.named self.old.hall }
         ensures sees { Sees (H.seen self.old.hall) (H.seen self.new.hall) [] (λ s. Unit {0}) }
+        ensures tokens { Exchanges 0 1 (H.tokens self.old.hall) (H.tokens self.new.hall) }
         ensures seen_runs { ControlRun (H.named self.new.hall).limit (H.seen self.new.hall) (state_after (H.seen self.new.hall)) }
     {
         count(&mut self.calls.leave_ready);

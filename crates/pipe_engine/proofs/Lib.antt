@@ -5,3 +5,4 @@ pub mod EventLogs
 pub mod LoopEnds
 pub mod EngineRuns
 pub mod Openings
+pub mod LaneTokens

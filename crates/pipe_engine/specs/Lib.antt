@@ -5,3 +5,4 @@ pub mod OpenedHalls
 pub mod LoopEnds
 pub mod EventAccesses
 pub mod EngineRuns
+pub mod TokensOut

@@ -1,6 +1,7 @@
 //! Workers that run the instances of a hall, each on a thread of its own.
 
-ghost use Rattle.std.specs.Prelude.{◌≡◌, ◌<◌, ◌+◌, ◌^◌, All, IfOk, vec_len};
+ghost use Rattle.std.specs.Prelude.{◌≡◌, ◌<◌, ◌≤◌, ◌+◌, ◌++◌, ◌∷◌, ◌^◌, [], ℕ, All, IfOk, vec_len};
+ghost use Rattle.pipe_engine.specs.TokensOut.{AreOut};
 ghost use Rattle.pipe_worker.specs.Machines.{CanDrive};
 ghost use Rattle.pipe_worker.specs.Tasks.{IsOver};
 
@@ -25,7 +26,7 @@ pub struct Driven<H> {
     /// The seats of the workers.
     pub seats: Vec<H>,
     /// How many tasks are left in the deques: those that were pushed, less those that were popped or
-    /// stolen. No clause of `drive` speaks of this number.
+    /// stolen.
     pub left: u128,
 }
 
@@ -52,6 +53,7 @@ fn drive_hall<
     ensures length { IfOk result (λ driven. vec_len driven.seats ≡ vec_len seats) }
     ensures named { IfOk result (λ driven. All (λ seat. H.named seat ≡ J.named) driven.seats.items) }
     ensures over { IfOk result (λ driven. All (λ seat. IsOver (H.seen seat)) driven.seats.items) }
+    ensures tokens { IfOk result (λ driven. (n : ℕ) × (n ≤ driven.left) × AreOut H.tokens n seats.items driven.seats.items) }
 {
     let workers = seats.len();
     let room_for_seats = Vec::with_capacity(alloc, workers)?;
@@ -87,6 +89,7 @@ fn drive_first<
     ensures length { IfOk result (λ driven. vec_len driven.seats ≡ vec_len others + 1) }
     ensures named { IfOk result (λ driven. All (λ seat. H.named seat ≡ J.named) driven.seats.items) }
     ensures over { IfOk result (λ driven. All (λ seat. IsOver (H.seen seat)) driven.seats.items) }
+    ensures tokens { IfOk result (λ driven. (n : ℕ) × (n ≤ driven.left) × AreOut H.tokens n (others.items ++ first ∷ []) driven.seats.items) }
 {
     let mut seats = others;
     seats.push(first)?;
@@ -95,7 +98,8 @@ fn drive_first<
 
 /// Gives each of the seats to a worker on a thread of its own, which has a deque with room for
 /// `capacity` tasks, and returns the seats once the run is over. Each seat has then seen the run
-/// finished or stopped.
+/// finished or stopped. No token is lost: of those that the hall gave through these seats and did not
+/// get back there are at most as many as tasks are left in the deques.
 ///
 /// # Errors
 /// Out of memory. Then no thread was made.
@@ -120,6 +124,7 @@ pub fn drive<
     ensures length { IfOk result (λ driven. vec_len driven.seats ≡ vec_len others + 1) }
     ensures named { IfOk result (λ driven. All (λ seat. H.named seat ≡ H.named first) driven.seats.items) }
     ensures over { IfOk result (λ driven. All (λ seat. IsOver (H.seen seat)) driven.seats.items) }
+    ensures tokens { IfOk result (λ driven. (n : ℕ) × (n ≤ driven.left) × AreOut H.tokens n (others.items ++ first ∷ []) driven.seats.items) }
 {
     drive_first::<Brand, R, M, H, G>(rt, alloc, code, input, capacity, first, others, gate)
 }

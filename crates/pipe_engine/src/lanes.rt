@@ -2,6 +2,7 @@
 
 ghost use Rattle.std.specs.Prelude.{◌≡◌, ◌≤◌, ◌<◌, ◌+◌, ◌^◌, [], ℕ, List, All, IfOk, length, map, slice_index_or, sum_by, vec_capacity, vec_len};
 ghost use Rattle.pipe_engine.specs.Lanes.{AreNumbered, ends_in, seat_in};
+ghost use Rattle.pipe_engine.specs.TokensOut.{LaneKeeps, NoneIsLost};
 ghost use Rattle.pipe_worker.specs.Machines.{CanDrive};
 ghost use Rattle.pipe_worker.specs.Tasks.{IsOver};
 ghost use Rattle.pipe_worker.specs.Workers.{IsSameWorker};
@@ -44,6 +45,7 @@ pub fn lanes<J: DrivenHall, M: Runs + Drop, H: Hall<M> + Drop>(
     requires named { All (λ seat. H.named seat ≡ J.named) seats.items }
     ensures named { IfOk result (λ lanes. All (λ lane. H.named (seat_in lane) ≡ J.named) lanes.items) }
     ensures ends { IfOk result (λ lanes. map ends_in lanes.items ≡ ends.items) }
+    ensures seats { IfOk result (λ lanes. (f : H → ℕ) → sum_by (λ lane. f (seat_in lane)) lanes.items ≡ sum_by f seats.items) }
     ensures numbers { IfOk result (λ lanes. AreNumbered lanes.items) }
 {
     let mut lanes = Vec::with_capacity(alloc, seats.len())?;
@@ -73,6 +75,7 @@ fn lend<
     ensures over { All (λ lane. IsOver (H.seen (seat_in lane))) lanes.new }
     ensures workers { (k : ℕ) (d : Lane J M H) → k < length lanes.old
         → IsSameWorker (slice_index_or lanes.old k d).worker (slice_index_or lanes.new k d).worker }
+    ensures tokens { (k : ℕ) (d : Lane J M H) → k < length lanes.old → LaneKeeps H.tokens (slice_index_or lanes.old k d) (slice_index_or lanes.new k d) }
 {
     let threads = lanes.len();
     for_each_mut(
@@ -86,7 +89,8 @@ fn lend<
 /// Lends each worker and its seat to a thread of its own, until all workers have returned. One lane
 /// runs on the thread of the caller, so a single worker makes no thread. Where no thread can be made,
 /// workers run one after another: the first to run ends the run, and the others find that it is over.
-/// The ends of all workers are then still all ends of their deques.
+/// The ends of all workers are then still all ends of their deques, and no token is lost: as many came
+/// to the workers, from the hall or with tasks, as went back to the hall or were pushed.
 pub fn work<
     J: DrivenHall + Send,
     R: Threads + Wait + Sync,
@@ -102,6 +106,7 @@ pub fn work<
     ensures named { All (λ lane. H.named (seat_in lane) ≡ J.named) lanes.new.items }
     ensures over { All (λ lane. IsOver (H.seen (seat_in lane))) lanes.new.items }
     ensures all { AreAllEnds (map ends_in lanes.new.items) }
+    ensures tokens { NoneIsLost H.tokens lanes.old.items lanes.new.items }
 {
     lend(rt, code, input, lanes.as_mut_slice(), gate);
 }

@@ -38,8 +38,7 @@ impl<J: DrivenHall, M: Runs + Drop> TaskTest<Task<M>> for TestOf<J, M> {
 }
 
 impl<J: DrivenHall, M: Runs + Drop> WorkTest<M> for TestOf<J, M> {
-    ghost use Rattle.pipe_engine.specs.TaskNumbers.{tokens_of_number};
-    ghost use Rattle.pipe_engine.proofs.NumberedTokens.{number_weighs};
+    ghost use Rattle.pipe_engine.specs.TaskNumbers.{number_weighs, tokens_of_number};
 
     ghost named = { J.named };
 

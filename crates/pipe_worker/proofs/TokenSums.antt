@@ -1,5 +1,5 @@
 -- Tokens of the tasks in tallies, and calls that move tokens one after the other.
-use Rattle.std.proofs.Common.{◌≡◌, ◌<◌, ◌+◌, ◌∙◌, ℕ, zero, suc, List, [], ◌∷◌, ◌++◌, Option, Some, None, MatchOption, add-zero, arith, ap, ap₂, get_or, length, map, refl, subst, sum_by, sym}
+use Rattle.std.proofs.Common.{◌≡◌, ◌<◌, ◌+◌, ◌∙◌, ℕ, zero, suc, List, [], ◌∷◌, Option, Some, None, MatchOption, add-zero, arith, ap, ap₂, get_or, length, refl, subst, sum_by, sym}
 use Rattle.std.proofs.lemmas.List.{length-map}
 use Rattle.std.proofs.lemmas.List.Sums.{sum_by-cons, sum_by_push}
 use Rattle.pipe_frame.specs.TokenCounts.{tokens_in}
@@ -46,6 +46,15 @@ module _ {M Q : Type 0} (weight : ℕ → ℕ) (tag : Task M → ℕ) (weighs : 
   abbrev taken : Tally → ℕ
   taken v = sum_by weight v.taken
 
+  abbrev put : Tally → ℕ
+  put v = sum_by weight v.put
+
+  -- a theft pushes nothing
+  put_as_before : (r : Option (Task M)) → MatchOption r (front_tally f victim ≡ front_tally e victim) (λ t. front_tally f victim ≡ with_taken (front_tally e victim) (tag t ∷ []))
+      → put (front_tally f victim) ≡ put (front_tally e victim) + 0
+  put_as_before None h = ap put h ∙ sym (add-zero (put (front_tally e victim)))
+  put_as_before (Some t) h = ap put h ∙ sym (add-zero (put (front_tally e victim)))
+
   -- what was taken from the victim's deque
   taken_more : (r : Option (Task M)) → MatchOption r (front_tally f victim ≡ front_tally e victim) (λ t. front_tally f victim ≡ with_taken (front_tally e victim) (tag t ∷ []))
       → taken (front_tally f victim) ≡ taken (front_tally e victim) + tokens_taken r
@@ -59,25 +68,28 @@ module _ {M Q : Type 0} (weight : ℕ → ℕ) (tag : Task M → ℕ) (weighs : 
       let l : length (front_tallies f) ≡ length (front_tallies e) = length-map f.fronts.items tally_of_front ∙ (count ∙ sym (length-map e.fronts.items tally_of_front)) in
       let b : victim < length (front_tallies e) = subst (λ n. victim < n) (sym (length-map e.fronts.items tally_of_front)) there in
       let s = sum_but_one taken (tally 0 [] []) (front_tallies e) (front_tallies f) victim (tokens_taken r) l b others (taken_more r front) in
-      let p = ap (λ (v : Tally). sum_by weight v.taken) own in
-      let q = ap (λ (v : Tally). sum_by weight v.put) own in
-      omega (arith, s, p, q)
+      let z = sum_but_one put (tally 0 [] []) (front_tallies e) (front_tallies f) victim 0 l b others (put_as_before r front) in
+      let p = ap taken own in
+      let q = ap put own in
+      omega (arith, s, z, p, q)
 
   -- a pop takes what it returns
   pub pop_takes : (r : Option (Task M)) → MatchOption r (own_tally f ≡ own_tally e) (λ t. own_tally f ≡ with_taken (own_tally e) (tag t ∷ [])) → front_tallies f ≡ front_tallies e
       → TakesTokens weight (tokens_taken r) e f
   pop_takes None own fronts =
-      let p = ap (λ (v : Tally). sum_by weight v.taken) own in
-      let q = ap (λ (v : Tally). sum_by weight v.put) own in
+      let p = ap taken own in
+      let q = ap put own in
       let s = ap (sum_by taken) fronts in
-      omega (arith, p, q, s)
+      let z = ap (sum_by put) fronts in
+      omega (arith, p, q, s, z)
   pop_takes (Some t) own fronts =
-      let p = ap (λ (v : Tally). sum_by weight v.taken) own in
-      let q = ap (λ (v : Tally). sum_by weight v.put) own in
+      let p = ap taken own in
+      let q = ap put own in
       let s = ap (sum_by taken) fronts in
+      let z = ap (sum_by put) fronts in
       let u = sum_by_push weight (own_tally e).taken (tag t) in
       let w = weighs t in
-      omega (arith, p, q, s, u, w)
+      omega (arith, p, q, s, z, u, w)
 
   pub no_theft : (r : Option (Task M)) → ((t : Task M) → r ≡ Some t → ⊥) → tokens_taken r ≡ 0
   no_theft None none = refl

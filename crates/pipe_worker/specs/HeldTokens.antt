@@ -18,7 +18,7 @@ module _ {T Q : Type 0} (weight : ℕ → ℕ) where
 
   -- the tokens of all tasks that were pushed
   abbrev pub put_by : Ends T Q → ℕ
-  put_by e = sum_by weight (own_tally e).put
+  put_by e = sum_by weight (own_tally e).put + sum_by (λ v. sum_by weight v.put) (front_tallies e)
 
   -- between two moments so many tokens more were taken from deques than were pushed
   abbrev pub TakesTokens : ℕ → Ends T Q → Ends T Q → Type 0

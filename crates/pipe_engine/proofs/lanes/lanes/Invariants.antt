@@ -1,4 +1,4 @@
-use Rattle.std.proofs.Common.{◌≡◌, ◌+◌, All, length, map, vec_len}
+use Rattle.std.proofs.Common.{◌≡◌, ◌+◌, ℕ, All, length, map, sum_by, vec_len}
 use Rattle.pipe_engine.specs.Lanes.{AreNumbered, ends_in, seat_in}
 use Rattle.pipe_engine.proofs.lanes.lanes.Given as goal
 
@@ -9,4 +9,5 @@ invariant-loop-ends g l = record {
   left : All (λ seat. g.H.Hall.named seat ≡ g.J.DrivenHall.named) l.seats.items;
   named : All (λ lane. g.H.Hall.named (seat_in lane) ≡ g.J.DrivenHall.named) l.lanes.items;
   numbers : AreNumbered l.lanes.items;
+  sums : (f : g.row.H.Denot → ℕ) → sum_by (λ lane. f (seat_in lane)) l.lanes.items + sum_by f l.seats.items ≡ sum_by f l.fn.seats.items;
 }

@@ -12,11 +12,11 @@ loop-preserved g c =
     let invariant = c.loop.invariant.tokens in
     let left = c.leave_ready.ensures.tokens in
     record {
-  named = c.leave_ready.ensures.named ∙ c.loop.invariant.named;
-  stopped = λ h. keeps_stop _ _ _ c.leave_ready.ensures.sees (c.loop.invariant.stopped h);
-  worker = record {
-    number = c.loop.invariant.worker.number;
-    deques = then_same c.args.self.now.ends c.loop.self.ends c.pop.new.self c.loop.invariant.worker.deques c.pop.ensures.deques;
-  };
-  tokens = omega (arith, invariant, taken, left, one);
-}
+      named = c.leave_ready.ensures.named ∙ c.loop.invariant.named;
+      stopped = λ h. keeps_stop _ _ _ c.leave_ready.ensures.sees (c.loop.invariant.stopped h);
+      worker = record {
+        number = c.loop.invariant.worker.number;
+        deques = then_same c.args.self.now.ends c.loop.self.ends c.pop.new.self c.loop.invariant.worker.deques c.pop.ensures.deques;
+      };
+      tokens = omega (arith, invariant, taken, left, one);
+    }
