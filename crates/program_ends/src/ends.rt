@@ -64,7 +64,7 @@ fn runs_final(finished: bool, reports: &Reports, trap: Option<TrapAt>) -> bool
 
 /// Ends a program after a run of its loop, of which these are the log, the reports, and the cells. Runs
 /// `final` exactly if the run is finished and there is neither a report nor a trap. Returns an error
-/// only if memory runs out.
+/// only if memory runs out; the machine is of no use then.
 pub fn end_after_loop(
     alloc: Global,
     machine: &mut Machine,

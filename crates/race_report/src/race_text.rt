@@ -63,7 +63,7 @@ fn push_declared(
 }
 
 /// Appends the name of a cell, as the lines of races and of run logs print it. Returns an error only
-/// if memory runs out.
+/// if memory runs out; the text may have a part of the name then.
 pub fn push_cell(
     text: &mut Vec<u8>,
     alloc: Global,

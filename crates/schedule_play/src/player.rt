@@ -306,7 +306,8 @@ impl<B: PlayedCode> Player<B> {
         (self.events, self.accesses, self.cells)
     }
 
-    /// Makes the event of a turn. Returns an error only if memory runs out.
+    /// Makes the event of a turn. Returns an error only if memory runs out; the player is of no use
+    /// then.
     pub fn take_turn(
         &mut self,
         alloc: Global,

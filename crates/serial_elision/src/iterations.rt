@@ -67,7 +67,7 @@ fn last_iteration(code: &Code) -> u32
 }
 
 /// Runs the iterations up to the one that closes the loop, over cells that `init` has left. Returns
-/// an error only if memory runs out.
+/// an error only if memory runs out; the machine is of no use then.
 pub fn run_loop(
     alloc: Global,
     machine: &mut Machine,

@@ -60,7 +60,7 @@ fn plain_accesses(alloc: Global, accesses: &NodeAccesses) -> Result<Accesses, No
 }
 
 /// Runs `init` or `final` over the cells. Its trap is raised at `place`. Returns an error only if
-/// memory runs out.
+/// memory runs out; the machine is of no use then.
 pub fn run_alone(
     alloc: Global,
     machine: &mut Machine,

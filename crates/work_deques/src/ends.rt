@@ -131,8 +131,8 @@ impl<T: Drop, Q: TaskTest<T>> Ends<T, Q> {
         self.own.pop_as::<Got<Q>>()
     }
 
-    /// Takes the first task of the deque of worker number `victim`, if it has more than one. Tries again
-    /// if another thread was quicker.
+    /// Takes the first task of the deque of worker number `victim`, if there is one. Tries again if
+    /// another thread was quicker.
     pub fn steal<R: Wait>(&mut self, rt: &R, victim: u32) -> Option<T>
         requires victim { victim < front_count self.old }
         ensures test { IfSome result Q.meets }
