@@ -3,7 +3,7 @@ use Rattle.pipe_model.specs.Language.SyntaxTree.{tree_of}
 use Rattle.pipe_model.specs.Pipelines.Behaviour.{Accessed, behaviour_after_all}
 use Rattle.stage_code.specs.declared.instr.Part.TheVariants as parts
 use Rattle.stage_interp.specs.Standing.{IsStopped, behaviour_in}
-use Rattle.machine_tests.proofs.stopped_instances.a_stopped_instance_goes_on.Goals as goal
+use Rattle.language_tests.proofs.stopped_instances.a_stopped_instance_goes_on.Goals as goal
 
 pub run_stage-end-requires-clause-before : goal.run_stage-end-requires-clause-before
 run_stage-end-requires-clause-before g c =
