@@ -1,6 +1,6 @@
 -- The elements so far have been inserted.
 use Rattle.std.proofs.Common.{◌≡◌, ◌+◌, length}
-use Rattle.shared_order_tests.proofs.rows.insert_among.Given as goal
+use Rattle.order_tests.proofs.shared_rows.insert_among.Given as goal
 
 abbrev pub invariant-loop-k : goal.invariant-loop-k
 invariant-loop-k l = record {

@@ -1,8 +1,8 @@
 -- After the meeting the passes have seen the elements of the kept instances and of the new one.
 use Rattle.order_2d.proofs.SeenLogs.{seen_keeps_order}
 use Rattle.access_history.proofs.GrownLists.{in_grown}
-use Rattle.shared_order_tests.proofs.GrownHistories.{kept_grown}
-use Rattle.shared_order_tests.proofs.noted.note_met.Goals as goal
+use Rattle.order_tests.proofs.GrownHistories.{kept_grown}
+use Rattle.order_tests.proofs.noted.note_met.Goals as goal
 
 pub note_with-requires-clause-kept : goal.note_with-requires-clause-kept
 note_with-requires-clause-kept g c =
