@@ -9,7 +9,8 @@ mod dag_rows;
 mod list_rows;
 #[cfg(test)]
 mod many_rows;
-pub mod noted;
+#[cfg(test)]
+mod noted;
 #[cfg(test)]
 mod parent_rows;
 #[cfg(test)]
@@ -18,5 +19,7 @@ mod plays;
 mod range_rows;
 #[cfg(test)]
 mod replay_rows;
-pub mod shared_lists;
-pub mod shared_rows;
+#[cfg(test)]
+mod shared_lists;
+#[cfg(test)]
+mod shared_rows;
