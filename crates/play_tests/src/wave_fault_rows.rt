@@ -1,6 +1,6 @@
 //! Programs that are no wave loops, each with its first fault.
 
-use crate::sources::wave_fault;
+use crate::wave_sources::wave_fault;
 use std::test::Fail;
 use wave_lower::fault::WaveFault;
 

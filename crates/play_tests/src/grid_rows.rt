@@ -2,7 +2,7 @@
 
 ghost use Rattle.std.specs.Prelude.{◌<◌};
 
-use crate::sources::lowered;
+use crate::wave_sources::lowered;
 use pipe_check::checked::Checked;
 use pipe_model::list::Numbers;
 use pipe_model::node::NodeId;

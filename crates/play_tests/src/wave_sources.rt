@@ -1,39 +1,16 @@
 //! Sources of wave loops, and the programs to which they are lowered.
 
-ghost use Rattle.std.specs.Prelude.{◌≤◌, IfOk};
+ghost use Rattle.std.specs.Prelude.{IfOk};
 ghost use Rattle.pipe_model.specs.Language.CheckingRules.{BreaksNoRule};
-ghost use Rattle.pipe_model.specs.Language.SpellablePrograms.{size_of};
 ghost use Rattle.pipe_model.specs.Language.SyntaxTree.{tree_of};
-ghost use Rattle.wave_laws.specs.WaveLaws.{LARGEST_WAVE};
 
+use crate::sources::accepted;
 use pipe_check::checked::Checked;
 use pipe_check::program::check;
-use pipe_lexer::scan::tokens;
-use pipe_parser::parse::parse;
 use std::alloc::Global;
 use std::test::Fail;
 use wave_lower::fault::WaveFault;
 use wave_lower::wave::lower_wave;
-
-fn refused() -> Fail {
-    Fail::new(format_args!("the program is refused"))
-}
-
-// Returns the program of a source, or fails the test if the source is refused.
-fn accepted(alloc: Global, source: &[u8]) -> Result<Checked, Fail>
-    ensures { IfOk result (λ checked. size_of (tree_of checked) ≤ LARGEST_WAVE) }
-{
-    let Ok(tokens) = tokens(alloc, source) else {
-        return Err(refused());
-    };
-    let Ok(parsed) = parse(alloc, source, &tokens) else {
-        return Err(refused());
-    };
-    let Ok(checked) = check(alloc, parsed.program) else {
-        return Err(refused());
-    };
-    Ok(checked)
-}
 
 /// Returns the fault of a source as a wave loop, if it has one.
 pub fn wave_fault(alloc: Global, source: &[u8]) -> Result<Option<WaveFault>, Fail> {
@@ -53,7 +30,7 @@ pub fn lowered(alloc: Global, source: &[u8]) -> Result<Checked, Fail>
         return Err(Fail::new(format_args!("the source is no wave loop")));
     };
     let Ok(lowered) = check(alloc, program) else {
-        return Err(refused());
+        return Err(Fail::new(format_args!("the lowered program is refused")));
     };
     Ok(lowered)
 }

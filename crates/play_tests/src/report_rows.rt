@@ -1,39 +1,18 @@
 //! The lines of races on each kind of cell, and the lines of a run with a trap.
 
-use pipe_check::checked::Checked;
-use pipe_check::program::check;
-use pipe_lexer::scan::tokens;
+use crate::sources::accepted;
 use pipe_model::access::AccessKind::{Read, Write};
 use pipe_model::access::{AccessKind, CellId};
 use pipe_model::list::ListOf;
 use pipe_model::node::NodeId;
 use pipe_model::report::Report;
 use pipe_model::trap::{Trap, TrapAt, TrapPlace};
-use pipe_parser::parse::parse;
 use race_report::outcome::outcome_text;
 use race_report::race_text::text;
-use std::alloc::Global;
 use std::test::Fail;
 
 const SOURCE: &str = "limits iterations 8, stages 4, steps 100, emits 8; \
     cell s = 0; cell a[3] = 0; cell last = 0; pipe_while (s < 1) { s = 1; }";
-
-fn refused() -> Fail {
-    Fail::new(format_args!("the source is refused"))
-}
-
-fn accepted(alloc: Global, source: &[u8]) -> Result<Checked, Fail> {
-    let Ok(tokens) = tokens(alloc, source) else {
-        return Err(refused());
-    };
-    let Ok(parsed) = parse(alloc, source, &tokens) else {
-        return Err(refused());
-    };
-    let Ok(checked) = check(alloc, parsed.program) else {
-        return Err(refused());
-    };
-    Ok(checked)
-}
 
 fn second_of(iteration: u32) -> NodeId {
     NodeId {
