@@ -2,16 +2,20 @@
 
 ghost use Rattle.std.specs.Prelude.{◌≡◌, ◌<◌};
 
-use crate::counting::{COUNTING, COUNTING_LINES, joined};
 use crate::sources::accepted;
 use pipe_model::access::CellId;
 use pipe_model::list::{Bytes, Numbers};
+use pipe_model::memory::NoMemory;
 use run_record::log_text::text;
 use schedule_play::choices::choices;
 use schedule_play::program_play::{Played, play};
 use stage_code::lower::lower;
 use std::alloc::Global;
 use std::test::Fail;
+
+// Counts to 1, waits, and emits the count.
+const COUNTING: &str = "limits iterations 1, stages 2, steps 50, emits 1; \
+    cell n = 0; pipe_while (n < 1) { n = 1; pipe_wait(1); emit n; }";
 
 // Iterations 0 and 1 wait for no one, and both use `f`; the second reads it in stage 0.
 const RACING: &str = "limits iterations 2, stages 3, steps 50, emits 2; \
@@ -21,6 +25,21 @@ const RACING: &str = "limits iterations 2, stages 3, steps 50, emits 2; \
 // Two iterations, of which each waits in its stage 1.
 const WAITING: &str = "limits iterations 2, stages 2, steps 50, emits 0; \
     cell n = 0; pipe_while (n < 2) { n = n + 1; pipe_wait(1); }";
+
+const LINES: [&str; 12] = [
+    "begin 0\n",
+    "read 0 n 0\n",
+    "write 0 n 1\n",
+    "wait 0 1\n",
+    "enter 0\n",
+    "read 0 n 1\n",
+    "read 0 output 0\n",
+    "write 0 output 1\n",
+    "end 0\n",
+    "begin 1\n",
+    "read 1 n 1\n",
+    "closed 1\n",
+];
 
 const WAITING_LINES: [&str; 17] = [
     "begin 0\n",
@@ -88,19 +107,24 @@ fn played(alloc: Global, source: &str, limits: Bounds, choices: &[u32]) -> Resul
     Ok(Seen { play, lines })
 }
 
+fn joined(alloc: Global, lines: &[&str]) -> Result<Bytes, NoMemory> {
+    let mut text = Vec::new(alloc);
+    for line in lines {
+        text.extend_from_slice(line.as_bytes())?;
+    }
+    Ok(Bytes::from_vec(text))
+}
+
 #[test]
 fn a_loop_is_played_to_its_end(rt: HostRuntime) -> Result<(), Fail> {
     let alloc = rt.alloc();
     let seen = played(alloc, COUNTING, limits(1, 2, 100), &[])?;
-    assert_eq!(rt;
-        seen.lines.as_slice(),
-        joined(alloc, &COUNTING_LINES)?.as_slice()
-    );
+    assert_eq!(rt; seen.lines.as_slice(), joined(alloc, &LINES)?.as_slice());
     assert!(rt; seen.play.finished && seen.play.reports.is_empty());
     let front = played(alloc, COUNTING, limits(1, 2, 11), &[])?;
     assert_eq!(rt;
         front.lines.as_slice(),
-        joined(alloc, &COUNTING_LINES[..11])?.as_slice()
+        joined(alloc, &LINES[..11])?.as_slice()
     );
     assert!(rt; !front.play.finished);
     let none = played(alloc, COUNTING, limits(1, 2, 0), &[])?;

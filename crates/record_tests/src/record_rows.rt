@@ -2,9 +2,8 @@
 
 ghost use Rattle.std.specs.Prelude.{◌<◌};
 
-use crate::counting::{COUNTING, COUNTING_LINES, joined};
 use crate::sources::accepted;
-use pipe_model::list::{Bytes, Numbers};
+use pipe_model::list::Numbers;
 use pipe_model::memory::NoMemory;
 use record_check::answer::{RecordAnswer, RunKind};
 use record_check::check_record::check_record;
@@ -13,6 +12,24 @@ use record_parser::parse::parse_record;
 use stage_code::lower::lower;
 use std::alloc::Global;
 use std::test::Fail;
+
+const COUNTING: &str = "limits iterations 1, stages 2, steps 50, emits 1; \
+    cell n = 0; pipe_while (n < 1) { n = 1; pipe_wait(1); emit n; }";
+
+const LINES: [&str; 12] = [
+    "begin 0\n",
+    "read 0 n 0\n",
+    "write 0 n 1\n",
+    "wait 0 1\n",
+    "enter 0\n",
+    "read 0 n 1\n",
+    "read 0 output 0\n",
+    "write 0 output 1\n",
+    "end 0\n",
+    "begin 1\n",
+    "read 1 n 1\n",
+    "closed 1\n",
+];
 
 // What a record is.
 #[derive(Clone, Copy, PartialEq, Eq, Debug)]
@@ -56,10 +73,18 @@ fn expect(alloc: Global, record: &[u8], throttle: u32, wanted: Outcome) -> Resul
     Err(Fail::new(format_args!("{outcome:?}, and not {wanted:?}")))
 }
 
+fn joined(alloc: Global, lines: &[&str]) -> Result<Vec<u8>, NoMemory> {
+    let mut text = Vec::new(alloc);
+    for line in lines {
+        text.extend_from_slice(line.as_bytes())?;
+    }
+    Ok(text)
+}
+
 // The twelve lines, with `change` in place of the line with this index.
-fn changed(alloc: Global, index: usize, change: &[&str]) -> Result<Bytes, NoMemory> {
+fn changed(alloc: Global, index: usize, change: &[&str]) -> Result<Vec<u8>, NoMemory> {
     let mut lines = Vec::new(alloc);
-    for (k, line) in COUNTING_LINES.iter().enumerate() {
+    for (k, line) in LINES.iter().enumerate() {
         if k == index {
             lines.extend_from_slice(change)?;
         } else {
@@ -72,9 +97,9 @@ fn changed(alloc: Global, index: usize, change: &[&str]) -> Result<Bytes, NoMemo
 #[test]
 fn records_are_judged(rt: HostRuntime) -> Result<(), Fail> {
     let alloc = rt.alloc();
-    let all = joined(alloc, &COUNTING_LINES)?;
+    let all = joined(alloc, &LINES)?;
     expect(alloc, all.as_slice(), 1024, Outcome::Run(RunKind::Finished))?;
-    let front = joined(alloc, &COUNTING_LINES[..11])?;
+    let front = joined(alloc, &LINES[..11])?;
     expect(
         alloc,
         front.as_slice(),
@@ -105,7 +130,7 @@ fn stops_end_a_run(rt: HostRuntime) -> Result<(), Fail> {
 #[test]
 fn changed_records_are_refused(rt: HostRuntime) -> Result<(), Fail> {
     let alloc = rt.alloc();
-    for (k, line) in COUNTING_LINES.iter().enumerate() {
+    for (k, line) in LINES.iter().enumerate() {
         let doubled = changed(alloc, k, &[*line, *line])?;
         expect(
             alloc,

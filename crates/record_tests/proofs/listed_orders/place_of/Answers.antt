@@ -1,7 +1,7 @@
 -- The first index at which the element is.
 use Rattle.std.proofs.Common.{sym, arith}
-use Rattle.play_tests.proofs.ListedElements.{place_at, place_nowhere}
-use Rattle.play_tests.proofs.listed_orders.place_of.Goals as goal
+use Rattle.record_tests.proofs.ListedElements.{place_at, place_nowhere}
+use Rattle.record_tests.proofs.listed_orders.place_of.Goals as goal
 
 pub returns-then-x-element : goal.returns-then-x-element
 returns-then-x-element c = sym
