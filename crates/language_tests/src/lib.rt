@@ -1,5 +1,5 @@
-//! Tests of the crates that read, check and print sources. Each row is a source with the expected
-//! result, written by hand.
+//! Tests of the crates that read, check and print sources, and of the machine that runs stage
+//! instances, over a memory that stops. Each row has its expected result, written by hand.
 #![tactic(auto)]
 
 #[cfg(test)]
@@ -14,5 +14,9 @@ mod lexical_rows;
 mod operator_rows;
 #[cfg(test)]
 mod rule_rows;
+#[cfg(test)]
+mod stopped_instances;
+#[cfg(test)]
+mod stopping_memory;
 #[cfg(test)]
 mod syntax_rows;

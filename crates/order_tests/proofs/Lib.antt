@@ -1,3 +1,4 @@
 pub mod OwnStarts
 pub mod PlayedEvents
 pub mod LabelledTests
+pub mod GrownHistories

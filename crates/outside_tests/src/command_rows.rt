@@ -84,57 +84,66 @@ fn push_record(text: &mut String, record: bool) -> Result<(), NoMemory> {
     Ok(())
 }
 
+// Appends a command that runs a pipeline with workers. Of another command it appends nothing.
+fn push_with_workers(text: &mut String, command: Command) -> Result<(), NoMemory> {
+    match command {
+        Command::Run {
+            source,
+            input,
+            workers,
+            throttle,
+            record,
+        } => {
+            write!(text, "run {source} {input} {workers} {throttle}")?;
+            push_record(text, record)?;
+        }
+        Command::Play {
+            source,
+            input,
+            workers,
+            throttle,
+            seed,
+            record,
+        } => {
+            write!(text, "play {source} {input} {workers} {throttle} {seed}")?;
+            push_record(text, record)?;
+        }
+        Command::Wave {
+            source,
+            input,
+            workers,
+            throttle,
+        } => write!(text, "wave {source} {input} {workers} {throttle}")?,
+        _ => {}
+    }
+    Ok(())
+}
+
+fn push_command(text: &mut String, command: Command) -> Result<(), NoMemory> {
+    match command {
+        Command::Serial { source, input } => write!(text, "serial {source} {input}")?,
+        Command::Format { source } => write!(text, "format {source}")?,
+        Command::Bench { seed, size } => write!(text, "bench {seed} {size}")?,
+        Command::CheckRecord {
+            source,
+            input,
+            record,
+            throttle,
+        } => write!(text, "check-record {source} {input} {record} {throttle}")?,
+        Command::Span { source, input } => write!(text, "span {source} {input}")?,
+        Command::Run { .. } | Command::Play { .. } | Command::Wave { .. } => {
+            push_with_workers(text, command)?;
+        }
+    }
+    Ok(())
+}
+
 // The command of a line; empty if it asks for none.
 fn asked(alloc: Global, line: &str) -> Result<String, NoMemory> {
     let mut text = String::new(alloc);
     let words = words(alloc, line)?;
-    match read_words(alloc, words.as_slice())? {
-        None => {}
-        Some(
-            Command::Run {
-                source,
-                input,
-                workers,
-                throttle,
-                record,
-            },
-        ) => {
-            write!(text, "run {source} {input} {workers} {throttle}")?;
-            push_record(&mut text, record)?;
-        }
-        Some(
-            Command::Play {
-                source,
-                input,
-                workers,
-                throttle,
-                seed,
-                record,
-            },
-        ) => {
-            write!(text, "play {source} {input} {workers} {throttle} {seed}")?;
-            push_record(&mut text, record)?;
-        }
-        Some(Command::Serial { source, input }) => write!(text, "serial {source} {input}")?,
-        Some(Command::Format { source }) => write!(text, "format {source}")?,
-        Some(Command::Bench { seed, size }) => write!(text, "bench {seed} {size}")?,
-        Some(
-            Command::CheckRecord {
-                source,
-                input,
-                record,
-                throttle,
-            },
-        ) => write!(text, "check-record {source} {input} {record} {throttle}")?,
-        Some(
-            Command::Wave {
-                source,
-                input,
-                workers,
-                throttle,
-            },
-        ) => write!(text, "wave {source} {input} {workers} {throttle}")?,
-        Some(Command::Span { source, input }) => write!(text, "span {source} {input}")?,
+    if let Some(command) = read_words(alloc, words.as_slice())? {
+        push_command(&mut text, command)?;
     }
     Ok(text)
 }

@@ -1,1 +1,1 @@
-mod RisingRows
+mod ListedElements

@@ -1,8 +1,6 @@
 //! The text of a run log, with the names of a program's cells.
 
-use pipe_check::checked::Checked;
-use pipe_check::program::check;
-use pipe_lexer::scan::tokens;
+use crate::sources::accepted;
 use pipe_model::access::{Access, AccessKind, CellId};
 use pipe_model::column::{ColumnEnd, Columns};
 use pipe_model::event::Event::{Advance, Begin, Enter, Finish, Stop};
@@ -10,30 +8,11 @@ use pipe_model::event::{Event, RunLog};
 use pipe_model::list::ListOf;
 use pipe_model::node::Kind;
 use pipe_model::trap::Trap;
-use pipe_parser::parse::parse;
 use run_record::log_text::text;
-use std::alloc::Global;
 use std::test::Fail;
 
 const SOURCE: &str = "limits iterations 1, stages 2, steps 50, emits 1; \
     cell n = 0; cell a[3] = 0; cell last = 0; pipe_while (n < 1) { n = 1; pipe_wait(1); emit n; }";
-
-fn refused() -> Fail {
-    Fail::new(format_args!("the source is refused"))
-}
-
-fn accepted(alloc: Global, source: &[u8]) -> Result<Checked, Fail> {
-    let Ok(tokens) = tokens(alloc, source) else {
-        return Err(refused());
-    };
-    let Ok(parsed) = parse(alloc, source, &tokens) else {
-        return Err(refused());
-    };
-    let Ok(checked) = check(alloc, parsed.program) else {
-        return Err(refused());
-    };
-    Ok(checked)
-}
 
 fn read(iteration: u32, cell: u32, value: i64) -> Event {
     let access = Access {

@@ -1,7 +1,0 @@
--- At the beginning no instance is kept.
-use Rattle.std.proofs.Common.{[]}
-use Rattle.access_history.proofs.NotedAccesses.{noting_begins}
-use Rattle.history_tests.proofs.history_rows.noted.Goals as goal
-
-pub loop-n-init : goal.loop-n-init
-loop-n-init c = (noting_begins _ _ [] _ c.new-history.ensures).in_lists
