@@ -8,5 +8,6 @@ pub mod machine;
 pub mod memory;
 mod operators;
 pub mod pending;
+mod refusing;
 mod run;
 mod stack;

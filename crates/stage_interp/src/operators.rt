@@ -24,6 +24,39 @@ fn truth(b: bool) -> i64
     i64::from(b)
 }
 
+// Returns the sum, if it fits.
+#[inline(always)]
+fn sum(a: i64, b: i64) -> Result<i64, Trap>
+    ensures { IsResult result (evaluation.operate operator_codes.PLUS a b) }
+{
+    match a.checked_add(b) {
+        Some(v) => Ok(v),
+        None => Err(Trap::Overflow),
+    }
+}
+
+// Returns the difference, if it fits.
+#[inline(always)]
+fn difference(a: i64, b: i64) -> Result<i64, Trap>
+    ensures { IsResult result (evaluation.operate operator_codes.MINUS a b) }
+{
+    match a.checked_sub(b) {
+        Some(v) => Ok(v),
+        None => Err(Trap::Overflow),
+    }
+}
+
+// Returns the product, if it fits.
+#[inline(always)]
+fn product(a: i64, b: i64) -> Result<i64, Trap>
+    ensures { IsResult result (evaluation.operate operator_codes.TIMES a b) }
+{
+    match a.checked_mul(b) {
+        Some(v) => Ok(v),
+        None => Err(Trap::Overflow),
+    }
+}
+
 // Returns the quotient, if there is one.
 #[inline(always)]
 fn divided(a: i64, b: i64) -> Result<i64, Trap>
@@ -58,9 +91,9 @@ pub fn operate(code: u8, a: i64, b: i64) -> Result<i64, Trap>
         AT_MOST => Ok(truth(a <= b)),
         GREATER => Ok(truth(a > b)),
         AT_LEAST => Ok(truth(a >= b)),
-        PLUS => a.checked_add(b).ok_or(Trap::Overflow),
-        MINUS => a.checked_sub(b).ok_or(Trap::Overflow),
-        TIMES => a.checked_mul(b).ok_or(Trap::Overflow),
+        PLUS => sum(a, b),
+        MINUS => difference(a, b),
+        TIMES => product(a, b),
         QUOTIENT => divided(a, b),
         REMAINDER => remainder(a, b),
         _ => Ok(0),
