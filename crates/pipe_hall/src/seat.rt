@@ -24,9 +24,10 @@ use std::marker::Model;
 use std::sync::Wait;
 
 /// A worker's seat beside its hall. Contracts see which hall it is, the events of the book that it has
-/// seen, and how many tokens its calls have given and taken back. `access` waits for the lock of one shard, and asks the order lists without a lock; the
-/// other calls of `Hall` wait for the lock of the book, once each. An access whose ticket would be above
-/// 2^62 is not made, and stops the run as one that runs out of memory does.
+/// seen, and how many tokens its calls have given and taken back. `access` waits for the lock of one
+/// shard, and asks the order lists without a lock; the other calls of `Hall` wait for the lock of the
+/// book, once each. An access whose ticket would be above 2^62 is not made, and stops the run as one
+/// that runs out of memory does.
 #[derive(Drop)]
 pub struct HallSeat<'a, M: Carrier> {
     hall: &'a HallOf<M>,

@@ -1,12 +1,12 @@
--- Tokens that a worker holds: those that its hall has given to it and those of the tasks that it has taken from deques, less those that it has given
--- back and those of the tasks that it has pushed. A task has a number, and `weight` is how many tokens a task with this number has.
+-- Tokens that a worker holds: those that its hall has given to it and those of the tasks that it has taken from deques, less those that it
+-- has given back and those of the tasks that it has pushed. `weight` is how many tokens a task with a given number has.
 use Rattle.std.specs.Prelude.{◌≡◌, ◌+◌, ℕ, Option, Some, None, sum_by}
 use Rattle.pipe_frame.specs.TokenCounts.{TokenCounts, tokens_in}
 use Rattle.pipe_frame.specs.declared.token.Task.{Task}
 use Rattle.work_deques.specs.WorkerEnds.{front_tallies, own_tally}
 use Rattle.work_deques.specs.declared.ends.Ends.{Ends}
 
--- how many tokens a task has that may have been taken
+-- how many tokens came with the task that was taken, if one was
 abbrev pub tokens_taken : {M : Type 0} → Option (Task M) → ℕ
 tokens_taken None = 0
 tokens_taken (Some t) = tokens_in t
