@@ -18,7 +18,7 @@ abbrev pub tokens_of_number : ℕ → ℕ
 tokens_of_number zero = 0
 tokens_of_number (suc n) = 1
 
--- the number of a task tells how many tokens it has
+-- a task to begin an iteration has no token, and any other task has one
 pub number_weighs : {M : Type 0} (t : Task M) → tokens_of_number (task_number t) ≡ tokens_in t
 number_weighs Begin = refl
 number_weighs (Resume t) = refl

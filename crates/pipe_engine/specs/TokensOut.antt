@@ -14,7 +14,7 @@ module _ {H : Type 0} (tokens : H → TokenCounts) where
   abbrev pub returned_to : List H → ℕ
   returned_to seats = sum_by (λ s. (tokens s).returned) seats
 
-  -- between two moments so many tokens were given and not taken back
+  -- from `old` to `new`, `count` more tokens were given than taken back
   abbrev pub AreOut : ℕ → List H → List H → Type 0
   AreOut count old new = given_by new + returned_to old ≡ given_by old + returned_to new + count
 

@@ -20,7 +20,7 @@ module _ {T Q : Type 0} (weight : ℕ → ℕ) where
   abbrev pub put_by : Ends T Q → ℕ
   put_by e = sum_by weight (own_tally e).put + sum_by (λ v. sum_by weight v.put) (front_tallies e)
 
-  -- between two moments so many tokens more were taken from deques than were pushed
+  -- from `old` to `new`, the tasks taken have `more` tokens more than the tasks pushed
   abbrev pub TakesTokens : ℕ → Ends T Q → Ends T Q → Type 0
   TakesTokens more old new = taken_by new + put_by old ≡ taken_by old + put_by new + more
 

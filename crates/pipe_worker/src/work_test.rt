@@ -26,6 +26,6 @@ pub trait WorkTest<M: Stands + Drop>: TaskTest<Task<M>> {
     /// How many tokens a task with this number has.
     ghost weight: { ℕ → ℕ };
 
-    /// The number of a task tells how many tokens it has.
+    /// This is right for every task.
     ghost weighs: { (t : Task M) → weight (Self.tag t) ≡ tokens_in t };
 }
