@@ -28,7 +28,7 @@ use Rattle.pipe_model.specs.Pipelines.WholePrograms.{program_columns}
 use Rattle.cilkp_program.specs.declared.program_run.TheConstants.{MOST_INSTANCES}
 use Rattle.cilkp_program.specs.SerialResults.{elision_columns, elision_output}
 use Rattle.cilkp_program.specs.Benchmarks.{IsGenerated, elision_summary, last_or_zero, summary_text}
-use Rattle.cilkp_program.specs.CallResults.{IsCallResult, OfRow, SourceFault, InputFault, RecordFault, IsPrinted}
+use Rattle.cilkp_program.specs.PrintedResults.{IsCallResult, OfRow, SourceFault, InputFault, RecordFault, IsPrinted}
 use Rattle.cilkp_program.specs.declared.load.Input.{Input}
 use Rattle.cilkp_program.specs.declared.load.Input.TheVariants as inputs
 use Rattle.cilkp_program.specs.declared.load.Source.{Source}

@@ -5,7 +5,7 @@ use Rattle.pipe_model.specs.declared.report.Report.{Report}
 use Rattle.pipe_model.specs.Language.CanonicalText.{program_text}
 use Rattle.pipe_model.specs.Language.SyntaxTree.{SyntaxTree}
 use Rattle.cilkp_program.specs.TakenText.{HasTaken}
-use Rattle.cilkp_program.specs.CallResults.{IsCallResult, OfRow, SourceFault, InputFault, RecordFault, IsPrinted}
+use Rattle.cilkp_program.specs.PrintedResults.{IsCallResult, OfRow, SourceFault, InputFault, RecordFault, IsPrinted}
 use Rattle.pipe_io.specs.Faults.{CountRose}
 use Rattle.cilkp_program.specs.Formatting.{ReturnsText, IsToFormat}
 use Rattle.pipe_io.specs.Reads.{Content}

@@ -19,7 +19,7 @@ use Rattle.cilkp_program.proofs.OneCommand.{apart, no_command, one_command}
 use Rattle.cilkp_program.proofs.OneContent.{one_input, one_source, refused_no_input, refused_not_accepted_file}
 use Rattle.cilkp_program.proofs.OneRow.{unrecorded}
 use Rattle.cilkp_program.proofs.OneWave.{refused_no_wave}
-use Rattle.cilkp_program.specs.CallResults.{IsCallResult, OfRow, SourceFault, InputFault, RecordFault, IsPrinted}
+use Rattle.cilkp_program.specs.PrintedResults.{IsCallResult, OfRow, SourceFault, InputFault, RecordFault, IsPrinted}
 use Rattle.cilkp_program.specs.CommandFiles.{asks_record, asks_wave, program_by}
 use Rattle.cilkp_program.specs.Headline.{AgreesWithElision, MeetsHeadline}
 use Rattle.cilkp_program.specs.ProgramFiles.{FileContents, IsSourceOf}

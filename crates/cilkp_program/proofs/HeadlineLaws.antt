@@ -20,7 +20,7 @@ use Rattle.cilkp_program.proofs.GreaterLimits.{meets_more}
 use Rattle.cilkp_program.specs.RunTexts.{IsPrintedAs, WithRaces, ToItsEnd, WithTrap}
 use Rattle.cilkp_program.proofs.OneCommand.{one_limit, runs_no_command, runs_no_wave, runs_nothing}
 use Rattle.cilkp_program.proofs.OneContent.{one_input, one_source, refused_no_input, refused_not_accepted_file}
-use Rattle.cilkp_program.specs.CallResults.{IsCallResult, OfRow, SourceFault, InputFault, RecordFault, IsPrinted}
+use Rattle.cilkp_program.specs.PrintedResults.{IsCallResult, OfRow, SourceFault, InputFault, RecordFault, IsPrinted}
 use Rattle.cilkp_program.specs.Headline.{AgreesWithElision, IsToRun, MeetsHeadline}
 use Rattle.cilkp_program.specs.CommandFiles.{asks_record, asks_wave, program_by}
 use Rattle.cilkp_program.specs.declared.program_run.FinishedRun.{FinishedRun}

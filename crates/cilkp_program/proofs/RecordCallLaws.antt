@@ -8,7 +8,7 @@ use Rattle.pipe_io.specs.Reads.{Content}
 use Rattle.cilkp_words.specs.Commands.{Command}
 use Rattle.cilkp_program.proofs.OneCommand.{apart, no_command, one_check, run_is_not_check}
 use Rattle.cilkp_program.proofs.OneContent.{one_input, one_source, refused_no_input, refused_not_accepted_file}
-use Rattle.cilkp_program.specs.CallResults.{IsCallResult, OfRow, SourceFault, InputFault, RecordFault, IsPrinted}
+use Rattle.cilkp_program.specs.PrintedResults.{IsCallResult, OfRow, SourceFault, InputFault, RecordFault, IsPrinted}
 use Rattle.cilkp_program.specs.ProgramFiles.{FileContents}
 use Rattle.cilkp_program.specs.RecordCalls.{IsToCheck, ReturnsCheck}
 use Rattle.cilkp_program.specs.RecordResults.{RecordResult}

@@ -19,7 +19,7 @@ use Rattle.cilkp_words.specs.Commands.{Command, Run, Play, Serial, Format, Bench
 use Rattle.cilkp_program.specs.declared.command_result.CommandResult.{CommandResult}
 use Rattle.cilkp_program.specs.declared.load.Source.TheVariants as sources
 use Rattle.cilkp_program.specs.declared.load.Input.TheVariants as inputs
-use Rattle.cilkp_program.specs.CallResults.{IsCallResult, OfRow, SourceFault, InputFault, RecordFault}
+use Rattle.cilkp_program.specs.PrintedResults.{IsCallResult, OfRow, SourceFault, InputFault, RecordFault}
 use Rattle.cilkp_program.specs.CommandFiles.{NamesInput, NamesRecord, NamesSource, asks_record, asks_wave, input_in, record_in, source_in}
 use Rattle.cilkp_program.specs.LoadedFiles.{IsInputResult, IsSourceResult}
 use Rattle.cilkp_program.specs.LoadedRecords.{IsSavedResult, Judged, Unread}

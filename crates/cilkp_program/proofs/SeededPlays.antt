@@ -20,7 +20,7 @@ use Rattle.cilkp_program.proofs.HeadlineLaws.{run_returned}
 use Rattle.cilkp_program.proofs.OneCommand.{apart, one_command}
 use Rattle.cilkp_program.proofs.OneContent.{one_input, one_source}
 use Rattle.cilkp_program.specs.CommandFiles.{asks_record}
-use Rattle.cilkp_program.specs.CallResults.{InputFault, IsCallResult, OfRow, RecordFault, SourceFault}
+use Rattle.cilkp_program.specs.PrintedResults.{InputFault, IsCallResult, OfRow, RecordFault, SourceFault}
 use Rattle.cilkp_program.specs.declared.program_run.FinishedRun.{FinishedRun}
 use Rattle.cilkp_program.specs.Headline.{IsToRun}
 use Rattle.cilkp_program.specs.ProgramFiles.{FileContents}

@@ -17,7 +17,7 @@ pub mod SpanCalls
 pub mod Formatting
 pub mod BenchCalls
 pub mod RefusalLines
-pub mod CallResults
+pub mod PrintedResults
 pub mod PreparedFiles
 pub mod LoadedFiles
 pub mod WaveRefusals

@@ -3,7 +3,7 @@ use Rattle.std.specs.Prelude.{◌≡◌, ℕ, ℤ, List, Bool, Option, IfSome}
 use Rattle.pipe_model.specs.Language.SyntaxTree.{SyntaxTree, tree_of}
 use Rattle.cilkp_program.specs.declared.prepare.Prepared.{Prepared}
 use Rattle.cilkp_program.specs.declared.prepare.Prepared.TheVariants as prepared
-use Rattle.cilkp_program.specs.CallResults.{IsCallResult}
+use Rattle.cilkp_program.specs.PrintedResults.{IsCallResult}
 use Rattle.pipe_io.specs.Reads.{Content}
 use Rattle.cilkp_program.specs.ProgramFiles.{IsInputOf, IsSourceOf}
 use Rattle.cilkp_program.specs.CommandFiles.{CanRunBy, NamesInput, NamesSource, asks_wave, program_by}
