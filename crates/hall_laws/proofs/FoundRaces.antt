@@ -34,7 +34,7 @@ use Rattle.program_laws.proofs.ControlOutlines.{control_goes_by_outlines}
 use Rattle.program_laws.proofs.HistoryFolds.{histories_are_states}
 use Rattle.race_detection.proofs.RunReports.{runs_are_detected}
 use Rattle.race_detection.specs.FoundReports.{cell_bound, found_reports}
-use Rattle.race_report.specs.FoundReports.{IsFoundIn, report_found}
+use Rattle.race_report.specs.RaceReports.{IsFoundIn, report_found}
 use Rattle.run_laws.proofs.RaceHistories.RunHistories.{histories_find_the_first_race}
 use Rattle.run_laws.proofs.RunStates.IterationCounts.{runs_keep_rules}
 use Rattle.hall_laws.specs.HallReports.{AreFound, FindsRacesOf, HaveNotedEntries, HistoriesFindRaces, cell_of, columns_of_book, starts_of_book}

@@ -11,7 +11,7 @@ use Rattle.pipe_model.specs.Runs.State.{Frame}
 use Rattle.pipe_model.specs.Runs.WholeProgramRuns.{OfLoop, WithLoop}
 use Rattle.program_laws.proofs.Headlines.{runs_meet_the_headline}
 use Rattle.run_laws.proofs.RunStates.IterationCounts.{runs_keep_rules}
-use Rattle.race_report.specs.FoundReports.{IsFoundIn, column_nodes, report_found}
+use Rattle.race_report.specs.RaceReports.{IsFoundIn, column_nodes, report_found}
 use Rattle.run_record.proofs.RunColumns.{runs_make_their_columns}
 use Rattle.hall_laws.specs.HallPrograms.{FinishedHallsMeetTheHeadline, MergedHallsReportTheirRaces, MergedHallsAreProgramRuns, whole_in}
 use Rattle.hall_laws.specs.HallRuns.{IsRunOfHall}

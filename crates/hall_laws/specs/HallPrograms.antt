@@ -18,7 +18,7 @@ use Rattle.pipe_model.specs.Runs.Throttling.{IsThrottled}
 use Rattle.pipe_model.specs.Runs.WholeProgramRuns.{IsFinishedProgramRun, ProgramRun, run_output, run_trap}
 use Rattle.frame_book.specs.BookStates.{BookState, state_of}
 use Rattle.program_laws.specs.ProgramHeadline.{MeetsProgramHeadline, exit_status, printed_text}
-use Rattle.race_report.specs.FoundReports.{IsFoundIn, column_nodes, report_found}
+use Rattle.race_report.specs.RaceReports.{IsFoundIn, column_nodes, report_found}
 use Rattle.run_record.specs.MergedLogs.{AreMerged}
 use Rattle.run_record.specs.OwnColumns.{made_columns}
 use Rattle.hall_laws.specs.ClosedHalls.{ClosedHall, NoTokenIsOut}

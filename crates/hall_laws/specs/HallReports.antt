@@ -23,7 +23,7 @@ use Rattle.pipe_model.specs.Runs.State.{accesses_of}
 use Rattle.frame_book.specs.BookStates.{BookState, events_of}
 use Rattle.race_detection.specs.FoundReports.{found_reports}
 use Rattle.race_detection.specs.NotedRuns.{found_of, history_at}
-use Rattle.race_report.specs.FoundReports.{IsFoundIn, report_found}
+use Rattle.race_report.specs.RaceReports.{IsFoundIn, report_found}
 use Rattle.run_record.specs.MergedLogs.{shard_at}
 use Rattle.hall_laws.specs.HallRuns.{IsRunOfHall, entries_to}
 

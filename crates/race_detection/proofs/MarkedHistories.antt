@@ -18,7 +18,7 @@ use Rattle.pipe_model.specs.Orders.OrderList.{list_of_log, place}
 use Rattle.pipe_model.specs.Orders.TwoOrders.{down_first_log, down_place, right_first_log, right_place}
 use Rattle.pipe_model.specs.Races.CellRaces.{NotedAccess, noted_access}
 use Rattle.pipe_model.specs.Races.Columns.{IsNodeOf}
-use Rattle.race_report.specs.FoundReports.{IsFoundIn}
+use Rattle.race_report.specs.RaceReports.{IsFoundIn}
 use Rattle.race_detection.specs.NotedRuns.{HasNoted, IsMarked}
 
 -- ---- the orders of the starts agree with the lists

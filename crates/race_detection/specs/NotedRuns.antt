@@ -17,7 +17,7 @@ use Rattle.pipe_model.specs.Orders.Starts.{AreStarts, IsStarted}
 use Rattle.pipe_model.specs.Orders.TwoOrders.{down_first_log, down_place, right_first_log, right_place}
 use Rattle.pipe_model.specs.Races.CellRaces.{NotedAccess, accesses_to}
 use Rattle.pipe_model.specs.Races.Columns.{AreColumns, IsNodeOf}
-use Rattle.race_report.specs.FoundReports.{IsFoundIn}
+use Rattle.race_report.specs.RaceReports.{IsFoundIn}
 
 -- the lists and the marks are those of a run with these columns
 pub record IsReplayOf (columns : List (List Node)) (r : Replayed) : Type 0 where

@@ -11,7 +11,7 @@ use Rattle.pipe_model.specs.declared.access.CellId.{CellId}
 use Rattle.pipe_model.specs.declared.node.Node.{Node}
 use Rattle.pipe_model.specs.declared.report.Report.{Report}
 use Rattle.pipe_model.specs.Races.Reports.{RiseByCell}
-use Rattle.race_report.specs.FoundReports.{report_found}
+use Rattle.race_report.specs.RaceReports.{report_found}
 
 flips : (m n : ℕ) → eqb m n ≡ eqb n m
 flips m n = grind (arith, nat_tests)

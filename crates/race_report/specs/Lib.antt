@@ -1,2 +1,2 @@
 pub mod CellNames
-pub mod FoundReports
+pub mod RaceReports

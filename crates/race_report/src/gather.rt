@@ -4,7 +4,7 @@ ghost use Rattle.std.specs.Prelude.{◌≡◌, ◌≢◌, All, AllPairs, IfOk, m
 ghost use Rattle.std.specs.List.Sorted.{IsPermutation};
 ghost use Rattle.pipe_model.specs.Races.Columns.{IsNodeOf};
 ghost use Rattle.pipe_model.specs.Races.Reports.{RiseByCell, number_at};
-ghost use Rattle.race_report.specs.FoundReports.{IsFoundIn, column_nodes, report_found};
+ghost use Rattle.race_report.specs.RaceReports.{IsFoundIn, column_nodes, report_found};
 
 use access_history::history::Found;
 use pipe_model::access::CellId;

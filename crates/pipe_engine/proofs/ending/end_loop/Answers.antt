@@ -8,7 +8,7 @@ use Rattle.pipe_model.specs.declared.access.CellId.{CellId}
 use Rattle.pipe_model.specs.declared.ticket.BookEntry.{BookEntry}
 use Rattle.pipe_model.specs.declared.ticket.ShardEntry.{ShardEntry}
 use Rattle.pipe_model.specs.Language.SyntaxTree.{tree_of}
-use Rattle.race_report.specs.FoundReports.{IsFoundIn, column_nodes, report_found}
+use Rattle.race_report.specs.RaceReports.{IsFoundIn, column_nodes, report_found}
 use Rattle.run_record.specs.MergedLogs.{AreMerged, BookRises, ShardRises}
 use Rattle.pipe_engine.proofs.ending.end_loop.Goals as goal
 

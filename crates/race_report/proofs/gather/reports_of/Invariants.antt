@@ -1,6 +1,6 @@
 -- The reports so far.
 use Rattle.std.proofs.Common.{◌≡◌, map, take}
-use Rattle.race_report.specs.FoundReports.{column_nodes, report_found}
+use Rattle.race_report.specs.RaceReports.{column_nodes, report_found}
 use Rattle.race_report.proofs.gather.reports_of.Given as goal
 
 abbrev pub invariant-loop-cell : goal.invariant-loop-cell
