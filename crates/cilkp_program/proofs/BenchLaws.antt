@@ -25,7 +25,7 @@ use Rattle.cilkp_program.specs.declared.bench.Measured.{Measured}
 use Rattle.pipe_model.specs.declared.column.Column.{Column}
 use Rattle.pipe_model.specs.Language.ProgramsOfTrees.{whole_of}
 use Rattle.pipe_model.specs.Pipelines.WholePrograms.{program_columns}
-use Rattle.cilkp_program.specs.declared.program_run.TheConstants.{MOST_INSTANCES}
+use Rattle.cilkp_program.specs.declared.program_run.TheConstants.{MOST_COUNTED_INSTANCES}
 use Rattle.cilkp_program.specs.SerialResults.{elision_columns, elision_output}
 use Rattle.cilkp_program.specs.Benchmarks.{IsGenerated, elision_summary, last_or_zero, summary_text}
 use Rattle.cilkp_program.specs.PrintedResults.{IsCallResult, OfRow, SourceFault, InputFault, RecordFault, IsPrinted}
@@ -74,7 +74,7 @@ same_summary seed size tree other numbers others text g e h =
 
 -- the columns of the elision have as many instances as it has
 pub counts_are_few : (tree : SyntaxTree) (numbers : List ℤ) (columns : List Column) → columns ≡ program_columns (whole_of tree numbers)
-    → instances_in (elision_columns tree numbers) ≤ MOST_INSTANCES → instances_in (node_columns columns) ≤ MOST_INSTANCES
+    → instances_in (elision_columns tree numbers) ≤ MOST_COUNTED_INSTANCES → instances_in (node_columns columns) ≤ MOST_COUNTED_INSTANCES
 counts_are_few tree numbers columns is few = rw (given_columns tree numbers columns is) few
 
 -- what is measured of columns and an output that are the elision's

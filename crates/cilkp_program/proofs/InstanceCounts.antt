@@ -18,7 +18,7 @@ use Rattle.program_laws.specs.WorkBounds.{instances_in, most_instances}
 use Rattle.workload_laws.proofs.AcceptedSources.{accepted}
 use Rattle.workload_laws.specs.GeneratedPrograms.{generated_tree}
 use Rattle.cilkp_program.proofs.SerialDags.{serial_log}
-use Rattle.cilkp_program.specs.declared.program_run.TheConstants.{MOST_INSTANCES}
+use Rattle.cilkp_program.specs.declared.program_run.TheConstants.{MOST_COUNTED_INSTANCES}
 use Rattle.cilkp_program.specs.SerialResults.{elision_columns, elision_log}
 
 -- ---- counting column by column
@@ -39,8 +39,8 @@ counted_within (c ∷ cs) (suc k) = let h = counted_within cs k in omega (arith,
 
 -- the columns so far have no more instances than all
 pub count_is_small : (columns : List Column) (k count : ℕ) (column : Column) → k < length columns → column ≡ get_or columns k column
-    → count ≡ instances_in (node_columns (take k columns)) → instances_in (node_columns columns) ≤ MOST_INSTANCES
-    → count + length column.nodes ≤ MOST_INSTANCES
+    → count ≡ instances_in (node_columns (take k columns)) → instances_in (node_columns columns) ≤ MOST_COUNTED_INSTANCES
+    → count + length column.nodes ≤ MOST_COUNTED_INSTANCES
 count_is_small columns k count column w at counted small =
     let more = counted_with columns k column w at in
     let within = counted_within columns (suc k) in
@@ -56,7 +56,7 @@ run_is_small tree numbers limit events s form (OfLoop free r) = program_instance
 
 -- the elision of a generated program has at most six instances an item, and one more
 pub elision_is_small : (size : ℕ) (tree : SyntaxTree) (numbers : List ℤ) → 1 ≤ size → size ≤ MOST_SIZE → IsAccepted (source_text size) tree
-    → instances_in (elision_columns tree numbers) ≤ MOST_INSTANCES
+    → instances_in (elision_columns tree numbers) ≤ MOST_COUNTED_INSTANCES
 elision_is_small size tree numbers some few form =
     let h = serial_log tree numbers 1 (record { obeys = form.obeys }) (omega arith) in
     let small = run_is_small tree numbers 1 (elision_log tree numbers).events (state_after (elision_log tree numbers).events) (record { obeys = form.obeys }) h.run.run in

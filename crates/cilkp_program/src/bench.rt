@@ -63,7 +63,7 @@ struct Measured {
 
 // The counts of columns and of an output.
 fn measure(workers: u32, columns: &Columns, output: &Numbers) -> Measured
-    requires { instances_in (node_columns columns.now) ≤ bounds.MOST_INSTANCES }
+    requires { instances_in (node_columns columns.now) ≤ bounds.MOST_COUNTED_INSTANCES }
     ensures { result ≡ record { workers = workers; instances = instances_in (node_columns columns.now); last = last_or_zero output.now } }
 {
     Measured {
@@ -85,7 +85,7 @@ fn measured_run<R: Threads + Wait + Sync, G: Gate + Sync>(
     gate: &G,
 ) -> Result<Measured, NoMemory>
     requires accepted { BreaksNoRule (tree_of checked.now) }
-    requires few { instances_in (elision_columns (tree_of checked.now) input.now) ≤ bounds.MOST_INSTANCES }
+    requires few { instances_in (elision_columns (tree_of checked.now) input.now) ≤ bounds.MOST_COUNTED_INSTANCES }
     requires workers { 1 ≤ workers }
     requires throttle { (1 ≤ throttle) × (throttle ≤ ranges.MOST_THROTTLE) }
     ensures { IfOk result (λ m. m ≡ record {

@@ -41,8 +41,8 @@ const RACES: u8 = 2;
 
 const TRAPPED: u8 = 3;
 
-/// More stage instances than a run of an accepted program has.
-pub const MOST_INSTANCES: u64 = 1_000_000;
+/// The most instances that are counted: more than a run of an accepted program has.
+pub const MOST_COUNTED_INSTANCES: u64 = 1_000_000;
 
 /// A finished run of a program.
 #[derive(Drop)]
@@ -169,7 +169,7 @@ pub fn recorded(
 
 /// Counts the stage instances of the columns of a run.
 pub fn instance_count(columns: &Columns) -> u64
-    requires { instances_in (node_columns columns.now) ≤ bounds.MOST_INSTANCES }
+    requires { instances_in (node_columns columns.now) ≤ bounds.MOST_COUNTED_INSTANCES }
     ensures { result ≡ instances_in (node_columns columns.now) }
 {
     let mut count = 0;

@@ -2,7 +2,7 @@
 use Rattle.std.proofs.Common.{◌≡◌, ◌∙◌, sym, ap, subst, ℕ, ℤ, ◌-◌, ◌<◌, ◌≤◌, ◌^◌, ◌↔◌, List, length, arith, inl, inr}
 use Rattle.std.proofs.lemmas.Bool.{cases_lt}
 use Rattle.std.proofs.lemmas.List.{take_all}
-use Rattle.order_2d.specs.declared.starts.TheConstants.{MOST_INSTANCES}
+use Rattle.order_2d.specs.declared.starts.TheConstants.{MOST_STARTS}
 use Rattle.order_2d.specs.LogStarts.{IsControlLog, IsOwnLog, log_columns, log_starts, nodes_of_columns}
 use Rattle.order_2d.specs.OrderPairs.{OrderPair}
 use Rattle.order_2d.specs.ReplayedOrders.{OrdersArePrecedes, marks_of_starts}
@@ -44,7 +44,7 @@ own_rising events h i =
     ]
 
 -- no column is longer than a bound on the starts
-own_short : (events : List Event) → IsControlLog events → length (log_starts events) ≤ MOST_INSTANCES → (i : ℕ)
+own_short : (events : List Event) → IsControlLog events → length (log_starts events) ≤ MOST_STARTS → (i : ℕ)
     → length (nodes_at (log_columns events) i) < 2 ^ 32
 own_short events h few i =
     let own = own_starts events h in
@@ -62,7 +62,7 @@ pub same_columns : (log : RunLog) → IsOwnLog log → (columns : List Column) �
 same_columns log own columns same = ap nodes_of_columns same ∙ own.columns
 
 -- it can be replayed
-pub can_replay : (log : RunLog) → IsOwnLog log → length (log_starts log.events) ≤ MOST_INSTANCES
+pub can_replay : (log : RunLog) → IsOwnLog log → length (log_starts log.events) ≤ MOST_STARTS
     → (columns : List Column) → columns ≡ log.columns → (starts : List NodeId) → starts ≡ log_starts log.events
     → (numbers : List (List ℤ)) → numbers ≡ numbers_of (nodes_of_columns columns)
     → CanReplay (nodes_of_columns columns) starts numbers

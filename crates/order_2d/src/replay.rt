@@ -14,7 +14,7 @@ ghost use Rattle.pipe_model.specs.declared.node.NodeId.{NodeId as PlainNodeId};
 
 use crate::parents::{column_numbers, left_index};
 use crate::started::{Row, StartedNode, above, joined_index, left_marks, marks_of};
-use crate::starts::{MOST_INSTANCES, starts_of_log};
+use crate::starts::{MOST_STARTS, starts_of_log};
 use crate::two_orders::TwoOrders;
 use om_list::om_list::OmList;
 use pipe_model::column::Column;
@@ -124,7 +124,7 @@ fn start_all(
 
 // Two orders with room for `count` instances.
 fn empty_orders(alloc: Global, count: usize) -> Result<TwoOrders<OmList>, NoMemory>
-    requires { count ≤ MOST_INSTANCES }
+    requires { count ≤ MOST_STARTS }
     ensures down { IfOk result (λ o. (o.down.log ≡ []) × (2 * count < o.down.capacity)) }
     ensures right { IfOk result (λ o. (o.right.log ≡ []) × (2 * count < o.right.capacity)) }
 {
@@ -141,7 +141,7 @@ fn empty_orders(alloc: Global, count: usize) -> Result<TwoOrders<OmList>, NoMemo
 /// those that they make. Returns an error only if memory runs out.
 pub fn replay(alloc: Global, run_log: &RunLog) -> Result<Replayed, NoMemory>
     requires own { IsOwnLog run_log.now }
-    requires few { length (log_starts run_log.now.events) ≤ MOST_INSTANCES }
+    requires few { length (log_starts run_log.now.events) ≤ MOST_STARTS }
     ensures nodes { IfOk result (λ r. r.nodes ≡ log_starts run_log.now.events) }
     ensures down { IfOk result (λ r. r.orders.down.log ≡ down_first_log (log_starts run_log.now.events)) }
     ensures right { IfOk result (λ r. r.orders.right.log ≡ right_first_log (log_columns run_log.now.events) (log_starts run_log.now.events)) }

@@ -2,7 +2,7 @@
 
 ghost use Rattle.std.specs.Prelude.{◌≡◌, ◌≤◌, ◌<◌, ℕ, All, [], IfOk, length, OnOk};
 ghost use Rattle.order_2d.specs.LogStarts.{IsOwnLog, log_columns, log_starts, nodes_of_columns};
-ghost use Rattle.order_2d.specs.declared.starts.TheConstants.{MOST_INSTANCES};
+ghost use Rattle.order_2d.specs.declared.starts.TheConstants.{MOST_STARTS};
 ghost use Rattle.pipe_model.specs.Races.Columns.{IsNodeOf};
 ghost use Rattle.pipe_model.specs.declared.access.NodeAccess.{NodeAccess as PlainAccess};
 ghost use Rattle.race_detection.specs.FoundReports.{cell_bound, found_reports};
@@ -80,7 +80,7 @@ fn found_races(alloc: Global, histories: &[History]) -> Result<Vec<(CellId, Foun
 /// if memory runs out.
 pub fn detect(alloc: Global, run_log: &RunLog, accesses: &NodeAccesses) -> Result<Reports, NoMemory>
     requires own { IsOwnLog run_log.now }
-    requires few { length (log_starts run_log.now.events) ≤ MOST_INSTANCES }
+    requires few { length (log_starts run_log.now.events) ≤ MOST_STARTS }
     requires inside { All (λ (a : PlainAccess). IsNodeOf (log_columns run_log.now.events) a.node) accesses.now }
     ensures { IfOk result (λ reports. reports ≡ found_reports (log_columns run_log.now.events) (log_starts run_log.now.events) accesses.now) }
 {

@@ -14,7 +14,7 @@ use Rattle.schedule_play.specs.declared.loop_play.PlayLimits.{PlayLimits}
 use Rattle.schedule_play.specs.LoopPlays.{IsEndOf, IsLoopPlay}
 use Rattle.schedule_play.specs.OneAccess.{HasAllCells}
 use Rattle.schedule_play.specs.PlayStates.{IsPlay, PlayState, pipeline_played, run_state}
-use Rattle.order_2d.specs.declared.starts.TheConstants.{MOST_INSTANCES}
+use Rattle.order_2d.specs.declared.starts.TheConstants.{MOST_STARTS}
 use Rattle.order_2d.specs.LogStarts.{IsOwnLog, log_columns, log_starts, nodes_of_columns}
 use Rattle.pipe_model.specs.declared.access.NodeAccess.{NodeAccess}
 use Rattle.pipe_model.specs.declared.column.Column.{Column}
@@ -59,7 +59,7 @@ column_inside (c ∷ cs) (suc i) k w = let h = column_inside cs i k w in omega (
 pub record IsDetectable (columns : List Column) (events : List Event) (accesses : List NodeAccess) : Type 0 where
   pub ended : columns ≡ ended_columns_after events
   pub own : IsOwnLog (record { columns = columns; events = events })
-  pub few : length (log_starts events) ≤ MOST_INSTANCES
+  pub few : length (log_starts events) ≤ MOST_STARTS
   pub inside : All (λ (a : NodeAccess). IsNodeOf (log_columns events) a.node) accesses
   pub found : found_reports (log_columns events) (log_starts events) accesses ≡ found_reports (own_columns (state_after events)) (starts_of events) accesses
 
