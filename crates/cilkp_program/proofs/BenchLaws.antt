@@ -34,7 +34,7 @@ use Rattle.cilkp_program.specs.declared.load.Input.TheVariants as inputs
 use Rattle.cilkp_program.specs.declared.load.Source.{Source}
 use Rattle.cilkp_program.specs.declared.load.Source.TheVariants as sources
 use Rattle.cilkp_program.specs.LoadedFiles.{IsLoadOf, IsReadOf}
-use Rattle.cilkp_program.specs.Rows.{Benches}
+use Rattle.cilkp_program.specs.ResultTable.{Benches}
 use Rattle.cilkp_program.specs.TakenText.{HasTaken}
 
 -- a generated source is loaded as a program

@@ -10,7 +10,7 @@ use Rattle.pipe_io.specs.Faults.{CountRose}
 use Rattle.cilkp_program.specs.Formatting.{ReturnsText, IsToFormat}
 use Rattle.pipe_io.specs.Reads.{Content}
 use Rattle.cilkp_program.specs.ProgramFiles.{FileContents, IsSourceOf}
-use Rattle.cilkp_program.specs.Rows.{Row, Formats}
+use Rattle.cilkp_program.specs.ResultTable.{ResultRow, Formats}
 use Rattle.cilkp_words.specs.Commands.{Command, Format}
 use Rattle.cilkp_program.proofs.OneCommand.{format_asks_no_run}
 use Rattle.cilkp_program.proofs.OneRow.{one_row}
@@ -25,7 +25,7 @@ record IsTextOf (tree : SyntaxTree) (status : ℕ) (text : List ℕ) (log : Opti
 -- the row of such a call
 text_row : {asked : Option Command} {held : FileContents} {status : ℕ} {text : List ℕ} {log : Option RunLog} {reports : List Report}
     (tree : SyntaxTree) (source : List ℕ)
-    → asked ≡ Some (Format source) → IsSourceOf held.source tree → Row asked held status text log reports → IsTextOf tree status text log reports
+    → asked ≡ Some (Format source) → IsSourceOf held.source tree → ResultRow asked held status text log reports → IsTextOf tree status text log reports
 text_row tree source w s row =
     let one = one_row (format_asks_no_run w) row (Formats source tree w s) in record { done = one.0; text_is = one.1; not_run = one.2; silent = one.3 }
 

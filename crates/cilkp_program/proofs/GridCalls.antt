@@ -24,7 +24,7 @@ use Rattle.cilkp_program.specs.CommandFiles.{asks_record, asks_wave, program_by}
 use Rattle.cilkp_program.specs.Headline.{AgreesWithElision, MeetsHeadline}
 use Rattle.cilkp_program.specs.ProgramFiles.{FileContents, IsSourceOf}
 use Rattle.cilkp_program.specs.RecordedRuns.{IsRecordedRun}
-use Rattle.cilkp_program.specs.Rows.{IsLogOf, OfPlay, OfRun, OfWave, Row, NoCommand, SourceRefused, Formats, Benches, WaveRefused, InputRefused, Runs, RunsSerially, ChecksRecord, Weighs}
+use Rattle.cilkp_program.specs.ResultTable.{IsLogOf, OfPlay, OfRun, OfWave, ResultRow, NoCommand, SourceRefused, Formats, Benches, WaveRefused, InputRefused, Runs, RunsSerially, ChecksRecord, Weighs}
 use Rattle.cilkp_program.specs.WaveCalls.{AgreesWithGrid, IsToRunWave, ReturnsGrid}
 
 -- what agrees with the elision of the lowered program agrees with the grid
@@ -68,7 +68,7 @@ obeys_rules tree s = record { obeys = s.accepted.obeys }
 grid_row : {asked : Option Command} {content : Content} {held : FileContents} {status : ℕ} {text : List ℕ} {log : Option RunLog}
     {reports : List Report} (tree : SyntaxTree) (numbers : List ℤ) (limit : ℕ)
     → (a : IsToRunWave asked content tree numbers limit) → content a.source ≡ held.source → content a.input ≡ held.input
-    → Row asked held status text log reports → IsGridRun tree numbers limit status text log reports
+    → ResultRow asked held status text log reports → IsGridRun tree numbers limit status text log reports
 grid_row tree numbers limit a s i (NoCommand none) = absurd (no_command none a.command)
 grid_row tree numbers limit a s i (SourceRefused source w r) = absurd (refused_not_accepted_file tree r (rw (← s) a.program))
 grid_row tree numbers limit a s i (Formats source other w o) = absurd (apart a.command w (λ e. cc (e)))

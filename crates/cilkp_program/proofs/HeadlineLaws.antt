@@ -27,7 +27,7 @@ use Rattle.cilkp_program.specs.declared.program_run.FinishedRun.{FinishedRun}
 use Rattle.cilkp_program.specs.RecordedRuns.{IsRecordedRun, ReturnsRun, recorded}
 use Rattle.cilkp_program.specs.RunResults.{HasRun, IsFinishedRunOf}
 use Rattle.cilkp_program.specs.ProgramFiles.{FileContents}
-use Rattle.cilkp_program.specs.Rows.{Row, NoCommand, SourceRefused, Formats, Benches, WaveRefused, InputRefused, Runs, RunsSerially, ChecksRecord, Weighs}
+use Rattle.cilkp_program.specs.ResultTable.{ResultRow, NoCommand, SourceRefused, Formats, Benches, WaveRefused, InputRefused, Runs, RunsSerially, ChecksRecord, Weighs}
 use Rattle.cilkp_program.specs.SerialResults.{ElisionHasNoRace, elision_output, elision_trap}
 
 -- what is printed for the elision's output and trap, or for reports that are there exactly if the elision has a race, agrees with the elision
@@ -110,7 +110,7 @@ recorded_more limit more le h = record { outcome = h.outcome; text_is = h.text_i
 accepted_row : {asked : Option Command} {content : Content} {held : FileContents} {status : ℕ} {text : List ℕ} {log : Option RunLog}
     {reports : List Report} (tree : SyntaxTree) (numbers : List ℤ) (limit : ℕ)
     → (a : IsToRun asked content tree numbers limit) → content a.source ≡ held.source → content a.input ≡ held.input
-    → Row asked held status text log reports → IsRunOf (asks_record asked) tree numbers limit status text log reports
+    → ResultRow asked held status text log reports → IsRunOf (asks_record asked) tree numbers limit status text log reports
 accepted_row tree numbers limit a s i (NoCommand none) = absurd (runs_no_command none a.runs)
 accepted_row tree numbers limit a s i (SourceRefused source w r) = absurd (refused_not_accepted_file tree r (rw (← s) a.program))
 accepted_row tree numbers limit a s i (Formats source other w o) = absurd (runs_nothing w refl a.runs)

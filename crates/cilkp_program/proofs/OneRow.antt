@@ -29,7 +29,7 @@ use Rattle.cilkp_program.proofs.SpanLaws.{one_span_text}
 use Rattle.cilkp_program.specs.SpanResults.{IsSpanText}
 use Rattle.cilkp_program.specs.RecordedRuns.{IsRecordedRun, recorded, seeded_events}
 use Rattle.cilkp_program.specs.RunReports.{run_reports}
-use Rattle.cilkp_program.specs.Rows.{IsLogOf, OfPlay, OfRun, OfWave, Row, NoCommand, SourceRefused, Formats, Benches, WaveRefused, InputRefused, Runs, RunsSerially, ChecksRecord, Weighs}
+use Rattle.cilkp_program.specs.ResultTable.{IsLogOf, OfPlay, OfRun, OfWave, ResultRow, NoCommand, SourceRefused, Formats, Benches, WaveRefused, InputRefused, Runs, RunsSerially, ChecksRecord, Weighs}
 use Rattle.cilkp_program.specs.SerialResults.{ElisionResult, Races, Finishes, Traps, elision_columns, elision_accesses, elision_output_text}
 
 -- two results have the same status, text and reports
@@ -227,7 +227,7 @@ no_run_of_no_wave tree other (OfWave source input workers w fits) v a o r = refu
 
 alike : {asked : Option Command} {held : FileContents} {status other : ℕ} {text other_text : List ℕ} {log other_log : Option RunLog}
     {reports other_reports : List Report}
-    → Row asked held status text log reports → Row asked held other other_text other_log other_reports
+    → ResultRow asked held status text log reports → ResultRow asked held other other_text other_log other_reports
     → AreAlike asked status other text other_text log other_log reports other_reports
 alike (NoCommand n) (NoCommand n') = Same refl refl refl refl
 alike (NoCommand n) (SourceRefused s' w' r') = absurd (no_source n w')
@@ -333,7 +333,7 @@ alike (Weighs s i tree xs w a r) (Weighs s' i' tree' xs' w' a' r') = Same refl (
 -- two rows of a command other than `run` and `wave` are equal
 pub one_row : {asked : Option Command} {held : FileContents} {status other : ℕ} {text other_text : List ℕ} {log other_log : Option RunLog}
     {reports other_reports : List Report} → (AsksRun asked → ⊥)
-    → Row asked held status text log reports → Row asked held other other_text other_log other_reports
+    → ResultRow asked held status text log reports → ResultRow asked held other other_text other_log other_reports
     → (status ≡ other) × (text ≡ other_text) × (log ≡ other_log) × (reports ≡ other_reports)
 one_row other_command r r' = elim (alike r r') [
   | Same s t l p ↦ (s, t, l, p)
@@ -343,7 +343,7 @@ one_row other_command r r' = elim (alike r r') [
 -- two rows of a command have the same status, and the same text unless the status is 2 or the log is printed
 pub one_status : {asked : Option Command} {held : FileContents} {status other : ℕ} {text other_text : List ℕ} {log other_log : Option RunLog}
     {reports other_reports : List Report}
-    → Row asked held status text log reports → Row asked held other other_text other_log other_reports
+    → ResultRow asked held status text log reports → ResultRow asked held other other_text other_log other_reports
     → (status ≡ other) × (asks_record asked ≡ false → status ≢ 2 → text ≡ other_text)
 one_status r r' = elim (alike r r') [
   | Same s t l p ↦ (s, λ silent other. t)

@@ -12,12 +12,12 @@ use Rattle.cilkp_program.specs.PrintedResults.{IsCallResult, OfRow, SourceFault,
 use Rattle.cilkp_program.specs.ProgramFiles.{FileContents}
 use Rattle.cilkp_program.specs.RecordCalls.{IsToCheck, ReturnsCheck}
 use Rattle.cilkp_program.specs.RecordResults.{RecordResult}
-use Rattle.cilkp_program.specs.Rows.{Row, NoCommand, SourceRefused, Formats, Benches, WaveRefused, InputRefused, Runs, RunsSerially, ChecksRecord, Weighs}
+use Rattle.cilkp_program.specs.ResultTable.{ResultRow, NoCommand, SourceRefused, Formats, Benches, WaveRefused, InputRefused, Runs, RunsSerially, ChecksRecord, Weighs}
 
 check_row : {asked : Option Command} {content : Content} {held : FileContents} {status : ℕ} {text : List ℕ} {log : Option RunLog}
     {reports : List Report} (tree : SyntaxTree) (numbers : List ℤ) (throttle : ℕ) (saved : List ℕ)
     → (a : IsToCheck asked content tree numbers throttle saved) → content a.source ≡ held.source → content a.input ≡ held.input
-    → Row asked held status text log reports → RecordResult tree numbers throttle saved held.saved status text log reports
+    → ResultRow asked held status text log reports → RecordResult tree numbers throttle saved held.saved status text log reports
 check_row tree numbers throttle saved a s i (NoCommand none) = absurd (no_command none a.command)
 check_row tree numbers throttle saved a s i (SourceRefused source w r) = absurd (refused_not_accepted_file tree r (rw (← s) a.program))
 check_row tree numbers throttle saved a s i (Formats source other w o) = absurd (apart a.command w (λ e. cc (e)))

@@ -9,7 +9,7 @@ use Rattle.cilkp_words.specs.Commands.{Command}
 use Rattle.cilkp_program.specs.PrintedResults.{IsCallResult, OfRow, SourceFault, InputFault, RecordFault}
 use Rattle.cilkp_program.specs.CommandFiles.{KeepsLog}
 use Rattle.cilkp_program.specs.ProgramFiles.{FileContents}
-use Rattle.cilkp_program.specs.Rows.{Row, NoCommand, SourceRefused, Formats, Benches, WaveRefused, InputRefused, Runs, RunsSerially, ChecksRecord, Weighs}
+use Rattle.cilkp_program.specs.ResultTable.{ResultRow, NoCommand, SourceRefused, Formats, Benches, WaveRefused, InputRefused, Runs, RunsSerially, ChecksRecord, Weighs}
 use Rattle.cilkp_program.proofs.Agreements.{agreed_status}
 use Rattle.cilkp_program.proofs.OneCommand.{bench_keeps_no_log, format_keeps_no_log, run_keeps_log}
 use Rattle.cilkp_program.specs.Headline.{IsRunStatus}
@@ -84,7 +84,7 @@ checked_status keeps (RunOf events kind log reports h r) = with_run log keeps (r
 
 -- the status of a row
 row_status : {before now : ℕ} {asked : Option Command} {held : FileContents} {status : ℕ} {text : List ℕ} {log : Option RunLog} {reports : List Report}
-    → Row asked held status text log reports → TellsStatus asked before now status log
+    → ResultRow asked held status text log reports → TellsStatus asked before now status log
 row_status (NoCommand n) = refusal
 row_status (SourceRefused s w r) = refusal
 row_status (Formats s tree w o) = without_log (format_keeps_no_log w) (inl refl)

@@ -30,7 +30,7 @@ use Rattle.cilkp_program.specs.ProgramFiles.{AreHeldBy, FileContents, SourceRefu
 use Rattle.cilkp_program.specs.SerialResults.{ElisionResult}
 use Rattle.cilkp_program.specs.SpanResults.{IsSpanText}
 use Rattle.cilkp_program.specs.Benchmarks.{IsGenerated, elision_summary}
-use Rattle.cilkp_program.specs.Rows.{IsLogOf, OfPlay, OfRun, OfWave, NoCommand, SourceRefused, Formats, Benches, WaveRefused, InputRefused, Runs, RunsSerially, ChecksRecord, Weighs}
+use Rattle.cilkp_program.specs.ResultTable.{IsLogOf, OfPlay, OfRun, OfWave, NoCommand, SourceRefused, Formats, Benches, WaveRefused, InputRefused, Runs, RunsSerially, ChecksRecord, Weighs}
 use Rattle.cilkp_program.specs.PreparedFiles.{AreReady}
 use Rattle.cilkp_program.specs.RecordedRuns.{IsRecordedRun, seeded_events}
 use Rattle.cilkp_program.specs.RunResults.{IsPlayResult, IsRunResult}

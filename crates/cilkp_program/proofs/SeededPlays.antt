@@ -25,7 +25,7 @@ use Rattle.cilkp_program.specs.declared.program_run.FinishedRun.{FinishedRun}
 use Rattle.cilkp_program.specs.Headline.{IsToRun}
 use Rattle.cilkp_program.specs.ProgramFiles.{FileContents}
 use Rattle.cilkp_program.specs.RecordedRuns.{HasSeededEvents, IsFinishedLog, IsToPlay, ReturnsRun, recorded, seeded_events}
-use Rattle.cilkp_program.specs.Rows.{Row, NoCommand, SourceRefused, Formats, Benches, WaveRefused, InputRefused, Runs, RunsSerially, ChecksRecord, Weighs, IsLogOf, OfPlay, OfRun, OfWave}
+use Rattle.cilkp_program.specs.ResultTable.{ResultRow, NoCommand, SourceRefused, Formats, Benches, WaveRefused, InputRefused, Runs, RunsSerially, ChecksRecord, Weighs, IsLogOf, OfPlay, OfRun, OfWave}
 use Rattle.cilkp_program.specs.RunReports.{run_reports}
 use Rattle.cilkp_program.specs.RunResults.{IsPlayResult, IsSeededPlay}
 use Rattle.cilkp_program.specs.RunTexts.{IsPrintedAs}
@@ -88,7 +88,7 @@ other_log {limit = limit} source input workers throttle seed recording w (OfWave
 scheduled_row : {asked : Option Command} {content : Content} {held : FileContents} {status : ℕ} {text : List ℕ} {log : Option RunLog}
     {reports : List Report} (tree : SyntaxTree) (numbers : List ℤ) (workers throttle seed : ℕ)
     → (a : IsToPlay asked content tree numbers workers throttle seed) → content a.source ≡ held.source → content a.input ≡ held.input
-    → Row asked held status text log reports → HasSeededEvents tree numbers workers throttle seed log
+    → ResultRow asked held status text log reports → HasSeededEvents tree numbers workers throttle seed log
 scheduled_row tree numbers workers throttle seed a s i (Runs limit log other others w o m found) =
     let same : other ≡ tree = one_source other tree o.program (rw (← s) a.program) in
     let also : others ≡ numbers = one_input others numbers o.read (rw (← i) a.read) in

@@ -12,7 +12,7 @@ use Rattle.cilkp_program.proofs.OneContent.{one_input, one_source, refused_no_in
 use Rattle.cilkp_program.specs.PrintedResults.{IsCallResult, OfRow, SourceFault, InputFault, RecordFault, IsPrinted}
 use Rattle.cilkp_program.specs.ProgramFiles.{FileContents}
 use Rattle.cilkp_program.specs.SerialResults.{ElisionResult}
-use Rattle.cilkp_program.specs.Rows.{Row, NoCommand, SourceRefused, Formats, Benches, WaveRefused, InputRefused, Runs, RunsSerially, ChecksRecord, Weighs}
+use Rattle.cilkp_program.specs.ResultTable.{ResultRow, NoCommand, SourceRefused, Formats, Benches, WaveRefused, InputRefused, Runs, RunsSerially, ChecksRecord, Weighs}
 use Rattle.cilkp_program.specs.SerialCalls.{ReturnsElision, IsToRunSerially}
 
 -- the result is that of the program's elision, without a log
@@ -23,7 +23,7 @@ record IsElisionOf (tree : SyntaxTree) (numbers : List ℤ) (status : ℕ) (text
 elided_row : {asked : Option Command} {content : Content} {held : FileContents} {status : ℕ} {text : List ℕ} {log : Option RunLog}
     {reports : List Report} (tree : SyntaxTree) (numbers : List ℤ)
     → (a : IsToRunSerially asked content tree numbers) → content a.source ≡ held.source → content a.input ≡ held.input
-    → Row asked held status text log reports → IsElisionOf tree numbers status text log reports
+    → ResultRow asked held status text log reports → IsElisionOf tree numbers status text log reports
 elided_row tree numbers a s i (NoCommand none) = absurd (no_command none a.command)
 elided_row tree numbers a s i (SourceRefused source w r) = absurd (refused_not_accepted_file tree r (rw (← s) a.program))
 elided_row tree numbers a s i (Formats source other w o) = absurd (serial_is_not_format a.command w)

@@ -22,7 +22,7 @@ use Rattle.cilkp_program.proofs.OneContent.{one_input, one_source, refused_no_in
 use Rattle.cilkp_program.proofs.SerialDags.{given_columns}
 use Rattle.cilkp_program.specs.PrintedResults.{IsCallResult, OfRow, SourceFault, InputFault, RecordFault, IsPrinted}
 use Rattle.cilkp_program.specs.ProgramFiles.{FileContents, IsSourceOf}
-use Rattle.cilkp_program.specs.Rows.{Row, NoCommand, SourceRefused, Formats, Benches, WaveRefused, InputRefused, Runs, RunsSerially, ChecksRecord, Weighs}
+use Rattle.cilkp_program.specs.ResultTable.{ResultRow, NoCommand, SourceRefused, Formats, Benches, WaveRefused, InputRefused, Runs, RunsSerially, ChecksRecord, Weighs}
 use Rattle.cilkp_program.specs.SerialResults.{elision_columns}
 use Rattle.cilkp_program.specs.SpanCalls.{IsToWeigh, ReturnsSpan}
 use Rattle.cilkp_program.specs.SpanResults.{IsSpanText, span_text}
@@ -63,7 +63,7 @@ record IsWeighed (tree : SyntaxTree) (numbers : List ℤ) (status : ℕ) (text :
 weighed_row : {asked : Option Command} {content : Content} {held : FileContents} {status : ℕ} {text : List ℕ} {log : Option RunLog}
     {reports : List Report} (tree : SyntaxTree) (numbers : List ℤ)
     → (a : IsToWeigh asked content tree numbers) → content a.source ≡ held.source → content a.input ≡ held.input
-    → Row asked held status text log reports → IsWeighed tree numbers status text log reports
+    → ResultRow asked held status text log reports → IsWeighed tree numbers status text log reports
 weighed_row tree numbers a s i (NoCommand none) = absurd (no_command none a.command)
 weighed_row tree numbers a s i (SourceRefused source w r) = absurd (refused_not_accepted_file tree r (rw (← s) a.program))
 weighed_row tree numbers a s i (Formats source other w o) = absurd (apart a.command w (λ e. cc (e)))

@@ -7,7 +7,7 @@ pub mod TakenText
 pub mod Headline
 pub mod RecordedRuns
 pub mod Benchmarks
-pub mod Rows
+pub mod ResultTable
 pub mod RowLaws
 pub mod RunTexts
 pub mod RunResults

@@ -8,7 +8,7 @@ use Rattle.pipe_io.specs.Faults.{CountRose}
 use Rattle.pipe_io.specs.Reads.{Content}
 use Rattle.cilkp_program.specs.CommandFiles.{CanRunBy, NamesInput, NamesRecord, NamesSource, asks_wave}
 use Rattle.cilkp_program.specs.ProgramFiles.{AreHeldBy, FileContents, IsInputOf, IsSourceOf}
-use Rattle.cilkp_program.specs.Rows.{Row}
+use Rattle.cilkp_program.specs.ResultTable.{ResultRow}
 use Rattle.cilkp_program.specs.TakenText.{HasTaken}
 use Rattle.cilkp_words.specs.Commands.{Command}
 
@@ -16,7 +16,7 @@ use Rattle.cilkp_words.specs.Commands.{Command}
 pub record IsRow (asked : Option Command) (holds : Option Content) (status : ℕ) (text : List ℕ) (log : Option RunLog) (reports : List Report) : Type 0 where
   pub held : FileContents
   pub known : IfSome holds (λ content. AreHeldBy content asked held)
-  pub row : Row asked held status text log reports
+  pub row : ResultRow asked held status text log reports
 
 -- the status, the text, the run log and the reports of a call: those of its row if no read failed, and otherwise the line of the fault, which is the
 -- input's only if the source is an accepted program to run, and the record's only if the input is accepted too. `before` and `now` are the counts of

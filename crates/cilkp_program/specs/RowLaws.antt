@@ -4,14 +4,14 @@ use Rattle.pipe_model.specs.declared.event.RunLog.{RunLog}
 use Rattle.pipe_model.specs.declared.report.Report.{Report}
 use Rattle.cilkp_program.specs.CommandFiles.{AsksRun, asks_record}
 use Rattle.cilkp_program.specs.ProgramFiles.{FileContents}
-use Rattle.cilkp_program.specs.Rows.{Row}
+use Rattle.cilkp_program.specs.ResultTable.{ResultRow}
 use Rattle.cilkp_words.specs.Commands.{Command}
 
 -- for all commands but `run` and `wave`: two rows of the same command and the same files have the same status, text, run log and reports
 abbrev pub CallsHaveOneRow : Type 0
 CallsHaveOneRow = (asked : Option Command) (held : FileContents) (status other_status : ℕ) (text other_text : List ℕ) (log other_log : Option RunLog)
     (reports other_reports : List Report) → (AsksRun asked → ⊥)
-    → Row asked held status text log reports → Row asked held other_status other_text other_log other_reports
+    → ResultRow asked held status text log reports → ResultRow asked held other_status other_text other_log other_reports
     → (status ≡ other_status) × (text ≡ other_text) × (log ≡ other_log) × (reports ≡ other_reports)
 
 -- for all commands: two rows of the same command and the same files have the same status, and the same text unless the status is 2 or the log is printed.
@@ -19,5 +19,5 @@ CallsHaveOneRow = (asked : Option Command) (held : FileContents) (status other_s
 abbrev pub CallsHaveOneStatus : Type 0
 CallsHaveOneStatus = (asked : Option Command) (held : FileContents) (status other_status : ℕ) (text other_text : List ℕ) (log other_log : Option RunLog)
     (reports other_reports : List Report)
-    → Row asked held status text log reports → Row asked held other_status other_text other_log other_reports
+    → ResultRow asked held status text log reports → ResultRow asked held other_status other_text other_log other_reports
     → (status ≡ other_status) × (asks_record asked ≡ false → status ≢ 2 → text ≡ other_text)
