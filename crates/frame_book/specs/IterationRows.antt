@@ -15,7 +15,7 @@ use Rattle.pipe_frame.specs.declared.token.FrameToken.{FrameToken}
 
 -- the stage numbers and the marks of the instances, the traces of those that have ended, the status, the token if it is
 -- at home, and for how many instances there is room
-pub record Row (M : Type 0) : Type 0 where
+pub record IterationRow (M : Type 0) : Type 0 where
   pub numbers : List ℤ
   pub marks : List Marks
   pub traces : List (List Entry)
@@ -24,15 +24,15 @@ pub record Row (M : Type 0) : Type 0 where
   pub room : ℕ
 
 -- the row of an iteration that has not begun
-abbrev pub empty_row : {M : Type 0} → ℕ → Row M
+abbrev pub empty_row : {M : Type 0} → ℕ → IterationRow M
 empty_row room = record { numbers = []; marks = []; traces = []; status = Running; token = None; room = room }
 
 -- one instance more, which runs
-abbrev pub with_instance : {M : Type 0} → ℤ → Marks → Row M → Row M
+abbrev pub with_instance : {M : Type 0} → ℤ → Marks → IterationRow M → IterationRow M
 with_instance n m r = record r { numbers = r.numbers ++ n ∷ []; marks = r.marks ++ m ∷ []; status = Running }
 
 -- one trace more, and a new status
-abbrev pub with_trace : {M : Type 0} → List Entry → Status → Row M → Row M
+abbrev pub with_trace : {M : Type 0} → List Entry → Status → IterationRow M → IterationRow M
 with_trace t w r = record r { traces = r.traces ++ t ∷ []; status = w }
 
 -- the stage counter of a row
@@ -61,34 +61,34 @@ IsFreeRow (Pending kinds.Continue n) left = Unit {0}
 IsFreeRow (Completed e) left = ⊥
 
 -- row i, if there is one
-abbrev pub row_at : {M : Type 0} → List (Row M) → ℕ → Option (Row M)
+abbrev pub row_at : {M : Type 0} → List (IterationRow M) → ℕ → Option (IterationRow M)
 row_at [] i = None
 row_at (r ∷ rs) zero = Some r
 row_at (r ∷ rs) (suc i) = row_at rs i
 
 -- the counter of a row, if there is one
-abbrev pub counter_at : {M : Type 0} → Option (Row M) → Option Counter
+abbrev pub counter_at : {M : Type 0} → Option (IterationRow M) → Option Counter
 counter_at None = None
 counter_at (Some r) = Some (row_counter r.status r.numbers)
 
 -- the counter of the row to the left, if there is one
-abbrev pub left_row_counter : {M : Type 0} → List (Row M) → ℕ → Option Counter
+abbrev pub left_row_counter : {M : Type 0} → List (IterationRow M) → ℕ → Option Counter
 left_row_counter rs zero = None
 left_row_counter rs (suc i) = counter_at (row_at rs i)
 
 -- the marks of instance 0 of the last row, if there is one
-abbrev pub head_marks : {M : Type 0} → List (Row M) → Option Marks
+abbrev pub head_marks : {M : Type 0} → List (IterationRow M) → Option Marks
 head_marks [] = None
 head_marks (r ∷ []) = Some (slice_index_or r.marks 0 (start_marks 0 0 0))
 head_marks (r ∷ (s ∷ rs)) = head_marks (s ∷ rs)
 
 -- the numbers of a row, if there is one
-abbrev pub numbers_of_row : {M : Type 0} → Option (Row M) → List ℤ
+abbrev pub numbers_of_row : {M : Type 0} → Option (IterationRow M) → List ℤ
 numbers_of_row None = []
 numbers_of_row (Some r) = r.numbers
 
 -- the numbers of the row to the left
-abbrev pub left_numbers : {M : Type 0} → List (Row M) → ℕ → List ℤ
+abbrev pub left_numbers : {M : Type 0} → List (IterationRow M) → ℕ → List ℤ
 left_numbers rs zero = []
 left_numbers rs (suc i) = numbers_of_row (row_at rs i)
 
@@ -102,24 +102,24 @@ pub record IsSearchable (numbers : List ℤ) : Type 0 where
   pub few : length numbers < 2 ^ 32
 
 -- the running instance has ended with this trace, and the iteration goes on at a stage; its token is kept
-abbrev pub suspended_row : {M : Type 0} → List Entry → Kind → ℤ → FrameToken M → Row M → Row M
+abbrev pub suspended_row : {M : Type 0} → List Entry → Kind → ℤ → FrameToken M → IterationRow M → IterationRow M
 suspended_row trace k n t r = record r { traces = r.traces ++ trace ∷ []; status = Pending k n; token = Some t }
 
 -- the marks of a row, if there is one
-abbrev pub marks_of_row : {M : Type 0} → Option (Row M) → List Marks
+abbrev pub marks_of_row : {M : Type 0} → Option (IterationRow M) → List Marks
 marks_of_row None = []
 marks_of_row (Some r) = r.marks
 
 -- the marks of instance k of row i
-abbrev pub marks_at : {M : Type 0} → List (Row M) → ℕ → ℕ → Marks
+abbrev pub marks_at : {M : Type 0} → List (IterationRow M) → ℕ → ℕ → Marks
 marks_at rs i k = slice_index_or (marks_of_row (row_at rs i)) k (start_marks 0 0 0)
 
 -- row i has marks for its instance k
-abbrev pub HasMarks : {M : Type 0} → List (Row M) → ℕ → ℕ → Type 0
+abbrev pub HasMarks : {M : Type 0} → List (IterationRow M) → ℕ → ℕ → Type 0
 HasMarks rs i k = k < length (marks_of_row (row_at rs i))
 
 -- the marks of the left parent of an instance of row i
-abbrev pub left_marks : {M : Type 0} → List (Row M) → ℕ → Option ℕ → Option Marks
+abbrev pub left_marks : {M : Type 0} → List (IterationRow M) → ℕ → Option ℕ → Option Marks
 left_marks rs i None = None
 left_marks rs zero (Some j) = None
 left_marks rs (suc i) (Some j) = Some (marks_at rs i j)

@@ -2,7 +2,7 @@
 use Rattle.std.specs.Prelude.{◌≡◌, ℕ, ℤ, suc, List, [], ◌∷◌, ◌++◌, ◌+◌, ◌*◌, ◌^◌, ◌<◌, map, length, reverse, All, slice_index_or}
 use Rattle.pipe_model.specs.Pipelines.Behaviour.{Behaviour, Reading, Writing, Staging, Ending}
 use Rattle.pipe_model.specs.Pipelines.Pipeline.{Pipeline, IsWellFormed}
-use Rattle.frame_book.specs.IterationRows.{Row, empty_row}
+use Rattle.frame_book.specs.IterationRows.{IterationRow, empty_row}
 
 -- whatever is read, at most m next stages are named
 abbrev pub NamesAtMost : ℕ → Behaviour → Type 0
@@ -24,19 +24,19 @@ total m [] = 0
 total m (x ∷ xs) = m x + total m xs
 
 -- the rooms of the rows that are in use, and of those for iterations that have not begun, which are taken from the end
-abbrev pub rooms_of : {M : Type 0} → List (Row M) → List (Row M) → List ℕ
+abbrev pub rooms_of : {M : Type 0} → List (IterationRow M) → List (IterationRow M) → List ℕ
 rooms_of rows spare = map (λ r. r.room) (rows ++ reverse spare)
 
 -- their sum
-abbrev pub room_in : {M : Type 0} → List (Row M) → List (Row M) → ℕ
+abbrev pub room_in : {M : Type 0} → List (IterationRow M) → List (IterationRow M) → ℕ
 room_in rows spare = total (λ r. r.room) rows + total (λ r. r.room) (reverse spare)
 
 -- the row of an iteration that has not begun
-abbrev pub IsFresh : {M : Type 0} → Row M → Type 0
+abbrev pub IsFresh : {M : Type 0} → IterationRow M → Type 0
 IsFresh r = r ≡ empty_row r.room
 
 -- there is room for every instance in the rows, the order lists and the log
-pub record IsSized {M : Type 0} (p : Pipeline) (rows spare : List (Row M)) (down right log : ℕ) : Type 0 where
+pub record IsSized {M : Type 0} (p : Pipeline) (rows spare : List (IterationRow M)) (down right log : ℕ) : Type 0 where
   pub planned : IsPlanned p (rooms_of rows spare)
   pub fresh : All IsFresh spare
   pub few : room_in rows spare < 2 ^ 31

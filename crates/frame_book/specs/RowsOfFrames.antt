@@ -10,7 +10,7 @@ use Rattle.pipe_model.specs.Races.Columns.{nodes_at}
 use Rattle.pipe_model.specs.Runs.Allowed.{LeftHasPassed}
 use Rattle.pipe_model.specs.Runs.State.{Frame, State, frame_at, own_columns}
 use Rattle.pipe_frame.specs.declared.token.FrameToken.{FrameToken}
-use Rattle.frame_book.specs.IterationRows.{Row, row_at}
+use Rattle.frame_book.specs.IterationRows.{IterationRow, row_at}
 use Rattle.frame_book.specs.Rooms.{total}
 
 -- ---- one row
@@ -33,7 +33,7 @@ IsUnheld stopped token = (stopped ≡ false) ⊎ (token ≡ None)
 
 -- the row has the iteration's stage numbers and status, marks for each instance, and room for all; the number of its traces and its
 -- token fit its status, unless its instance was stopped
-pub record IsRowOf {M : Type 0} (going : Bool) (f : Frame) (r : Row M) : Type 0 where
+pub record IsRowOf {M : Type 0} (going : Bool) (f : Frame) (r : IterationRow M) : Type 0 where
   pub numbers : r.numbers ≡ map (λ n. n.number) f.nodes
   pub status : r.status ≡ f.status
   pub marks : length r.marks ≡ length f.nodes
@@ -44,14 +44,14 @@ pub record IsRowOf {M : Type 0} (going : Bool) (f : Frame) (r : Row M) : Type 0 
 -- ---- all rows
 
 -- the rows are those of the iterations, in order
-abbrev pub AreRows : {M : Type 0} → Bool → List Frame → List (Row M) → Type 0
+abbrev pub AreRows : {M : Type 0} → Bool → List Frame → List (IterationRow M) → Type 0
 AreRows going [] [] = Unit {0}
 AreRows going [] (r ∷ rs) = ⊥
 AreRows going (f ∷ fs) [] = ⊥
 AreRows going (f ∷ fs) (r ∷ rs) = IsRowOf going f r × AreRows going fs rs
 
 -- the kept token of row i
-abbrev pub token_at : {M : Type 0} → List (Row M) → ℕ → Option (FrameToken M)
+abbrev pub token_at : {M : Type 0} → List (IterationRow M) → ℕ → Option (FrameToken M)
 token_at [] i = None
 token_at (r ∷ rs) zero = r.token
 token_at (r ∷ rs) (suc i) = token_at rs i
@@ -60,7 +60,7 @@ abbrev pub no_marks : Marks
 no_marks = start_marks 0 0 0
 
 -- the rows are those of a state after these starts, and have the marks of all instances
-pub record HasRows {M : Type 0} (rows : List (Row M)) (starts : List NodeId) (c : State) : Type 0 where
+pub record HasRows {M : Type 0} (rows : List (IterationRow M)) (starts : List NodeId) (c : State) : Type 0 where
   pub each : AreRows (not c.stopped) c.frames rows
   pub marks : (i k : ℕ) → k < length (nodes_at (own_columns c) i) → slice_index_or (slice_index_or (map (λ r. r.marks) rows) i []) k no_marks ≡ instance_marks (own_columns c) starts i k
   pub started : length starts ≡ total (λ r. length r.numbers) rows
@@ -82,5 +82,5 @@ abbrev pub IsFree : List Frame → ℕ → Type 0
 IsFree fs i = IsFreeIn fs i (frame_at fs i)
 
 -- iteration i was left ready, or may enter the stage that it has named
-abbrev pub RowGoesOn : {M : Type 0} → List Frame → List (Row M) → ℕ → Type 0
-RowGoesOn {M} fs rs i = ((r : Row M) × (row_at rs i ≡ Some r) × (r.status ≡ Running) × IsSome r.token) ⊎ IsFree fs i
+abbrev pub RowGoesOn : {M : Type 0} → List Frame → List (IterationRow M) → ℕ → Type 0
+RowGoesOn {M} fs rs i = ((r : IterationRow M) × (row_at rs i ≡ Some r) × (r.status ≡ Running) × IsSome r.token) ⊎ IsFree fs i

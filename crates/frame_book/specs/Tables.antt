@@ -9,7 +9,7 @@ use Rattle.pipe_frame.specs.TokenFields.{fields_of}
 use Rattle.pipe_frame.specs.declared.token.FrameToken.{FrameToken}
 use Rattle.frame_book.specs.BookStates.{BookState, TokenState, Out, Kept, Spent}
 use Rattle.frame_book.specs.TicketLog.{Ledger}
-use Rattle.frame_book.specs.IterationRows.{Row}
+use Rattle.frame_book.specs.IterationRows.{IterationRow}
 use Rattle.frame_book.specs.CallEffects.{identities_of_orders}
 
 -- the fields
@@ -17,9 +17,9 @@ pub record Tables (M : Type 0) : Type 0 where
   pub program : Program
   pub input : List ℤ
   pub limit : ℕ
-  pub rows : List (Row M)
+  pub rows : List (IterationRow M)
   pub room : ℕ
-  pub spare : List (Row M)
+  pub spare : List (IterationRow M)
   pub pool : Stock M
   pub orders : OrderPair
   pub ledger : Ledger
@@ -35,7 +35,7 @@ token_state_by None (Pending k n) = Out
 token_state_by None (Completed e) = Spent
 
 -- where the token of a row is
-abbrev pub token_state_of : {M : Type 0} → Row M → TokenState
+abbrev pub token_state_of : {M : Type 0} → IterationRow M → TokenState
 token_state_of r = token_state_by r.token r.status
 
 -- what contracts see of the fields

@@ -26,9 +26,9 @@ pub struct Iteration<M> {
 
 impl<M> Model for Iteration<M> {
     ghost use Rattle.std.specs.Prelude.{◌≤◌, vec_capacity};
-    ghost use Rattle.frame_book.specs.IterationRows.{Row};
+    ghost use Rattle.frame_book.specs.IterationRows.{IterationRow};
 
-    ghost Value = { Row M };
+    ghost Value = { IterationRow M };
 
     ghost view = { λ i. record {
       numbers = i.numbers.items;

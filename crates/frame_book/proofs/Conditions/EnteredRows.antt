@@ -18,21 +18,21 @@ use Rattle.frame_book.specs.RowsOfFrames.{AreRows, no_marks}
 use Rattle.frame_book.specs.Rooms.{NamesAtMost, total}
 use Rattle.frame_book.specs.Invariant.{MatchesFrame, pending_nodes}
 use Rattle.pipe_model.specs.Runs.Schedules.{running_in_frames, running_of_status}
-use Rattle.frame_book.specs.IterationRows.{Row, row_at, marks_at, marks_of_row, numbers_of_row}
+use Rattle.frame_book.specs.IterationRows.{IterationRow, row_at, marks_at, marks_of_row, numbers_of_row}
 use Rattle.frame_book.proofs.StartedInstances.StartMarks.{parent_marks}
 
 -- marks by the list of all
-pub marks_at_map : {M : Type 0} → (rs : List (Row M)) (i k : ℕ) → marks_at rs i k ≡ get_or (get_or (map (λ r. r.marks) rs) i []) k no_marks
+pub marks_at_map : {M : Type 0} → (rs : List (IterationRow M)) (i k : ℕ) → marks_at rs i k ≡ get_or (get_or (map (λ r. r.marks) rs) i []) k no_marks
 marks_at_map [] i k = refl
 marks_at_map (r ∷ rs) zero k = refl
 marks_at_map (r ∷ rs) (suc i) k = marks_at_map rs i k
 
-pub marks_row_map : {M : Type 0} → (rs : List (Row M)) (i : ℕ) → marks_of_row (row_at rs i) ≡ get_or (map (λ r. r.marks) rs) i []
+pub marks_row_map : {M : Type 0} → (rs : List (IterationRow M)) (i : ℕ) → marks_of_row (row_at rs i) ≡ get_or (map (λ r. r.marks) rs) i []
 marks_row_map [] i = refl
 marks_row_map (r ∷ rs) zero = refl
 marks_row_map (r ∷ rs) (suc i) = marks_row_map rs i
 
-pub numbers_row_map : {M : Type 0} → (rs : List (Row M)) (i : ℕ) → numbers_of_row (row_at rs i) ≡ get_or (map (λ r. r.numbers) rs) i []
+pub numbers_row_map : {M : Type 0} → (rs : List (IterationRow M)) (i : ℕ) → numbers_of_row (row_at rs i) ≡ get_or (map (λ r. r.numbers) rs) i []
 numbers_row_map [] i = refl
 numbers_row_map (r ∷ rs) zero = refl
 numbers_row_map (r ∷ rs) (suc i) = numbers_row_map rs i
@@ -61,13 +61,13 @@ names_few m (Staging k q d) (Ended e ∷ xs) n p = absurd (let z : Ended e ≡ S
 names_few m (Ending f) (Ended e ∷ xs) n p = ending_names_few m f xs p.1
 
 -- one row has room for more, so there is more room in all
-pub rows_fit_more : {M : Type 0} → (going : Bool) (fs : List Frame) (rs : List (Row M)) (i : ℕ) (r : Row M) → AreRows going fs rs → row_at rs i ≡ Some r → length r.numbers < r.room → total (λ r. length r.numbers) rs < total (λ r. r.room) rs
+pub rows_fit_more : {M : Type 0} → (going : Bool) (fs : List Frame) (rs : List (IterationRow M)) (i : ℕ) (r : IterationRow M) → AreRows going fs rs → row_at rs i ≡ Some r → length r.numbers < r.room → total (λ r. length r.numbers) rs < total (λ r. r.room) rs
 rows_fit_more going [] [] i r h e l = absurd (cc)
 rows_fit_more going [] (x ∷ rs) i r h e l = absurd h
 rows_fit_more going (f ∷ fs) [] i r h e l = absurd h
 rows_fit_more going (f ∷ fs) (x ∷ rs) zero r h e l =
     let s : x ≡ r = cc in
-    let l' : length x.numbers < x.room = subst (λ (z : Row _). length z.numbers < z.room) (sym s) l in
+    let l' : length x.numbers < x.room = subst (λ (z : IterationRow _). length z.numbers < z.room) (sym s) l in
     let a = Rattle.frame_book.proofs.Iterations.Totals.rows_fit going fs rs h.1 in
     omega (arith, a, l')
 rows_fit_more going (f ∷ fs) (x ∷ rs) (suc i) r h e l =
@@ -77,13 +77,13 @@ rows_fit_more going (f ∷ fs) (x ∷ rs) (suc i) r h e l =
     omega (arith, a, b, c)
 
 -- one row is in the sum
-pub total_at : {X : Type 0} → (m : Row X → ℕ) (rs : List (Row X)) (i : ℕ) (r : Row X) → row_at rs i ≡ Some r → m r ≤ total m rs
+pub total_at : {X : Type 0} → (m : IterationRow X → ℕ) (rs : List (IterationRow X)) (i : ℕ) (r : IterationRow X) → row_at rs i ≡ Some r → m r ≤ total m rs
 total_at m [] i r e = absurd (cc)
 total_at m (x ∷ rs) zero r e = let s : m x ≡ m r = ap m (let z : x ≡ r = cc in z) in omega (arith, s)
 total_at m (x ∷ rs) (suc i) r e = let h = total_at m rs i r e in omega (arith, h)
 
 -- a measure of one row rises
-pub total_set_more : {M : Type 0} → (m : Row M → ℕ) (rs : List (Row M)) (i : ℕ) (r y : Row M) → row_at rs i ≡ Some r → m y ≡ suc (m r) → total m (set rs i y) ≡ suc (total m rs)
+pub total_set_more : {M : Type 0} → (m : IterationRow M → ℕ) (rs : List (IterationRow M)) (i : ℕ) (r y : IterationRow M) → row_at rs i ≡ Some r → m y ≡ suc (m r) → total m (set rs i y) ≡ suc (total m rs)
 total_set_more m [] i r y e q = absurd (cc)
 total_set_more m (x ∷ rs) zero r y e q = let s : m x ≡ m r = ap m (let z : x ≡ r = cc in z) in omega (arith, s, q)
 total_set_more m (x ∷ rs) (suc i) r y e q = let h = total_set_more m rs i r y e q in omega (arith, h)

@@ -17,13 +17,13 @@ use Rattle.pipe_frame.specs.StageEndCases.{EntersAtOnce, MustWait}
 use Rattle.run_laws.proofs.RunStates.Frames.{frame_at_other}
 use Rattle.frame_book.specs.BookStates.{with_events, last_ticket, stamped}
 use Rattle.frame_book.specs.RowsOfFrames.{AreRows}
-use Rattle.frame_book.specs.IterationRows.{Row, left_row_counter, CounterPasses, WaitsAt}
+use Rattle.frame_book.specs.IterationRows.{IterationRow, left_row_counter, CounterPasses, WaitsAt}
 use Rattle.frame_book.specs.CallEffects.{stage_end}
 use Rattle.frame_book.proofs.BookLogs.LogEntries.{last_ticket_with, entry_of}
 use Rattle.frame_book.proofs.Iterations.FrameRows.{left_passes, counter_same}
 
 -- the left counter by rows and by frames
-pub left_counter_same : {M : Type 0} → (going : Bool) (fs : List Frame) (rs : List (Row M)) (i : ℕ) → AreRows going fs rs → left_row_counter rs i ≡ left_counter fs i
+pub left_counter_same : {M : Type 0} → (going : Bool) (fs : List Frame) (rs : List (IterationRow M)) (i : ℕ) → AreRows going fs rs → left_row_counter rs i ≡ left_counter fs i
 left_counter_same going fs rs zero h = refl
 left_counter_same going [] [] (suc j) h = refl
 left_counter_same going [] (r ∷ rs) (suc j) h = absurd h
@@ -37,7 +37,7 @@ passes_option None n p = absurd p
 passes_option (Some c) n p = p
 
 -- the kept counter after a read is not ahead
-pub not_ahead : {M : Type 0} → (going : Bool) (fs : List Frame) (rs : List (Row M)) (i : ℕ) (read : Bool) (folded : Option Counter) → AreRows going fs rs → i ≤ length rs → IsNotAhead fs i folded → IsNotAhead fs i (cond read (left_row_counter rs i) folded)
+pub not_ahead : {M : Type 0} → (going : Bool) (fs : List Frame) (rs : List (IterationRow M)) (i : ℕ) (read : Bool) (folded : Option Counter) → AreRows going fs rs → i ≤ length rs → IsNotAhead fs i folded → IsNotAhead fs i (cond read (left_row_counter rs i) folded)
 not_ahead going fs rs i true folded h l a = λ n p. (left_passes going fs rs i n h l).0 (passes_option (left_row_counter rs i) n p)
 not_ahead going fs rs i false folded h l a = a
 
@@ -48,13 +48,13 @@ test_passes (Some (At m)) n e = grind (arith, ints)
 test_passes (Some Ended) n e = tt
 
 -- a left counter that is there passes as a kept one
-pub passes_left : {M : Type 0} → (going : Bool) (fs : List Frame) (rs : List (Row M)) (j : ℕ) (n : ℤ) → AreRows going fs rs → suc j ≤ length rs → CounterPasses (left_row_counter rs (suc j)) n → FoldedPasses (left_row_counter rs (suc j)) n
+pub passes_left : {M : Type 0} → (going : Bool) (fs : List Frame) (rs : List (IterationRow M)) (j : ℕ) (n : ℤ) → AreRows going fs rs → suc j ≤ length rs → CounterPasses (left_row_counter rs (suc j)) n → FoldedPasses (left_row_counter rs (suc j)) n
 passes_left going fs [] j n h l p = absurd (omega (arith, l))
 passes_left going [] (r ∷ rs) j n h l p = absurd h
 passes_left going (f ∷ fs) (r ∷ rs) zero n h l p = p
 passes_left going (f ∷ fs) (r ∷ rs) (suc j) n h l p = passes_left going fs rs j n h.1 (omega (arith, l)) p
 
-module _ {M : Type 0} (going : Bool) (fs : List Frame) (rs : List (Row M)) (i : ℕ) (kind : Kind) (n : ℤ) (read : Bool) (folded : Option Counter)
+module _ {M : Type 0} (going : Bool) (fs : List Frame) (rs : List (IterationRow M)) (i : ℕ) (kind : Kind) (n : ℤ) (read : Bool) (folded : Option Counter)
     (h : AreRows going fs rs) (l : i ≤ length rs) (a : IsNotAhead fs i folded) (is : read ≡ must_read_left i folded (stage_end kind n)) where
   abbrev pub now : Option Counter
   now = cond read (left_row_counter rs i) folded

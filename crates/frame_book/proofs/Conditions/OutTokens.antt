@@ -10,7 +10,7 @@ use Rattle.pipe_frame.specs.TokenFields.{fields_of}
 use Rattle.pipe_frame.specs.declared.token.FrameToken.{FrameToken}
 use Rattle.frame_book.specs.BookStates.{IsOut, Kept, Out, Spent, TokenState, item_or, state_of}
 use Rattle.frame_book.specs.Invariant.{IsBook}
-use Rattle.frame_book.specs.IterationRows.{Row}
+use Rattle.frame_book.specs.IterationRows.{IterationRow}
 use Rattle.frame_book.specs.RowsOfFrames.{AreRows, IsRowOf, TokenFits}
 use Rattle.frame_book.specs.Tables.{Tables, book_state, token_state_by, token_state_of}
 use Rattle.std.specs.Prelude.{ℤ}
@@ -31,7 +31,7 @@ record Runs (fs : List Frame) (i : ℕ) : Type 0 where
   pub is : frame_at fs i ≡ Some frame
   pub runs : frame.status ≡ Running
 
-out_row : {M : Type 0} → (fs : List Frame) (rows : List (Row M)) (i : ℕ) → AreRows true fs rows → item_or Spent (map token_state_of rows) i ≡ Out → Runs fs i
+out_row : {M : Type 0} → (fs : List Frame) (rows : List (IterationRow M)) (i : ℕ) → AreRows true fs rows → item_or Spent (map token_state_of rows) i ≡ Out → Runs fs i
 out_row [] [] i h out = absurd (let spent : Spent ≡ Out = out in cc)
 out_row [] (r ∷ rows) i h out = absurd h
 out_row (f ∷ fs) [] i h out = absurd h

@@ -16,7 +16,7 @@ use Rattle.pipe_model.specs.Runs.State.{Frame, frame_at, end_of_status}
 use Rattle.run_laws.proofs.RunStates.Frames.{frame_at_exists}
 use Rattle.frame_book.specs.Rooms.{IsSized, IsPlanned, IsFresh, total, room_in, rooms_of}
 use Rattle.frame_book.specs.Invariant.{MatchesFrame, pending_nodes}
-use Rattle.frame_book.specs.IterationRows.{Row}
+use Rattle.frame_book.specs.IterationRows.{IterationRow}
 
 -- the sum over two lists
 pub total_append : {X : Type 0} → (m : X → ℕ) (xs ys : List X) → total m (xs ++ ys) ≡ total m xs + total m ys
@@ -80,13 +80,13 @@ last_goes_not f d xs l p t some c =
     by (Completed x) e a b c z = let w = c (z x (sym e)) in omega (arith, a, b, w)
 
 -- the rooms with a spare row taken into use
-module _ {M : Type 0} (rows spare : List (Row M)) (row y : Row M) (same : y.room ≡ row.room) where
+module _ {M : Type 0} (rows spare : List (IterationRow M)) (row y : IterationRow M) (same : y.room ≡ row.room) where
   turned : reverse (spare ++ row ∷ []) ≡ row ∷ reverse spare
   turned = reverse-append spare (row ∷ [])
 
   pub rooms_pop : rooms_of (rows ++ y ∷ []) spare ≡ rooms_of rows (spare ++ row ∷ [])
   rooms_pop =
-      let f : Row M → ℕ = λ r. r.room in
+      let f : IterationRow M → ℕ = λ r. r.room in
       ap (map f) (append_assoc rows (y ∷ []) (reverse spare))
       ∙ (map-append f rows (y ∷ reverse spare)
       ∙ (ap (λ n. map f rows ++ n ∷ map f (reverse spare)) same
@@ -95,8 +95,8 @@ module _ {M : Type 0} (rows spare : List (Row M)) (row y : Row M) (same : y.room
 
   pub room_in_pop : room_in (rows ++ y ∷ []) spare ≡ room_in rows (spare ++ row ∷ [])
   room_in_pop =
-      let a = total_append (λ (r : Row M). r.room) rows (y ∷ []) in
-      let b : total (λ (r : Row M). r.room) (reverse (spare ++ row ∷ [])) ≡ row.room + total (λ (r : Row M). r.room) (reverse spare) = ap (total (λ (r : Row M). r.room)) turned in
+      let a = total_append (λ (r : IterationRow M). r.room) rows (y ∷ []) in
+      let b : total (λ (r : IterationRow M). r.room) (reverse (spare ++ row ∷ [])) ≡ row.room + total (λ (r : IterationRow M). r.room) (reverse spare) = ap (total (λ (r : IterationRow M). r.room)) turned in
       omega (arith, a, b, same)
 
   pub fresh_pop : All IsFresh (spare ++ row ∷ []) → All IsFresh spare × IsFresh row
@@ -115,7 +115,7 @@ module _ {M : Type 0} (rows spare : List (Row M)) (row y : Row M) (same : y.room
   -- it has room
   pub room_of_spare : (p : Pipeline) → IsPlanned p (rooms_of rows (spare ++ row ∷ [])) → 0 < row.room
   room_of_spare p h =
-      let f : Row M → ℕ = λ r. r.room in
+      let f : IterationRow M → ℕ = λ r. r.room in
       let e : rooms_of rows (spare ++ row ∷ []) ≡ map f rows ++ row.room ∷ map f (reverse spare) = ap (λ l. map f (rows ++ l)) turned ∙ map-append f rows (row ∷ reverse spare) in
       let n : length (map f rows) ≡ length rows = length-map rows f in
       let wide : length (rooms_of rows (spare ++ row ∷ [])) ≡ length (map f rows) + length (row.room ∷ map f (reverse spare)) = ap length e ∙ length-append (map f rows) (row.room ∷ map f (reverse spare)) in
@@ -126,9 +126,9 @@ module _ {M : Type 0} (rows spare : List (Row M)) (row y : Row M) (same : y.room
       omega (arith, here, z)
 
 -- there are not many rows
-pub few_rows : {M : Type 0} → (p : Pipeline) (rows spare : List (Row M)) (down right log : ℕ) → IsSized p rows spare down right log → length rows + length spare ≤ room_in rows spare
+pub few_rows : {M : Type 0} → (p : Pipeline) (rows spare : List (IterationRow M)) (down right log : ℕ) → IsSized p rows spare down right log → length rows + length spare ≤ room_in rows spare
 few_rows p rows spare down right log h =
-    let f : Row _ → ℕ = λ r. r.room in
+    let f : IterationRow _ → ℕ = λ r. r.room in
     let a = few_of_total f (rows ++ reverse spare) (λ i l. (
     let w : length (rooms_of rows spare) ≡ length (rows ++ reverse spare) = length-map (rows ++ reverse spare) f in
     let q = h.planned.room i (omega (arith, l, w)) in
@@ -140,9 +140,9 @@ few_rows p rows spare down right log h =
     omega (arith, a, b, c, d)
 
 -- the spare rows have room
-pub spare_room : {M : Type 0} → (p : Pipeline) (rows spare : List (Row M)) (down right log : ℕ) → IsSized p rows spare down right log → length spare ≤ total (λ (r : Row M). r.room) (reverse spare)
+pub spare_room : {M : Type 0} → (p : Pipeline) (rows spare : List (IterationRow M)) (down right log : ℕ) → IsSized p rows spare down right log → length spare ≤ total (λ (r : IterationRow M). r.room) (reverse spare)
 spare_room p rows spare down right log h =
-    let f : Row _ → ℕ = λ r. r.room in
+    let f : IterationRow _ → ℕ = λ r. r.room in
     let w : length (rooms_of rows spare) ≡ length (rows ++ reverse spare) = length-map (rows ++ reverse spare) f in
     let c = length-append rows (reverse spare) in
     let d = length-reverse spare in
@@ -154,12 +154,12 @@ spare_room p rows spare down right log h =
     omega (arith, a, d)
 
 -- if no spare row is left, the last iteration has begun, after which the loop does not go on
-pub spare_left : {M : Type 0} → (p : Pipeline) (rows spare : List (Row M)) (fs : List Frame) (down right log : ℕ) (acts : ℕ → List Action) → IsSized p rows spare down right log → length fs ≡ length rows
+pub spare_left : {M : Type 0} → (p : Pipeline) (rows spare : List (IterationRow M)) (fs : List Frame) (down right log : ℕ) (acts : ℕ → List Action) → IsSized p rows spare down right log → length fs ≡ length rows
     → ((i : ℕ) → Performs (p.behaviour i) (acts i)) → ((i : ℕ) (f : Frame) → frame_at fs i ≡ Some f → MatchesFrame f (acts i))
     → ((i : ℕ) (f : Frame) → frame_at fs i ≡ Some f → 0 < length f.nodes)
     → ((j : ℕ) (f : Frame) → length fs ≡ suc j → frame_at fs j ≡ Some f → ContinuesLoop f.status f.nodes) → length spare ≡ 0 → ⊥
 spare_left p rows spare fs down right log acts h same performs matches filled follows none =
-    let f : Row _ → ℕ = λ r. r.room in
+    let f : IterationRow _ → ℕ = λ r. r.room in
     let w : length (rooms_of rows spare) ≡ length (rows ++ reverse spare) = length-map (rows ++ reverse spare) f in
     let c = length-append rows (reverse spare) in
     let d = length-reverse spare in

@@ -2,12 +2,12 @@
 use Rattle.std.proofs.Common.{◌≡◌, ◌≤◌, List, [], ◌∷◌, length, ap, ◌∙◌, arith, Bool}
 use Rattle.std.proofs.lemmas.List.{length-map}
 use Rattle.pipe_model.specs.Runs.State.{Frame}
-use Rattle.frame_book.specs.IterationRows.{Row}
+use Rattle.frame_book.specs.IterationRows.{IterationRow}
 use Rattle.frame_book.specs.RowsOfFrames.{AreRows}
 use Rattle.frame_book.specs.Rooms.{total}
 
 -- no more instances than rooms
-pub rows_fit : {M : Type 0} → (going : Bool) (fs : List Frame) (rs : List (Row M)) → AreRows going fs rs → total (λ r. length r.numbers) rs ≤ total (λ r. r.room) rs
+pub rows_fit : {M : Type 0} → (going : Bool) (fs : List Frame) (rs : List (IterationRow M)) → AreRows going fs rs → total (λ r. length r.numbers) rs ≤ total (λ r. r.room) rs
 rows_fit going [] [] h = omega arith
 rows_fit going [] (r ∷ rs) h = absurd h
 rows_fit going (f ∷ fs) [] h = absurd h

@@ -40,7 +40,7 @@ use Rattle.frame_book.specs.Invariant.{IsBook, HasActions, MatchesFrame, actions
 use Rattle.frame_book.specs.RowsOfFrames.{IsRowOf, AreRows, token_at, no_marks}
 use Rattle.frame_book.specs.KeptTokens.{IsKeptToken, IsAtHome}
 use Rattle.pipe_model.specs.Runs.Schedules.{running_in_frames}
-use Rattle.frame_book.specs.IterationRows.{Row, row_at, head_marks, with_instance}
+use Rattle.frame_book.specs.IterationRows.{IterationRow, row_at, head_marks, with_instance}
 use Rattle.frame_book.specs.CallEffects.{identities_of_orders, seen_whole}
 use Rattle.frame_book.specs.Tables.{Tables, book_state, token_state_of}
 use Rattle.frame_book.specs.GivenTokens.{IsGivenBy}
@@ -56,21 +56,21 @@ use Rattle.frame_book.proofs.BookLogs.TokensOfStates.{token_at_events}
 use Rattle.frame_book.proofs.StartedInstances.StartRows.{head_marks_is, head_marks_none}
 
 -- rows and frames with one more of each
-pub rows_push : {M : Type 0} → (going : Bool) (fs : List Frame) (rs : List (Row M)) (f : Frame) (y : Row M) → AreRows going fs rs → IsRowOf going f y → AreRows going (fs ++ f ∷ []) (rs ++ y ∷ [])
+pub rows_push : {M : Type 0} → (going : Bool) (fs : List Frame) (rs : List (IterationRow M)) (f : Frame) (y : IterationRow M) → AreRows going fs rs → IsRowOf going f y → AreRows going (fs ++ f ∷ []) (rs ++ y ∷ [])
 rows_push going [] [] f y h q = (q, tt)
 rows_push going [] (r ∷ rs) f y h q = absurd h
 rows_push going (x ∷ fs) [] f y h q = absurd h
 rows_push going (x ∷ fs) (r ∷ rs) f y h q = (h.0, rows_push going fs rs f y h.1 q)
 
 -- the token of a row before the last
-pub token_at_push : {M : Type 0} → (rs : List (Row M)) (y : Row M) (j : ℕ) → y.token ≡ None → token_at (rs ++ y ∷ []) j ≡ token_at rs j
+pub token_at_push : {M : Type 0} → (rs : List (IterationRow M)) (y : IterationRow M) (j : ℕ) → y.token ≡ None → token_at (rs ++ y ∷ []) j ≡ token_at rs j
 token_at_push [] y zero e = e
 token_at_push [] y (suc j) e = refl
 token_at_push (r ∷ rs) y zero e = refl
 token_at_push (r ∷ rs) y (suc j) e = token_at_push rs y j e
 
 -- past the rows there is no token
-pub token_at_past : {M : Type 0} → (rs : List (Row M)) (j : ℕ) → length rs ≤ j → token_at rs j ≡ None
+pub token_at_past : {M : Type 0} → (rs : List (IterationRow M)) (j : ℕ) → length rs ≤ j → token_at rs j ≡ None
 token_at_past [] j l = refl
 token_at_past (r ∷ rs) zero l = absurd (omega (arith, l))
 token_at_past (r ∷ rs) (suc j) l = token_at_past rs j (omega (arith, l))
@@ -179,7 +179,7 @@ module _ {M : Type 0} (Whole : SyntaxTree → M → Type 0) (Stands : SyntaxTree
   right_length = ap length h.right ∙ length_entries (right_first_taken (own_columns c) (start_number starts)) 0 starts
 
   -- the head of the last row has marks
-  pub there : (r : Row M) → row_at b.rows (length b.rows - 1) ≡ Some r → 0 < length r.marks
+  pub there : (r : IterationRow M) → row_at b.rows (length b.rows - 1) ≡ Some r → 0 < length r.marks
   there r at =
       let q = Rattle.frame_book.proofs.Iterations.FrameRows.frame_of_row (not c.stopped) c.frames b.rows (length b.rows - 1) r h.rows.each at in
       let a = q.matches.marks in
@@ -195,7 +195,7 @@ module _ {M : Type 0} (Whole : SyntaxTree → M → Type 0) (Stands : SyntaxTree
       let some = filled j it.0 it.1 in
       let wide : 0 < length (nodes_at (own_columns c) j) = (let z = ap length (nodes_at_frame c.frames j it.0 it.1) in omega (arith, z, some)) in
       head_marks_is b.rows q.row (subst (λ k. row_at b.rows k ≡ Some q.row) (sym p) q.is)
-      ∙ ap Some (ap (λ ms. get_or ms 0 no_marks) (sym (map_at (λ (z : Row M). z.marks) b.rows j q.row [] q.is)) ∙ h.rows.marks j 0 wide)
+      ∙ ap Some (ap (λ ms. get_or ms 0 no_marks) (sym (map_at (λ (z : IterationRow M). z.marks) b.rows j q.row [] q.is)) ∙ h.rows.marks j 0 wide)
 
   pub head_is : head_marks b.rows ≡ head_of (own_columns c) starts n
   head_is = head_marks_are n refl
@@ -272,11 +272,11 @@ nil_of_length (x ∷ xs) e = absurd (omega (arith, e))
 
 module _ {M : Type 0} (Whole : SyntaxTree → M → Type 0) (Stands : SyntaxTree → List ℤ → M → ℕ → List (List ℤ) → Type 0) (tie : M → Tie)
     (b : Tables M) (h : IsBook Whole Stands tie b) (going : b.stopped ≡ false) (unclosed : b.closed ≡ false) (ended : LastEndedFirstInstance (state_after (events_of b.ledger.log)).frames)
-    (home : List M) (m : M) (taken : b.pool.home ≡ home ++ m ∷ []) (spare : List (Row M)) (r : Row M) (popped : b.spare ≡ spare ++ r ∷ []) where
+    (home : List M) (m : M) (taken : b.pool.home ≡ home ++ m ∷ []) (spare : List (IterationRow M)) (r : IterationRow M) (popped : b.spare ≡ spare ++ r ∷ []) where
   abbrev pub q_marks : Marks
   q_marks = marks Whole Stands tie b h going unclosed ended home m taken
 
-  abbrev pub y : Row M
+  abbrev pub y : IterationRow M
   y = with_instance (pos 0) q_marks r
 
   abbrev pub e : Event
@@ -295,7 +295,7 @@ module _ {M : Type 0} (Whole : SyntaxTree → M → Type 0) (Stands : SyntaxTree
   log = with_events b.ledger.log 0 (e ∷ [])
 
   abbrev pub traces : List (List (List Entry))
-  traces = map (λ (z : Row M). z.traces) b.rows
+  traces = map (λ (z : IterationRow M). z.traces) b.rows
 
   -- the tables with the iteration begun
   abbrev pub with_begin : Tables M
@@ -314,16 +314,16 @@ module _ {M : Type 0} (Whole : SyntaxTree → M → Type 0) (Stands : SyntaxTree
   fresh = (fresh_pop b.rows spare r y refl (subst (All IsFresh) popped h.sized.fresh)).1
 
   numbers : r.numbers ≡ []
-  numbers = ap (λ (z : Row M). z.numbers) fresh
+  numbers = ap (λ (z : IterationRow M). z.numbers) fresh
 
   marks_none : r.marks ≡ []
-  marks_none = ap (λ (z : Row M). z.marks) fresh
+  marks_none = ap (λ (z : IterationRow M). z.marks) fresh
 
   traces_none : r.traces ≡ []
-  traces_none = ap (λ (z : Row M). z.traces) fresh
+  traces_none = ap (λ (z : IterationRow M). z.traces) fresh
 
   token_none : r.token ≡ None
-  token_none = ap (λ (z : Row M). z.token) fresh
+  token_none = ap (λ (z : IterationRow M). z.token) fresh
 
   has_room : 0 < r.room
   has_room = room_of_spare b.rows spare r y refl (pipeline_of (tree_of b.program) b.input) (subst (λ l. IsPlanned (pipeline_of (tree_of b.program) b.input) (rooms_of b.rows l)) popped h.sized.planned)
@@ -345,8 +345,8 @@ module _ {M : Type 0} (Whole : SyntaxTree → M → Type 0) (Stands : SyntaxTree
     home = λ u. tt;
   }
 
-  traces_are : map (λ (z : Row M). z.traces) (b.rows ++ y ∷ []) ≡ traces ++ [] ∷ []
-  traces_are = map-append (λ (z : Row M). z.traces) b.rows (y ∷ []) ∙ ap (λ l. traces ++ l ∷ []) traces_none
+  traces_are : map (λ (z : IterationRow M). z.traces) (b.rows ++ y ∷ []) ≡ traces ++ [] ∷ []
+  traces_are = map-append (λ (z : IterationRow M). z.traces) b.rows (y ∷ []) ∙ ap (λ l. traces ++ l ∷ []) traces_none
 
   places_are : map token_state_of (b.rows ++ y ∷ []) ≡ map token_state_of b.rows ++ Out ∷ []
   places_are = map-append token_state_of b.rows (y ∷ []) ∙ ap (λ o. map token_state_of b.rows ++ Rattle.frame_book.specs.Tables.token_state_by o Running ∷ []) token_none
@@ -354,18 +354,18 @@ module _ {M : Type 0} (Whole : SyntaxTree → M → Type 0) (Stands : SyntaxTree
   grown : Grew s.frames fs (starts_of (events_of b.ledger.log)) (at (length b.rows) 0)
   grown = grew Whole Stands tie b h going unclosed ended home m taken
 
-  at_new : get_or (map (λ (z : Row M). z.marks) (b.rows ++ y ∷ [])) (length b.rows) [] ≡ q_marks ∷ []
-  at_new = ap (λ l. get_or l (length b.rows) []) (map-append (λ (z : Row M). z.marks) b.rows (y ∷ []))
-      ∙ (get_or_push (map (λ (z : Row M). z.marks) b.rows) y.marks [] (length b.rows) (length-map b.rows (λ (z : Row M). z.marks)) ∙ ap (λ l. l ++ q_marks ∷ []) marks_none)
+  at_new : get_or (map (λ (z : IterationRow M). z.marks) (b.rows ++ y ∷ [])) (length b.rows) [] ≡ q_marks ∷ []
+  at_new = ap (λ l. get_or l (length b.rows) []) (map-append (λ (z : IterationRow M). z.marks) b.rows (y ∷ []))
+      ∙ (get_or_push (map (λ (z : IterationRow M). z.marks) b.rows) y.marks [] (length b.rows) (length-map b.rows (λ (z : IterationRow M). z.marks)) ∙ ap (λ l. l ++ q_marks ∷ []) marks_none)
 
-  marks_of_new : (k : ℕ) → k < length (nodes_at (columns_of_frames fs) (length b.rows)) → get_or (get_or (map (λ (z : Row M). z.marks) (b.rows ++ y ∷ [])) (length b.rows) []) k no_marks ≡ instance_marks (columns_of_frames fs) news (length b.rows) k
+  marks_of_new : (k : ℕ) → k < length (nodes_at (columns_of_frames fs) (length b.rows)) → get_or (get_or (map (λ (z : IterationRow M). z.marks) (b.rows ++ y ∷ [])) (length b.rows) []) k no_marks ≡ instance_marks (columns_of_frames fs) news (length b.rows) k
   marks_of_new k l =
       let here : frame_at fs (length b.rows) ≡ Some fresh_frame = ap (frame_at fs) (sym same) ∙ frame_at_last s.frames fresh_frame in
       let w : length (nodes_at (columns_of_frames fs) (length b.rows)) ≡ 1 = ap length (nodes_at_frame fs (length b.rows) fresh_frame here) in
       let z : k ≡ 0 = omega (arith, l, w) in
       ap (λ ms. get_or ms k no_marks) at_new ∙ (ap (λ i. get_or (q_marks ∷ []) i no_marks) z ∙ (marks_are Whole Stands tie b h going unclosed ended home m taken ∙ ap (instance_marks (columns_of_frames fs) news (length b.rows)) (sym z)))
 
-  marks_of_old : (j k : ℕ) → j ≢ length b.rows → k < length (nodes_at (columns_of_frames fs) j) → get_or (get_or (map (λ (z : Row M). z.marks) (b.rows ++ y ∷ [])) j []) k no_marks ≡ instance_marks (columns_of_frames fs) news j k
+  marks_of_old : (j k : ℕ) → j ≢ length b.rows → k < length (nodes_at (columns_of_frames fs) j) → get_or (get_or (map (λ (z : IterationRow M). z.marks) (b.rows ++ y ∷ [])) j []) k no_marks ≡ instance_marks (columns_of_frames fs) news j k
   marks_of_old j k o l =
       let other = nodes_at_begun s.frames fresh_frame j (λ x. o (x ∙ same)) in
       let l' : k < length (nodes_at (own_columns s) j) = subst (λ ns. k < length ns) other l in
@@ -373,9 +373,9 @@ module _ {M : Type 0} (Whole : SyntaxTree → M → Type 0) (Stands : SyntaxTree
         | inl less ↦ less
         | inr ge ↦ (let z = ap length (nodes_at_past s.frames j (omega (arith, ge, same))) in absurd (omega (arith, z, l')))
       ] in
-      let wide = length-map b.rows (λ (z : Row M). z.marks) in
-      ap (λ ms. get_or (get_or ms j []) k no_marks) (map-append (λ (z : Row M). z.marks) b.rows (y ∷ []))
-      ∙ (ap (λ ms. get_or ms k no_marks) (get_or_append_left (map (λ (z : Row M). z.marks) b.rows) (y.marks ∷ []) [] j (omega (arith, w, wide)))
+      let wide = length-map b.rows (λ (z : IterationRow M). z.marks) in
+      ap (λ ms. get_or (get_or ms j []) k no_marks) (map-append (λ (z : IterationRow M). z.marks) b.rows (y ∷ []))
+      ∙ (ap (λ ms. get_or ms k no_marks) (get_or_append_left (map (λ (z : IterationRow M). z.marks) b.rows) (y.marks ∷ []) [] j (omega (arith, w, wide)))
       ∙ (h.rows.marks j k l' ∙ sym (marks_same s.frames fs (starts_of (events_of b.ledger.log)) (at (length b.rows) 0) h.logged.sound grown j k l')))
 
   actions_same : (j : ℕ) → actions_in log (traces ++ [] ∷ []) j ≡ actions_in b.ledger.log traces j
@@ -390,7 +390,7 @@ module _ {M : Type 0} (Whole : SyntaxTree → M → Type 0) (Stands : SyntaxTree
 
   actions_none : actions_in b.ledger.log traces (length b.rows) ≡ []
   actions_none =
-      let past : get_or traces (length b.rows) [] ≡ [] = get_or_past traces (length b.rows) [] (let w = length-map b.rows (λ (z : Row M). z.traces) in omega (arith, w)) in
+      let past : get_or traces (length b.rows) [] ≡ [] = get_or_past traces (length b.rows) [] (let w = length-map b.rows (λ (z : IterationRow M). z.traces) in omega (arith, w)) in
       let ends : end_actions (length b.rows) b.ledger.log ≡ [] = nil_of_length (end_actions (length b.rows) b.ledger.log) (h.counted (length b.rows) (inl (sym h.stopped ∙ going)) ∙ ap length past) in
       ap (λ es. map (λ (a : Rattle.pipe_model.specs.Runs.TicketLogs.TimedAction). a.action) (laid_traces (made traces (length b.rows)) 0 es)) ends
       ∙ ap (λ ts. map (λ (a : Rattle.pipe_model.specs.Runs.TicketLogs.TimedAction). a.action) (map timed_access (get_or ts 0 []))) past
@@ -438,12 +438,12 @@ module _ {M : Type 0} (Whole : SyntaxTree → M → Type 0) (Stands : SyntaxTree
         rows = record {
           each = rows_push (not s.stopped) s.frames b.rows fresh_frame y h.rows.each new_row_matches;
           marks = λ j k l. elim (cases_eq j (length b.rows)) [
-            | inl z ↦ subst (λ i. get_or (get_or (map (λ (x : Row M). x.marks) (b.rows ++ y ∷ [])) i []) k no_marks ≡ instance_marks (columns_of_frames fs) news i k) (sym z) (marks_of_new k (subst (λ i. k < length (nodes_at (columns_of_frames fs) i)) z l))
+            | inl z ↦ subst (λ i. get_or (get_or (map (λ (x : IterationRow M). x.marks) (b.rows ++ y ∷ [])) i []) k no_marks ≡ instance_marks (columns_of_frames fs) news i k) (sym z) (marks_of_new k (subst (λ i. k < length (nodes_at (columns_of_frames fs) i)) z l))
             | inr o ↦ marks_of_old j k o l
           ];
           started = (
               let v = length_push (starts_of (events_of b.ledger.log)) (at (length b.rows) 0) in
-              let t = total_append (λ (z : Row M). length z.numbers) b.rows (y ∷ []) in
+              let t = total_append (λ (z : IterationRow M). length z.numbers) b.rows (y ∷ []) in
               let z = h.rows.started in
               let one : length y.numbers ≡ 1 = ap (λ l. length (l ++ pos 0 ∷ [])) numbers in
               omega (arith, v, t, z, one));
@@ -499,8 +499,8 @@ module _ {M : Type 0} (Whole : SyntaxTree → M → Type 0) (Stands : SyntaxTree
         };
         payload = record {
           belongs = subst (λ z. BelongsTo z (identities_of_orders b.orders)) (sym tied) (names_seen (tie m).lists with_begin.orders (identities_of_orders b.orders) was.belongs);
-          stands = subst (λ ts. Stands (tree_of b.program) b.input m' (length b.rows) (map replies_of ts)) (sym (ap (λ ts. get_or ts (length b.rows) []) traces_are ∙ (get_or_push traces [] [] (length b.rows) (length-map b.rows (λ (z : Row M). z.traces))))) stands;
+          stands = subst (λ ts. Stands (tree_of b.program) b.input m' (length b.rows) (map replies_of ts)) (sym (ap (λ ts. get_or ts (length b.rows) []) traces_are ∙ (get_or_push traces [] [] (length b.rows) (length-map b.rows (λ (z : IterationRow M). z.traces))))) stands;
         };
         knows = subst (λ z. KnowsMarks z q_marks) (sym tied) (knows_new (tie m).lists with_begin.orders (length b.orders.down.log) (down_at Whole Stands tie b h going unclosed ended home m taken) (right_at Whole Stands tie b h going unclosed ended home m taken) (omega (arith, ld)) (omega (arith, lr, dl, rl)) at_place.down at_place.right);
-        parts = ap (λ ts. length (map replies_of (get_or ts (length b.rows) []))) traces_are ∙ ap (λ ts. length (map replies_of ts)) (get_or_push traces [] [] (length b.rows) (length-map b.rows (λ (z : Row M). z.traces)));
+        parts = ap (λ ts. length (map replies_of (get_or ts (length b.rows) []))) traces_are ∙ ap (λ ts. length (map replies_of ts)) (get_or_push traces [] [] (length b.rows) (length-map b.rows (λ (z : IterationRow M). z.traces)));
       }

@@ -42,7 +42,7 @@ use Rattle.frame_book.specs.RowsOfFrames.{IsRowOf, HasTraceCount, TokenFits, tok
 use Rattle.frame_book.specs.KeptTokens.{IsKeptToken}
 use Rattle.frame_book.specs.Rooms.{rooms_of}
 use Rattle.pipe_model.specs.Runs.Schedules.{running_of_status}
-use Rattle.frame_book.specs.IterationRows.{Row, row_at, with_instance, marks_at, marks_of_row, HasMarks, left_numbers, left_marks, IsSearchable, WaitsAt}
+use Rattle.frame_book.specs.IterationRows.{IterationRow, row_at, with_instance, marks_at, marks_of_row, HasMarks, left_numbers, left_marks, IsSearchable, WaitsAt}
 use Rattle.frame_book.specs.CallEffects.{identities_of_orders, seen_whole, with_entered, kept_folded}
 use Rattle.frame_book.specs.Tables.{Tables, book_state, token_state_of, token_state_by}
 use Rattle.frame_book.specs.GivenTokens.{IsGivenBy}
@@ -60,7 +60,7 @@ use Rattle.frame_book.proofs.BookLogs.TokensOfStates.{token_at_events}
 
 module _ {M : Type 0} (Whole : SyntaxTree → M → Type 0) (Stands : SyntaxTree → List ℤ → M → ℕ → List (List ℤ) → Type 0) (tie : M → Tie)
     (b : Tables M) (h : IsBook Whole Stands tie b) (i : ℕ) (going : (state_after (events_of b.ledger.log)).stopped ≡ false) (may : MayEnter (state_after (events_of b.ledger.log)) i)
-    (r : Row M) (at_row : row_at b.rows i ≡ Some r) where
+    (r : IterationRow M) (at_row : row_at b.rows i ≡ Some r) where
   abbrev pub c : State
   c = state_after (events_of b.ledger.log)
 
@@ -80,16 +80,16 @@ module _ {M : Type 0} (Whole : SyntaxTree → M → Type 0) (Stands : SyntaxTree
   cols = columns_of_frames fs
 
   abbrev pub traces : List (List (List Entry))
-  traces = map (λ (z : Row M). z.traces) b.rows
+  traces = map (λ (z : IterationRow M). z.traces) b.rows
 
   abbrev pub acts : List Action
   acts = actions_in b.ledger.log traces i
 
-  abbrev pub r0 : Row M
+  abbrev pub r0 : IterationRow M
   r0 = record r { token = None }
 
   -- the rows without the token
-  abbrev pub rows : List (Row M)
+  abbrev pub rows : List (IterationRow M)
   rows = set b.rows i r0
 
   same : length c.frames ≡ length b.rows
@@ -135,7 +135,7 @@ module _ {M : Type 0} (Whole : SyntaxTree → M → Type 0) (Stands : SyntaxTree
   pub row_room : length r.numbers < r.room
   row_room =
       let p = pipeline_of (tree_of b.program) b.input in
-      let g : Row M → ℕ = λ z. z.room in
+      let g : IterationRow M → ℕ = λ z. z.room in
       let wide = length-map (b.rows ++ reverse b.spare) g in
       let long = length-append b.rows (reverse b.spare) in
       let l : i < length (rooms_of b.rows b.spare) = (let w = within in omega (arith, w, wide, long)) in
@@ -158,7 +158,7 @@ module _ {M : Type 0} (Whole : SyntaxTree → M → Type 0) (Stands : SyntaxTree
   -- instances are few
   pub few : length f.nodes < 2 ^ 31
   few =
-      let a = total_at (λ (z : Row M). z.room) b.rows i r at_row in
+      let a = total_at (λ (z : IterationRow M). z.room) b.rows i r at_row in
       let z = h.sized.few in
       let l = row_matches.fits in
       omega (arith, a, z, l)
@@ -179,7 +179,7 @@ module _ {M : Type 0} (Whole : SyntaxTree → M → Type 0) (Stands : SyntaxTree
       let e = h.sized.right_room in
       record { down = omega (arith, l, s, d, down_length); right = omega (arith, l, s, e, right_length) }
 
-  marks_kept : map (λ (z : Row M). z.marks) rows ≡ map (λ (z : Row M). z.marks) b.rows
+  marks_kept : map (λ (z : IterationRow M). z.marks) rows ≡ map (λ (z : IterationRow M). z.marks) b.rows
   marks_kept = map_set_same (λ z. z.marks) b.rows i r r0 at_row refl
 
   -- the marks of an instance that has started
@@ -190,7 +190,7 @@ module _ {M : Type 0} (Whole : SyntaxTree → M → Type 0) (Stands : SyntaxTree
   has_marks : (j k : ℕ) (g : Frame) → frame_at c.frames j ≡ Some g → k < length g.nodes → HasMarks rows j k
   has_marks j k g e l =
       let q = row_of_frame (not c.stopped) c.frames b.rows j g h.rows.each e in
-      let m : marks_of_row (row_at rows j) ≡ q.row.marks = marks_row_map rows j ∙ (ap (λ ms. get_or ms j []) marks_kept ∙ map_at (λ (z : Row M). z.marks) b.rows j q.row [] q.is) in
+      let m : marks_of_row (row_at rows j) ≡ q.row.marks = marks_row_map rows j ∙ (ap (λ ms. get_or ms j []) marks_kept ∙ map_at (λ (z : IterationRow M). z.marks) b.rows j q.row [] q.is) in
       let n = q.matches.marks in
       subst (λ ms. k < length ms) (sym m) (omega (arith, n, l))
 
@@ -203,11 +203,11 @@ module _ {M : Type 0} (Whole : SyntaxTree → M → Type 0) (Stands : SyntaxTree
       let g = left_frame a e in
       let q = row_of_frame (not c.stopped) c.frames b.rows a g.0 h.rows.each g.1 in
       let ns = nodes_at_frame c.frames a g.0 g.1 in
-      let nums : map (λ (z : Row M). z.numbers) rows ≡ map (λ (z : Row M). z.numbers) b.rows = map_set_same (λ z. z.numbers) b.rows i r r0 at_row refl in
+      let nums : map (λ (z : IterationRow M). z.numbers) rows ≡ map (λ (z : IterationRow M). z.numbers) b.rows = map_set_same (λ z. z.numbers) b.rows i r r0 at_row refl in
       let some = filled a g.0 g.1 in
       let zero_is = first_is_zero g.0 (actions_in b.ledger.log traces a) (h.actions.matches a g.0 g.1) some in
       let up = named_above f acts may.kind may.number (h.logged.sound.sound.well i f may.is) acts_match may.named in (
-        ap (left_numbers rows) e ∙ (numbers_row_map rows a ∙ (ap (λ ms. get_or ms a []) nums ∙ (map_at (λ (z : Row M). z.numbers) b.rows a q.row [] q.is ∙ (q.matches.numbers ∙ ap (map (λ (n : Node). n.number)) (sym ns))))),
+        ap (left_numbers rows) e ∙ (numbers_row_map rows a ∙ (ap (λ ms. get_or ms a []) nums ∙ (map_at (λ (z : IterationRow M). z.numbers) b.rows a q.row [] q.is ∙ (q.matches.numbers ∙ ap (map (λ (n : Node). n.number)) (sym ns))))),
         subst (λ l. 0 < length l) (sym ns) some,
         subst (λ l. (node_at l 0).number ≤ℤ may.number) (sym ns) (omega (arith, ints, zero_is, up)),
       )
@@ -224,7 +224,7 @@ module _ {M : Type 0} (Whole : SyntaxTree → M → Type 0) (Stands : SyntaxTree
           let ns = nodes_at_frame c.frames a g.0 g.1 in
           let well = h.logged.sound.sound.well a g.0 g.1 in
           let q = row_of_frame (not c.stopped) c.frames b.rows a g.0 h.rows.each g.1 in
-          let room' = total_at (λ (z : Row M). z.room) b.rows a q.row q.is in
+          let room' = total_at (λ (z : IterationRow M). z.room) b.rows a q.row q.is in
           let fits = q.matches.fits in
           let small = h.sized.few in
           let wide = length-map g.0.nodes (λ (n : Node). n.number) in
@@ -347,7 +347,7 @@ module _ {M : Type 0} (Whole : SyntaxTree → M → Type 0) (Stands : SyntaxTree
       marks_are : marks ≡ instance_marks cols (starts ++ at i (suc t.index) ∷ []) i (suc t.index)
       marks_are = marks_grow c.frames fs starts (at i (suc t.index)) h.logged.sound grew (length b.orders.down.log) down_at right_at down_length down_is right_is
 
-      abbrev pub y : Row M
+      abbrev pub y : IterationRow M
       y = with_instance may.number marks r0
 
       abbrev pub e : Event
@@ -380,18 +380,18 @@ module _ {M : Type 0} (Whole : SyntaxTree → M → Type 0) (Stands : SyntaxTree
         home = λ q. tt;
       })
 
-      traces_are : map (λ (z : Row M). z.traces) (set b.rows i y) ≡ traces
+      traces_are : map (λ (z : IterationRow M). z.traces) (set b.rows i y) ≡ traces
       traces_are = map_set_same (λ z. z.traces) b.rows i r y at_row refl
 
-      marks_set : map (λ (z : Row M). z.marks) (set b.rows i y) ≡ set (map (λ (z : Row M). z.marks) b.rows) i (r.marks ++ marks ∷ [])
-      marks_set = map-set (λ (z : Row M). z.marks) b.rows i y
+      marks_set : map (λ (z : IterationRow M). z.marks) (set b.rows i y) ≡ set (map (λ (z : IterationRow M). z.marks) b.rows) i (r.marks ++ marks ∷ [])
+      marks_set = map-set (λ (z : IterationRow M). z.marks) b.rows i y
 
-      marks_of_here : (k : ℕ) → k < length (nodes_at cols i) → get_or (get_or (map (λ (z : Row M). z.marks) (set b.rows i y)) i []) k no_marks ≡ instance_marks cols news i k
+      marks_of_here : (k : ℕ) → k < length (nodes_at cols i) → get_or (get_or (map (λ (z : IterationRow M). z.marks) (set b.rows i y)) i []) k no_marks ≡ instance_marks cols news i k
       marks_of_here k l =
-          let wide = length-map b.rows (λ (z : Row M). z.marks) in
+          let wide = length-map b.rows (λ (z : IterationRow M). z.marks) in
           let w = within in
-          let here : get_or (map (λ (z : Row M). z.marks) (set b.rows i y)) i [] ≡ r.marks ++ marks ∷ [] =
-          ap (λ ms. get_or ms i []) marks_set ∙ get_or-set_same (map (λ (z : Row M). z.marks) b.rows) i (r.marks ++ marks ∷ []) [] (omega (arith, w, wide)) in
+          let here : get_or (map (λ (z : IterationRow M). z.marks) (set b.rows i y)) i [] ≡ r.marks ++ marks ∷ [] =
+          ap (λ ms. get_or ms i []) marks_set ∙ get_or-set_same (map (λ (z : IterationRow M). z.marks) b.rows) i (r.marks ++ marks ∷ []) [] (omega (arith, w, wide)) in
           let n = ap length nodes_new in
           let m = length_push f.nodes (node_of may.kind may.number) in
           let rm = row_matches.marks in
@@ -400,18 +400,18 @@ module _ {M : Type 0} (Whole : SyntaxTree → M → Type 0) (Stands : SyntaxTree
             | inl less ↦ (
                 let l' : k < length (nodes_at (own_columns c) i) = (let z = ap length nodes_are in omega (arith, z, less, rm)) in
                 get_or_append_left r.marks (marks ∷ []) no_marks k less
-                ∙ (ap (λ ms. get_or ms k no_marks) (sym (map_at (λ (z : Row M). z.marks) b.rows i r [] at_row))
+                ∙ (ap (λ ms. get_or ms k no_marks) (sym (map_at (λ (z : IterationRow M). z.marks) b.rows i r [] at_row))
                 ∙ (h.rows.marks i k l' ∙ sym (marks_same c.frames fs starts (at i (suc t.index)) h.logged.sound grew i k l'))))
             | inr ge ↦ (
                 let z : k ≡ suc t.index = omega (arith, l, n, m, rm, ge, ix) in
                 get_or_push r.marks marks no_marks k (omega (arith, z, rm, ix)) ∙ (marks_are ∙ ap (instance_marks cols news i) (sym z)))
           ]
 
-      marks_of_other : (j k : ℕ) → j ≢ i → k < length (nodes_at cols j) → get_or (get_or (map (λ (z : Row M). z.marks) (set b.rows i y)) j []) k no_marks ≡ instance_marks cols news j k
+      marks_of_other : (j k : ℕ) → j ≢ i → k < length (nodes_at cols j) → get_or (get_or (map (λ (z : IterationRow M). z.marks) (set b.rows i y)) j []) k no_marks ≡ instance_marks cols news j k
       marks_of_other j k o l =
           let l' : k < length (nodes_at (own_columns c) j) = subst (λ ns. k < length ns) (nodes_at_other c.frames i j u o) l in
           ap (λ ms. get_or (get_or ms j []) k no_marks) marks_set
-          ∙ (ap (λ ms. get_or ms k no_marks) (get_or-set_other (map (λ (z : Row M). z.marks) b.rows) i j (r.marks ++ marks ∷ []) [] o)
+          ∙ (ap (λ ms. get_or ms k no_marks) (get_or-set_other (map (λ (z : IterationRow M). z.marks) b.rows) i j (r.marks ++ marks ∷ []) [] o)
           ∙ (h.rows.marks j k l' ∙ sym (marks_same c.frames fs starts (at i (suc t.index)) h.logged.sound grew j k l')))
 
       ends_same : (j : ℕ) → end_actions j log ≡ end_actions j b.ledger.log
@@ -458,12 +458,12 @@ module _ {M : Type 0} (Whole : SyntaxTree → M → Type 0) (Stands : SyntaxTree
             rows = record {
               each = rows_set (not c.stopped) c.frames b.rows i f u y h.rows.each may.is new_row_matches;
               marks = λ j k l. elim (cases_eq j i) [
-                | inl z ↦ subst (λ d. get_or (get_or (map (λ (x : Row M). x.marks) (set b.rows i y)) d []) k no_marks ≡ instance_marks cols news d k) (sym z) (marks_of_here k (subst (λ d. k < length (nodes_at cols d)) z l))
+                | inl z ↦ subst (λ d. get_or (get_or (map (λ (x : IterationRow M). x.marks) (set b.rows i y)) d []) k no_marks ≡ instance_marks cols news d k) (sym z) (marks_of_here k (subst (λ d. k < length (nodes_at cols d)) z l))
                 | inr o ↦ marks_of_other j k o l
               ];
               started = (
                   let v = length_push starts (at i (suc t.index)) in
-                  let q = total_set_more (λ (z : Row M). length z.numbers) b.rows i r y at_row (let w = length_push r.numbers may.number in omega (arith, w)) in
+                  let q = total_set_more (λ (z : IterationRow M). length z.numbers) b.rows i r y at_row (let w = length_push r.numbers may.number in omega (arith, w)) in
                   let z = h.rows.started in
                   omega (arith, v, q, z));
             };

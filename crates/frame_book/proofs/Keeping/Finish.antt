@@ -33,7 +33,7 @@ use Rattle.pipe_frame.specs.Replies.{replies_of, accessed}
 use Rattle.frame_book.specs.Invariant.{IsBook, HasActions, MatchesFrame, actions_in, pending_nodes}
 use Rattle.frame_book.specs.RowsOfFrames.{IsRowOf, IsUnheld, HasTraceCount, token_at, no_marks}
 use Rattle.frame_book.specs.KeptTokens.{IsKeptToken, IsAtHome}
-use Rattle.frame_book.specs.IterationRows.{Row, row_at, with_trace}
+use Rattle.frame_book.specs.IterationRows.{IterationRow, row_at, with_trace}
 use Rattle.pipe_model.specs.declared.column.ColumnEnd.{ColumnEnd}
 use Rattle.frame_book.proofs.Keeping.Name.{running_set, left_passed_moved}
 use Rattle.frame_book.specs.CallEffects.{identities_of_orders, with_finished}
@@ -120,7 +120,7 @@ closed_ended fs i f u was now e a w n = (
     go false false p r q = absurd (let z : false ≡ true = q in cc)
 
 module _ {M : Type 0} (Whole : SyntaxTree → M → Type 0) (Stands : SyntaxTree → List ℤ → M → ℕ → List (List ℤ) → Type 0) (tie : M → Tie)
-    (b : Tables M) (t : FrameToken M) (r : Row M) (x : ColumnEnd) (shut : Bool) (trace : List Entry)
+    (b : Tables M) (t : FrameToken M) (r : IterationRow M) (x : ColumnEnd) (shut : Bool) (trace : List Entry)
     (h : IsBook Whole Stands tie b) (at : row_at b.rows t.iteration ≡ Some r) (going : (state_after (events_of b.ledger.log)).stopped ≡ false)
     (out : IsOutOf (book_state b) (fields_of t))
     (performs : Performs ((pipeline_in (book_state b)).behaviour t.iteration) (actions_at (book_state b) t.iteration ++ (accessed trace ++ Ended x ∷ [])))
@@ -130,7 +130,7 @@ module _ {M : Type 0} (Whole : SyntaxTree → M → Type 0) (Stands : SyntaxTree
   c = state_after (events_of b.ledger.log)
 
   abbrev pub traces : List (List (List Entry))
-  traces = map (λ (z : Row M). z.traces) b.rows
+  traces = map (λ (z : IterationRow M). z.traces) b.rows
 
   abbrev pub acts : List Action
   acts = actions_in b.ledger.log traces t.iteration
@@ -141,7 +141,7 @@ module _ {M : Type 0} (Whole : SyntaxTree → M → Type 0) (Stands : SyntaxTree
   abbrev pub u : Frame → Frame
   u = with_action (Ended x) (Completed x)
 
-  abbrev pub row : Row M
+  abbrev pub row : IterationRow M
   row = with_trace trace (Completed x) r
 
   abbrev pub with_finish : Tables M
@@ -177,10 +177,10 @@ module _ {M : Type 0} (Whole : SyntaxTree → M → Type 0) (Stands : SyntaxTree
   columns_stay : own_columns (next_state c (Finish t.iteration x)) ≡ own_columns c
   columns_stay = columns-action c.frames t.iteration (Ended x) (Completed x)
 
-  traces_are : map (λ (z : Row M). z.traces) (set b.rows t.iteration row) ≡ set traces t.iteration (get_or traces t.iteration [] ++ trace ∷ [])
-  traces_are = map-set (λ (z : Row M). z.traces) b.rows t.iteration row ∙ ap (λ ts. set traces t.iteration (ts ++ trace ∷ [])) (sym (map_at (λ (z : Row M). z.traces) b.rows t.iteration r [] at))
+  traces_are : map (λ (z : IterationRow M). z.traces) (set b.rows t.iteration row) ≡ set traces t.iteration (get_or traces t.iteration [] ++ trace ∷ [])
+  traces_are = map-set (λ (z : IterationRow M). z.traces) b.rows t.iteration row ∙ ap (λ ts. set traces t.iteration (ts ++ trace ∷ [])) (sym (map_at (λ (z : IterationRow M). z.traces) b.rows t.iteration r [] at))
 
-  marks_are : map (λ (z : Row M). z.marks) (set b.rows t.iteration row) ≡ map (λ (z : Row M). z.marks) b.rows
+  marks_are : map (λ (z : IterationRow M). z.marks) (set b.rows t.iteration row) ≡ map (λ (z : IterationRow M). z.marks) b.rows
   marks_are = map_set_same (λ z. z.marks) b.rows t.iteration r row at refl
 
   none : r.token ≡ None
@@ -190,7 +190,7 @@ module _ {M : Type 0} (Whole : SyntaxTree → M → Type 0) (Stands : SyntaxTree
   counted_here = h.counted t.iteration (inl going)
 
   within : t.iteration < length traces
-  within = let l = row_at_within b.rows t.iteration r at in let e = length-map b.rows (λ (z : Row M). z.traces) in omega (arith, l, e)
+  within = let l = row_at_within b.rows t.iteration r at in let e = length-map b.rows (λ (z : IterationRow M). z.traces) in omega (arith, l, e)
 
   -- the row is that of the frame
   row_matches : IsRowOf (not c.stopped) f r
@@ -282,7 +282,7 @@ module _ {M : Type 0} (Whole : SyntaxTree → M → Type 0) (Stands : SyntaxTree
         };
         rows = record {
           each = rows_set (not c.stopped) c.frames b.rows i f u row h.rows.each out.token.running.is new_row_matches;
-          marks = subst (λ cols. (j q : ℕ) → q < length (nodes_at cols j) → get_or (get_or (map (λ (z : Row M). z.marks) (set b.rows i row)) j []) q no_marks ≡ instance_marks cols starts j q) (sym columns_stay)
+          marks = subst (λ cols. (j q : ℕ) → q < length (nodes_at cols j) → get_or (get_or (map (λ (z : IterationRow M). z.marks) (set b.rows i row)) j []) q no_marks ≡ instance_marks cols starts j q) (sym columns_stay)
               (λ j q w. ap (λ ms. get_or (get_or ms j []) q no_marks) marks_are ∙ h.rows.marks j q w);
           started = h.rows.started ∙ sym (total_set_same (λ z. length z.numbers) b.rows i r row at refl);
         };

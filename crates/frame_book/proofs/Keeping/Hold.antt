@@ -16,7 +16,7 @@ use Rattle.pipe_frame.specs.declared.token.FrameToken.{FrameToken}
 use Rattle.frame_book.specs.BookStates.{events_of, actions_at, pipeline_in, made, timed_access, Kept}
 use Rattle.frame_book.specs.Invariant.{IsBook, HasActions, MatchesFrame, actions_in}
 use Rattle.frame_book.specs.RowsOfFrames.{IsRowOf, IsUnheld, HasTraceCount, TokenFits, token_at, no_marks}
-use Rattle.frame_book.specs.IterationRows.{Row, row_at}
+use Rattle.frame_book.specs.IterationRows.{IterationRow, row_at}
 use Rattle.frame_book.specs.CallEffects.{with_held}
 use Rattle.frame_book.specs.Tables.{Tables, book_state, token_state_of}
 use Rattle.frame_book.specs.GivenTokens.{IsOutOf}
@@ -53,7 +53,7 @@ end_accessed (Staged j m ∷ xs) tr = end_accessed xs tr
 end_accessed (Ended f ∷ xs) tr = refl
 
 module _ {M : Type 0} (Whole : SyntaxTree → M → Type 0) (Stands : SyntaxTree → List ℤ → M → ℕ → List (List ℤ) → Type 0) (tie : M → Tie)
-    (b : Tables M) (t : FrameToken M) (r : Row M) (trace : List Entry)
+    (b : Tables M) (t : FrameToken M) (r : IterationRow M) (trace : List Entry)
     (h : IsBook Whole Stands tie b) (at : row_at b.rows t.iteration ≡ Some r) (halted : (state_after (events_of b.ledger.log)).stopped ≡ true)
     (out : IsOutOf (book_state b) (fields_of t))
     (performs : Performs ((pipeline_in (book_state b)).behaviour t.iteration) (actions_at (book_state b) t.iteration ++ accessed trace)) where
@@ -61,7 +61,7 @@ module _ {M : Type 0} (Whole : SyntaxTree → M → Type 0) (Stands : SyntaxTree
   c = state_after (events_of b.ledger.log)
 
   abbrev pub traces : List (List (List Entry))
-  traces = map (λ (z : Row M). z.traces) b.rows
+  traces = map (λ (z : IterationRow M). z.traces) b.rows
 
   abbrev pub longer : List (List (List Entry))
   longer = set traces t.iteration (get_or traces t.iteration [] ++ trace ∷ [])
@@ -69,7 +69,7 @@ module _ {M : Type 0} (Whole : SyntaxTree → M → Type 0) (Stands : SyntaxTree
   abbrev pub f : Frame
   f = out.token.running.frame
 
-  abbrev pub row : Row M
+  abbrev pub row : IterationRow M
   row = record r { traces = r.traces ++ trace ∷ []; status = Running; token = Some t }
 
   abbrev pub tables_held : Tables M
@@ -79,13 +79,13 @@ module _ {M : Type 0} (Whole : SyntaxTree → M → Type 0) (Stands : SyntaxTree
   none = out_row b.rows t.iteration r at out.out
 
   within : t.iteration < length traces
-  within = let l = row_at_within b.rows t.iteration r at in let e = length-map b.rows (λ (z : Row M). z.traces) in omega (arith, l, e)
+  within = let l = row_at_within b.rows t.iteration r at in let e = length-map b.rows (λ (z : IterationRow M). z.traces) in omega (arith, l, e)
 
   counted_here : length (end_actions t.iteration b.ledger.log) ≡ length (get_or traces t.iteration [])
   counted_here = h.counted t.iteration (inr (Rattle.frame_book.proofs.Iterations.FrameRows.token_of_row b.rows t.iteration r at ∙ none))
 
-  traces_are : map (λ (z : Row M). z.traces) (set b.rows t.iteration row) ≡ longer
-  traces_are = map-set (λ (z : Row M). z.traces) b.rows t.iteration row ∙ ap (λ ts. set traces t.iteration (ts ++ trace ∷ [])) (sym (map_at (λ (z : Row M). z.traces) b.rows t.iteration r [] at))
+  traces_are : map (λ (z : IterationRow M). z.traces) (set b.rows t.iteration row) ≡ longer
+  traces_are = map-set (λ (z : IterationRow M). z.traces) b.rows t.iteration row ∙ ap (λ ts. set traces t.iteration (ts ++ trace ∷ [])) (sym (map_at (λ (z : IterationRow M). z.traces) b.rows t.iteration r [] at))
 
   here_is : actions_in b.ledger.log longer t.iteration ≡ actions_in b.ledger.log traces t.iteration ++ accessed trace
   here_is =
@@ -135,7 +135,7 @@ module _ {M : Type 0} (Whole : SyntaxTree → M → Type 0) (Stands : SyntaxTree
         traces = λ u. absurd (unheld_not (not (not c.stopped)) (ap (λ s. not (not s)) halted) u);
         home = λ e. subst (λ w. TokenFits w (Some t)) (sym out.token.running.runs) tt;
       });
-      marks = λ j k l. ap (λ ms. get_or (get_or ms j []) k no_marks) (map_set_same (λ (z : Row M). z.marks) b.rows t.iteration r row at refl) ∙ h.rows.marks j k l;
+      marks = λ j k l. ap (λ ms. get_or (get_or ms j []) k no_marks) (map_set_same (λ (z : IterationRow M). z.marks) b.rows t.iteration r row at refl) ∙ h.rows.marks j k l;
       started = h.rows.started ∙ sym (total_set_same (λ z. length z.numbers) b.rows t.iteration r row at refl);
     };
     actions = subst (λ ts. HasActions (pipeline_of (tree_of b.program) b.input) b.ledger.log ts c) (sym traces_are) record {

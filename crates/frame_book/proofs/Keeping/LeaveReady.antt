@@ -16,7 +16,7 @@ use Rattle.frame_book.specs.Invariant.{IsBook, HasActions}
 use Rattle.frame_book.specs.RowsOfFrames.{IsRowOf, IsUnheld, TokenFits, token_at, no_marks}
 use Rattle.frame_book.specs.Rooms.{IsSized, IsPlanned}
 use Rattle.frame_book.specs.KeptTokens.{IsKeptToken}
-use Rattle.frame_book.specs.IterationRows.{Row, row_at}
+use Rattle.frame_book.specs.IterationRows.{IterationRow, row_at}
 use Rattle.frame_book.specs.CallEffects.{after_leave_ready, identities_of_orders}
 use Rattle.pipe_model.specs.Language.Programs.{pipeline_of}
 use Rattle.frame_book.specs.Tables.{Tables, book_state, token_state_of, token_state_by}
@@ -30,21 +30,21 @@ out_keeps_none None w e = refl
 out_keeps_none (Some t) w e = absurd (let q : Kept (fields_of t) ≡ Out = e in cc)
 
 -- the row of an iteration whose token is out
-pub out_row : {M : Type 0} → (rs : List (Row M)) (i : ℕ) (r : Row M) → row_at rs i ≡ Some r → get_or (map token_state_of rs) i Spent ≡ Out → r.token ≡ None
+pub out_row : {M : Type 0} → (rs : List (IterationRow M)) (i : ℕ) (r : IterationRow M) → row_at rs i ≡ Some r → get_or (map token_state_of rs) i Spent ≡ Out → r.token ≡ None
 out_row rs i r e o = out_keeps_none r.token r.status (sym (map_at token_state_of rs i r Spent e) ∙ o)
 
 -- an iteration whose token is out has begun
-pub out_within : {M : Type 0} → (rs : List (Row M)) (i : ℕ) → get_or (map token_state_of rs) i Spent ≡ Out → i < length rs
+pub out_within : {M : Type 0} → (rs : List (IterationRow M)) (i : ℕ) → get_or (map token_state_of rs) i Spent ≡ Out → i < length rs
 out_within [] i e = absurd (let q : Spent ≡ Out = e in cc)
 out_within (r ∷ rs) zero e = omega arith
 out_within (r ∷ rs) (suc i) e = let h = out_within rs i e in omega (arith, h)
 
 -- the row that was read
-pub out_row_read : {M : Type 0} → (rs : List (Row M)) (i : ℕ) (r : Row M) → get_or (map token_state_of rs) i Spent ≡ Out → r ≡ get_or rs i r → row_at rs i ≡ Some r
+pub out_row_read : {M : Type 0} → (rs : List (IterationRow M)) (i : ℕ) (r : IterationRow M) → get_or (map token_state_of rs) i Spent ≡ Out → r ≡ get_or rs i r → row_at rs i ≡ Some r
 out_row_read rs i r o e = row_at_read rs i r (out_within rs i o) e
 
 -- sizes after a change that keeps the room of a row
-pub sized_set : {M : Type 0} → (p : Pipeline) (rs spare : List (Row M)) (i : ℕ) (r y : Row M) (down right log : ℕ) → row_at rs i ≡ Some r → y.room ≡ r.room → IsSized p rs spare down right log → IsSized p (set rs i y) spare down right log
+pub sized_set : {M : Type 0} → (p : Pipeline) (rs spare : List (IterationRow M)) (i : ℕ) (r y : IterationRow M) (down right log : ℕ) → row_at rs i ≡ Some r → y.room ≡ r.room → IsSized p rs spare down right log → IsSized p (set rs i y) spare down right log
 sized_set p rs spare i r y down right log e q h =
     let t = total_set_same (λ z. z.room) rs i r y e q in record {
       planned = subst (IsPlanned p) (sym (rooms_set rs (reverse spare) i r y e q)) h.planned;
@@ -57,20 +57,20 @@ sized_set p rs spare i r y down right log e q h =
 
 module _ {M : Type 0} (Whole : SyntaxTree → M → Type 0) (Stands : SyntaxTree → List ℤ → M → ℕ → List (List ℤ) → Type 0) (tie : M → Tie) where
   -- the tables with a token left ready
-  abbrev pub with_ready : Tables M → FrameToken M → Row M → Tables M
+  abbrev pub with_ready : Tables M → FrameToken M → IterationRow M → Tables M
   with_ready b t r = record b { rows = set b.rows t.iteration (record r { token = Some t }) }
 
-  pub ready_keeps : (b : Tables M) (t : FrameToken M) (r : Row M) → IsBook Whole Stands tie b → row_at b.rows t.iteration ≡ Some r
+  pub ready_keeps : (b : Tables M) (t : FrameToken M) (r : IterationRow M) → IsBook Whole Stands tie b → row_at b.rows t.iteration ≡ Some r
       → IsOutOf (book_state b) (fields_of t) → IsPayloadOf Stands tie (book_state b) t.iteration (replies_at (book_state b) t.iteration) t.payload → KnowsMarks (tie t.payload) t.marks
       → IsBook Whole Stands tie (with_ready b t r)
   ready_keeps b t r h at out pay knows =
       let i = t.iteration in
       let c : State = state_after (events_of b.ledger.log) in
-      let y : Row M = record r { token = Some t } in
+      let y : IterationRow M = record r { token = Some t } in
       let none : r.token ≡ None = out_row b.rows i r at out.out in
       let run = out.token.running in
-      let traces : map (λ (z : Row M). z.traces) (set b.rows i y) ≡ map (λ (z : Row M). z.traces) b.rows = map_set_same (λ z. z.traces) b.rows i r y at refl in
-      let marks : map (λ (z : Row M). z.marks) (set b.rows i y) ≡ map (λ (z : Row M). z.marks) b.rows = map_set_same (λ z. z.marks) b.rows i r y at refl in
+      let traces : map (λ (z : IterationRow M). z.traces) (set b.rows i y) ≡ map (λ (z : IterationRow M). z.traces) b.rows = map_set_same (λ z. z.traces) b.rows i r y at refl in
+      let marks : map (λ (z : IterationRow M). z.marks) (set b.rows i y) ≡ map (λ (z : IterationRow M). z.marks) b.rows = map_set_same (λ z. z.marks) b.rows i r y at refl in
       let within = row_at_within b.rows i r at in
       let old = row_of_frame (not c.stopped) c.frames b.rows i run.frame h.rows.each run.is in
       let same : old.row ≡ r = (let z : Some old.row ≡ Some r = sym old.is ∙ at in cc) in
@@ -102,9 +102,9 @@ module _ {M : Type 0} (Whole : SyntaxTree → M → Type 0) (Stands : SyntaxTree
                 let z : t ≡ t' = cc in
                 let e' : frame_at c.frames i ≡ Some f = subst (λ n. frame_at c.frames n ≡ Some f) s e in
                 let w : run.frame ≡ f = (let q : Some run.frame ≡ Some f = sym run.is ∙ e' in cc) in
-                subst (λ n. IsKeptToken (Stands (tree_of b.program) b.input) tie (identities_of_orders b.orders) (map (λ (z : Row M). z.traces) b.rows) (starts_of (events_of b.ledger.log)) c n f t') (sym s)
-                (subst (λ x. IsKeptToken (Stands (tree_of b.program) b.input) tie (identities_of_orders b.orders) (map (λ (z : Row M). z.traces) b.rows) (starts_of (events_of b.ledger.log)) c i f x) z
-                (subst (λ x. IsKeptToken (Stands (tree_of b.program) b.input) tie (identities_of_orders b.orders) (map (λ (z : Row M). z.traces) b.rows) (starts_of (events_of b.ledger.log)) c i x t) w
+                subst (λ n. IsKeptToken (Stands (tree_of b.program) b.input) tie (identities_of_orders b.orders) (map (λ (z : IterationRow M). z.traces) b.rows) (starts_of (events_of b.ledger.log)) c n f t') (sym s)
+                (subst (λ x. IsKeptToken (Stands (tree_of b.program) b.input) tie (identities_of_orders b.orders) (map (λ (z : IterationRow M). z.traces) b.rows) (starts_of (events_of b.ledger.log)) c i f x) z
+                (subst (λ x. IsKeptToken (Stands (tree_of b.program) b.input) tie (identities_of_orders b.orders) (map (λ (z : IterationRow M). z.traces) b.rows) (starts_of (events_of b.ledger.log)) c i x t) w
                 (record { iteration = refl; index = out.token.index; joined = out.token.joined; folded = out.token.folded; marks = λ q. out.token.marks; knows = λ q. knows; belongs = pay.belongs; stands = pay.stands }))))
             | inr n ↦ h.tokens.tokens going j f t' e (sym (token_at_other b.rows i j y n) ∙ k)
           ]);
@@ -131,9 +131,9 @@ module _ {M : Type 0} (Whole : SyntaxTree → M → Type 0) (Stands : SyntaxTree
       }
 
   -- what contracts see of them
-  pub ready_view : (b : Tables M) (t : FrameToken M) (r : Row M) → row_at b.rows t.iteration ≡ Some r → book_state (with_ready b t r) ≡ after_leave_ready (book_state b) (fields_of t)
+  pub ready_view : (b : Tables M) (t : FrameToken M) (r : IterationRow M) → row_at b.rows t.iteration ≡ Some r → book_state (with_ready b t r) ≡ after_leave_ready (book_state b) (fields_of t)
   ready_view b t r at =
-      let y : Row M = record r { token = Some t } in
-      let traces : map (λ (z : Row M). z.traces) (set b.rows t.iteration y) ≡ map (λ (z : Row M). z.traces) b.rows = map_set_same (λ z. z.traces) b.rows t.iteration r y at refl in
+      let y : IterationRow M = record r { token = Some t } in
+      let traces : map (λ (z : IterationRow M). z.traces) (set b.rows t.iteration y) ≡ map (λ (z : IterationRow M). z.traces) b.rows = map_set_same (λ z. z.traces) b.rows t.iteration r y at refl in
       let places : map token_state_of (set b.rows t.iteration y) ≡ set (map token_state_of b.rows) t.iteration (Kept (fields_of t)) = map-set token_state_of b.rows t.iteration y in
       rw (traces, places) refl

@@ -34,7 +34,7 @@ use Rattle.frame_book.specs.Invariant.{IsBook, HasActions, MatchesFrame, actions
 use Rattle.frame_book.specs.RowsOfFrames.{IsRowOf, IsUnheld, HasTraceCount, token_at, no_marks}
 use Rattle.frame_book.specs.KeptTokens.{IsKeptToken}
 use Rattle.pipe_model.specs.Runs.Schedules.{running_in_frames, running_of_status}
-use Rattle.frame_book.specs.IterationRows.{Row, row_at, suspended_row}
+use Rattle.frame_book.specs.IterationRows.{IterationRow, row_at, suspended_row}
 use Rattle.frame_book.specs.CallEffects.{identities_of_orders, with_named}
 use Rattle.frame_book.specs.Tables.{Tables, book_state, token_state_of}
 use Rattle.frame_book.specs.GivenTokens.{IsOutOf, IsPayloadOf}
@@ -105,7 +105,7 @@ left_passed_moved fs i f u e w (suc j) m l = λ g is. elim (frame_at_moved fs i 
 ]
 
 module _ {M : Type 0} (Whole : SyntaxTree → M → Type 0) (Stands : SyntaxTree → List ℤ → M → ℕ → List (List ℤ) → Type 0) (tie : M → Tie)
-    (b : Tables M) (t : FrameToken M) (r : Row M) (k : Kind) (n : ℤ) (trace : List Entry)
+    (b : Tables M) (t : FrameToken M) (r : IterationRow M) (k : Kind) (n : ℤ) (trace : List Entry)
     (h : IsBook Whole Stands tie b) (at : row_at b.rows t.iteration ≡ Some r) (going : (state_after (events_of b.ledger.log)).stopped ≡ false)
     (out : IsOutOf (book_state b) (fields_of t))
     (performs : Performs ((pipeline_in (book_state b)).behaviour t.iteration) (actions_at (book_state b) t.iteration ++ (accessed trace ++ Staged k n ∷ [])))
@@ -115,7 +115,7 @@ module _ {M : Type 0} (Whole : SyntaxTree → M → Type 0) (Stands : SyntaxTree
   c = state_after (events_of b.ledger.log)
 
   abbrev pub traces : List (List (List Entry))
-  traces = map (λ (z : Row M). z.traces) b.rows
+  traces = map (λ (z : IterationRow M). z.traces) b.rows
 
   abbrev pub acts : List Action
   acts = actions_in b.ledger.log traces t.iteration
@@ -130,7 +130,7 @@ module _ {M : Type 0} (Whole : SyntaxTree → M → Type 0) (Stands : SyntaxTree
   abbrev pub kept : FrameToken M
   kept = record t { now = 1 + max (last_ticket b.ledger.log) t.now }
 
-  abbrev pub row : Row M
+  abbrev pub row : IterationRow M
   row = suspended_row trace k n kept r
 
   abbrev pub with_name : Tables M
@@ -161,10 +161,10 @@ module _ {M : Type 0} (Whole : SyntaxTree → M → Type 0) (Stands : SyntaxTree
   columns_stay : own_columns (next_state c (Advance t.iteration k n)) ≡ own_columns c
   columns_stay = columns-action c.frames t.iteration (Staged k n) (Pending k n)
 
-  traces_are : map (λ (z : Row M). z.traces) (set b.rows t.iteration row) ≡ set traces t.iteration (get_or traces t.iteration [] ++ trace ∷ [])
-  traces_are = map-set (λ (z : Row M). z.traces) b.rows t.iteration row ∙ ap (λ ts. set traces t.iteration (ts ++ trace ∷ [])) (sym (map_at (λ (z : Row M). z.traces) b.rows t.iteration r [] at))
+  traces_are : map (λ (z : IterationRow M). z.traces) (set b.rows t.iteration row) ≡ set traces t.iteration (get_or traces t.iteration [] ++ trace ∷ [])
+  traces_are = map-set (λ (z : IterationRow M). z.traces) b.rows t.iteration row ∙ ap (λ ts. set traces t.iteration (ts ++ trace ∷ [])) (sym (map_at (λ (z : IterationRow M). z.traces) b.rows t.iteration r [] at))
 
-  marks_are : map (λ (z : Row M). z.marks) (set b.rows t.iteration row) ≡ map (λ (z : Row M). z.marks) b.rows
+  marks_are : map (λ (z : IterationRow M). z.marks) (set b.rows t.iteration row) ≡ map (λ (z : IterationRow M). z.marks) b.rows
   marks_are = map_set_same (λ z. z.marks) b.rows t.iteration r row at refl
 
   none : r.token ≡ None
@@ -174,7 +174,7 @@ module _ {M : Type 0} (Whole : SyntaxTree → M → Type 0) (Stands : SyntaxTree
   counted_here = h.counted t.iteration (inl going)
 
   within : t.iteration < length traces
-  within = let l = row_at_within b.rows t.iteration r at in let e = length-map b.rows (λ (z : Row M). z.traces) in omega (arith, l, e)
+  within = let l = row_at_within b.rows t.iteration r at in let e = length-map b.rows (λ (z : IterationRow M). z.traces) in omega (arith, l, e)
 
   -- the row is that of the frame
   row_matches : IsRowOf (not c.stopped) f r
@@ -277,7 +277,7 @@ module _ {M : Type 0} (Whole : SyntaxTree → M → Type 0) (Stands : SyntaxTree
         };
         rows = record {
           each = rows_set (not c.stopped) c.frames b.rows i f u row h.rows.each out.token.running.is new_row_matches;
-          marks = subst (λ cols. (j q : ℕ) → q < length (nodes_at cols j) → get_or (get_or (map (λ (z : Row M). z.marks) (set b.rows i row)) j []) q no_marks ≡ instance_marks cols starts j q) (sym columns_stay)
+          marks = subst (λ cols. (j q : ℕ) → q < length (nodes_at cols j) → get_or (get_or (map (λ (z : IterationRow M). z.marks) (set b.rows i row)) j []) q no_marks ≡ instance_marks cols starts j q) (sym columns_stay)
               (λ j q w. ap (λ ms. get_or (get_or ms j []) q no_marks) marks_are ∙ h.rows.marks j q w);
           started = h.rows.started ∙ sym (total_set_same (λ z. length z.numbers) b.rows i r row at refl);
         };

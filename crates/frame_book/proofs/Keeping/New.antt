@@ -22,7 +22,7 @@ use Rattle.frame_book.specs.Rooms.{IsPlanned, IsFresh, total, rooms_of, room_in}
 use Rattle.frame_book.specs.KeptTokens.{IsAtHome}
 use Rattle.frame_book.specs.NewBooks.{IsPlannedProgram}
 use Rattle.program_laws.specs.WorkBounds.{most_instances}
-use Rattle.frame_book.specs.IterationRows.{Row, empty_row}
+use Rattle.frame_book.specs.IterationRows.{IterationRow, empty_row}
 use Rattle.frame_book.specs.CallEffects.{identities_of_orders}
 use Rattle.frame_book.specs.Tables.{Tables}
 use Rattle.frame_book.proofs.Iterations.SpareRows.{total_append}
@@ -70,7 +70,7 @@ module _ {M : Type 0} (Whole : SyntaxTree → M → Type 0) (Stands : SyntaxTree
   abbrev pub s : ℕ
   s = natural program.limits.stages
 
-  abbrev pub spare : List (Row M)
+  abbrev pub spare : List (IterationRow M)
   spare = empty_row 1 ∷ replicate n (empty_row s)
 
   abbrev pub tables : Tables M
@@ -93,14 +93,14 @@ module _ {M : Type 0} (Whole : SyntaxTree → M → Type 0) (Stands : SyntaxTree
   turned = reverse-append (empty_row 1 ∷ []) (replicate n (empty_row s)) ∙ ap (λ l. l ++ empty_row 1 ∷ []) (reverse_same n (empty_row s))
 
   rooms : rooms_of {M = M} [] spare ≡ replicate n s ++ 1 ∷ []
-  rooms = ap (map (λ (r : Row M). r.room)) turned ∙ (map-append (λ (r : Row M). r.room) (replicate n (empty_row s)) (empty_row 1 ∷ []) ∙ ap (λ l. l ++ 1 ∷ []) (map_same (λ (r : Row M). r.room) n (empty_row s)))
+  rooms = ap (map (λ (r : IterationRow M). r.room)) turned ∙ (map-append (λ (r : IterationRow M). r.room) (replicate n (empty_row s)) (empty_row 1 ∷ []) ∙ ap (λ l. l ++ 1 ∷ []) (map_same (λ (r : IterationRow M). r.room) n (empty_row s)))
 
   rooms_in : room_in {M = M} [] spare ≡ most_instances (tree_of program)
   rooms_in =
-      let a : total (λ (r : Row M). r.room) (reverse spare) ≡ total (λ (r : Row M). r.room) (replicate n (empty_row s) ++ empty_row 1 ∷ []) = ap (total (λ (r : Row M). r.room)) turned in
-      let b = total_append (λ (r : Row M). r.room) (replicate n (empty_row s)) (empty_row 1 ∷ []) in
-      let d : total (λ (r : Row M). r.room) (replicate n (empty_row s)) ≡ n * s = total_same (λ (r : Row M). r.room) n (empty_row s) in
-      let e : total (λ (r : Row M). r.room) (reverse spare) ≡ most_instances (tree_of program) = a ∙ (b ∙ (let z : total (λ (r : Row M). r.room) (empty_row {M = M} 1 ∷ []) ≡ 1 = refl in ap₂ (λ p q. p + q) d z)) in
+      let a : total (λ (r : IterationRow M). r.room) (reverse spare) ≡ total (λ (r : IterationRow M). r.room) (replicate n (empty_row s) ++ empty_row 1 ∷ []) = ap (total (λ (r : IterationRow M). r.room)) turned in
+      let b = total_append (λ (r : IterationRow M). r.room) (replicate n (empty_row s)) (empty_row 1 ∷ []) in
+      let d : total (λ (r : IterationRow M). r.room) (replicate n (empty_row s)) ≡ n * s = total_same (λ (r : IterationRow M). r.room) n (empty_row s) in
+      let e : total (λ (r : IterationRow M). r.room) (reverse spare) ≡ most_instances (tree_of program) = a ∙ (b ∙ (let z : total (λ (r : IterationRow M). r.room) (empty_row {M = M} 1 ∷ []) ≡ 1 = refl in ap₂ (λ p q. p + q) d z)) in
       omega (arith, e)
 
   pub new_keeps : IsBook Whole Stands tie tables

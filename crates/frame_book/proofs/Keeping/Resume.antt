@@ -20,7 +20,7 @@ use Rattle.pipe_frame.specs.Replies.{replies_of}
 use Rattle.frame_book.specs.Invariant.{IsBook, HasActions}
 use Rattle.frame_book.specs.RowsOfFrames.{HasTraceCount, IsRowOf, TokenFits, token_at, no_marks}
 use Rattle.frame_book.specs.KeptTokens.{IsKeptToken}
-use Rattle.frame_book.specs.IterationRows.{Row, row_at}
+use Rattle.frame_book.specs.IterationRows.{IterationRow, row_at}
 use Rattle.frame_book.specs.CallEffects.{with_resumed, with_entered, IsReady, identities_of_orders, kept_folded}
 use Rattle.frame_book.specs.Tables.{Tables, book_state, token_state_of, token_state_by}
 use Rattle.frame_book.specs.GivenTokens.{IsGivenBeside, IsGivenBy}
@@ -29,7 +29,7 @@ use Rattle.frame_book.proofs.Iterations.FrameRows.{row_of_frame, row_at_within, 
 use Rattle.frame_book.proofs.Iterations.ChangedRows.{rows_set_same, token_at_set, token_at_other, map_at, map_set_same, total_set_same, traces_of_row}
 
 -- a row that is put back
-pub set_itself : {M : Type 0} → (rs : List (Row M)) (i : ℕ) (r : Row M) → row_at rs i ≡ Some r → set rs i r ≡ rs
+pub set_itself : {M : Type 0} → (rs : List (IterationRow M)) (i : ℕ) (r : IterationRow M) → row_at rs i ≡ Some r → set rs i r ≡ rs
 set_itself [] i r e = refl
 set_itself (x ∷ rs) zero r e = let s : x ≡ r = cc in ap (λ z. z ∷ rs) (sym s)
 set_itself (x ∷ rs) (suc i) r e = ap (λ l. x ∷ l) (set_itself rs i r e)
@@ -84,15 +84,15 @@ resumes_by_entering v i f k n e s =
 
 module _ {M : Type 0} (Whole : SyntaxTree → M → Type 0) (Stands : SyntaxTree → List ℤ → M → ℕ → List (List ℤ) → Type 0) (tie : M → Tie)
     (b : Tables M) (h : IsBook Whole Stands tie b) (i : ℕ) (going : (state_after (events_of b.ledger.log)).stopped ≡ false)
-    (r : Row M) (at_row : row_at b.rows i ≡ Some r) (f : Frame) (is : frame_at (state_after (events_of b.ledger.log)).frames i ≡ Some f) (runs : f.status ≡ Running) (t : FrameToken M) (held : r.token ≡ Some t) where
+    (r : IterationRow M) (at_row : row_at b.rows i ≡ Some r) (f : Frame) (is : frame_at (state_after (events_of b.ledger.log)).frames i ≡ Some f) (runs : f.status ≡ Running) (t : FrameToken M) (held : r.token ≡ Some t) where
   abbrev pub c : State
   c = state_after (events_of b.ledger.log)
 
-  abbrev pub r0 : Row M
+  abbrev pub r0 : IterationRow M
   r0 = record r { token = None }
 
   abbrev pub traces : List (List (List Entry))
-  traces = map (λ (z : Row M). z.traces) b.rows
+  traces = map (λ (z : IterationRow M). z.traces) b.rows
 
   -- the tables without the token
   abbrev pub with_resume : Tables M
@@ -104,7 +104,7 @@ module _ {M : Type 0} (Whole : SyntaxTree → M → Type 0) (Stands : SyntaxTree
       let z : old.row ≡ r = (let y : Some old.row ≡ Some r = sym old.is ∙ at_row in cc) in
       subst (IsRowOf (not c.stopped) f) z old.matches
 
-  traces_are : map (λ (z : Row M). z.traces) (set b.rows i r0) ≡ traces
+  traces_are : map (λ (z : IterationRow M). z.traces) (set b.rows i r0) ≡ traces
   traces_are = map_set_same (λ z. z.traces) b.rows i r r0 at_row refl
 
   pub kept : IsKeptToken (Stands (tree_of b.program) b.input) tie (identities_of_orders b.orders) traces (starts_of (events_of b.ledger.log)) c i f t
@@ -123,7 +123,7 @@ module _ {M : Type 0} (Whole : SyntaxTree → M → Type 0) (Stands : SyntaxTree
         traces = λ u. row_matches.traces (inl (ap (λ s. not (not s)) going));
         home = λ e. subst (λ w. TokenFits {M = M} w None) (sym runs) tt;
       });
-      marks = λ j k l. ap (λ ms. get_or (get_or ms j []) k no_marks) (map_set_same (λ (z : Row M). z.marks) b.rows i r r0 at_row refl) ∙ h.rows.marks j k l;
+      marks = λ j k l. ap (λ ms. get_or (get_or ms j []) k no_marks) (map_set_same (λ (z : IterationRow M). z.marks) b.rows i r r0 at_row refl) ∙ h.rows.marks j k l;
       started = h.rows.started ∙ sym (total_set_same (λ z. length z.numbers) b.rows i r r0 at_row refl);
     };
     actions = subst (λ ts. HasActions (pipeline_of (tree_of b.program) b.input) b.ledger.log ts c) (sym traces_are) h.actions;

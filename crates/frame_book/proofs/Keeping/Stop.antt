@@ -17,14 +17,14 @@ use Rattle.pipe_frame.specs.Ties.{Tie}
 use Rattle.frame_book.specs.BookStates.{with_events, events_of, last_ticket, made}
 use Rattle.frame_book.specs.Invariant.{IsBook, HasActions, actions_in, MatchesFrame, stop_one}
 use Rattle.frame_book.specs.RowsOfFrames.{AreRows, IsUnheld}
-use Rattle.frame_book.specs.IterationRows.{Row}
+use Rattle.frame_book.specs.IterationRows.{IterationRow}
 use Rattle.frame_book.specs.Tables.{Tables}
 use Rattle.frame_book.proofs.BookLogs.AtEvents.{after_event}
 use Rattle.frame_book.proofs.Iterations.Totals.{rows_fit}
 use Rattle.frame_book.proofs.BookLogs.LogEntries.{rise_with, last_ticket_with, length_with, end_actions-push, entry_of}
 
 -- rows of a stopped book
-rows_stopped : {M : Type 0} → (going : Bool) (fs : List Frame) (rs : List (Row M)) → AreRows going fs rs → AreRows false fs rs
+rows_stopped : {M : Type 0} → (going : Bool) (fs : List Frame) (rs : List (IterationRow M)) → AreRows going fs rs → AreRows false fs rs
 rows_stopped going [] [] h = tt
 rows_stopped going [] (r ∷ rs) h = absurd h
 rows_stopped going (f ∷ fs) [] h = absurd h

@@ -13,7 +13,7 @@ use Rattle.pipe_model.specs.Language.SyntaxTree.{tree_of}
 use Rattle.run_laws.proofs.RunStates.Frames.{frame_at_within}
 use Rattle.frame_book.specs.BookStates.{last_ticket, state_of}
 use Rattle.frame_book.specs.BookTables.{tables_of}
-use Rattle.frame_book.specs.IterationRows.{Row, left_numbers, WaitsAt, marks_at, left_marks}
+use Rattle.frame_book.specs.IterationRows.{IterationRow, left_numbers, WaitsAt, marks_at, left_marks}
 use Rattle.frame_book.specs.CallEffects.{seen_whole}
 use Rattle.frame_book.specs.Tables.{book_state}
 use Rattle.frame_book.proofs.Conditions.MayEnter.{may_as}
@@ -52,7 +52,7 @@ unreachable-requires-in_default-status g c =
     let inside : c.args.iteration < length c.self.inside.rows.items = (let a = frame_at_within s.frames c.args.iteration may.frame may.is in let e = rows_length (not s.stopped) s.frames c.self.inside.rows.items c.self.invariant.0.rows.each in omega (arith, a, e)) in
     let r = c.index_mut-row.result.now in
     let at = row_at_read c.self.inside.rows.items c.args.iteration r inside c.index_mut-row.ensures.value in
-    let e = c.status.ensures ∙ (ap (λ (z : Row _). z.status) c.take_token.ensures.row ∙ status_is g.M.Stands.whole g.M.Stands.stands g.M.Stands.tie (tables_of c.self.inside) c.self.invariant.0 c.args.iteration going may r at) in
+    let e = c.status.ensures ∙ (ap (λ (z : IterationRow _). z.status) c.take_token.ensures.row ∙ status_is g.M.Stands.whole g.M.Stands.stands g.M.Stands.tie (tables_of c.self.inside) c.self.invariant.0 c.args.iteration going may r at) in
     c.in_default-status.not-Pending may.kind may.number e
 
 pub left_place-left-requires-clause-within : goal.left_place-left-requires-clause-within
@@ -74,7 +74,7 @@ left_place-left-requires-clause-left g c =
     let r = c.index_mut-row.result.now in
     let at = row_at_read c.self.inside.rows.items c.args.iteration r inside c.index_mut-row.ensures.value in
     let held : r.token ≡ Some c.in-Some.token = sym c.take_token.ensures.token ∙ c.in-Some.is in
-    let st : Pending c.in-Pending.kind c.in-Pending.number ≡ may.frame.status = sym c.in-Pending.is ∙ (c.status.ensures ∙ (ap (λ (z : Row _). z.status) c.take_token.ensures.row ∙ (row_matches g.M.Stands.whole g.M.Stands.stands g.M.Stands.tie (tables_of c.self.inside) c.self.invariant.0 c.args.iteration going may r at).status)) in
+    let st : Pending c.in-Pending.kind c.in-Pending.number ≡ may.frame.status = sym c.in-Pending.is ∙ (c.status.ensures ∙ (ap (λ (z : IterationRow _). z.status) c.take_token.ensures.row ∙ (row_matches g.M.Stands.whole g.M.Stands.stands g.M.Stands.tie (tables_of c.self.inside) c.self.invariant.0 c.args.iteration going may r at).status)) in
     let m = may_as s c.args.iteration may c.in-Pending.kind c.in-Pending.number (sym st) in
     rw (c.as_slice.ensures.value, c.take_token.ensures.row) (searchable g.M.Stands.whole g.M.Stands.stands g.M.Stands.tie (tables_of c.self.inside) c.self.invariant.0 c.args.iteration going m r at)
 
@@ -87,7 +87,7 @@ start_below-marks-requires-clause-up g c =
     let r = c.index_mut-row.result.now in
     let at = row_at_read c.self.inside.rows.items c.args.iteration r inside c.index_mut-row.ensures.value in
     let held : r.token ≡ Some c.in-Some.token = sym c.take_token.ensures.token ∙ c.in-Some.is in
-    let st : Pending c.in-Pending.kind c.in-Pending.number ≡ may.frame.status = sym c.in-Pending.is ∙ (c.status.ensures ∙ (ap (λ (z : Row _). z.status) c.take_token.ensures.row ∙ (row_matches g.M.Stands.whole g.M.Stands.stands g.M.Stands.tie (tables_of c.self.inside) c.self.invariant.0 c.args.iteration going may r at).status)) in
+    let st : Pending c.in-Pending.kind c.in-Pending.number ≡ may.frame.status = sym c.in-Pending.is ∙ (c.status.ensures ∙ (ap (λ (z : IterationRow _). z.status) c.take_token.ensures.row ∙ (row_matches g.M.Stands.whole g.M.Stands.stands g.M.Stands.tie (tables_of c.self.inside) c.self.invariant.0 c.args.iteration going may r at).status)) in
     let m = may_as s c.args.iteration may c.in-Pending.kind c.in-Pending.number (sym st) in
     let rows_too : c.as_slice-2.result.now ≡ rows g.M.Stands.whole g.M.Stands.stands g.M.Stands.tie (tables_of c.self.inside) c.self.invariant.0 c.args.iteration going m r at = c.as_slice-2.ensures.value ∙ ap (set c.self.inside.rows.items c.args.iteration) c.take_token.ensures.row in
     rw rows_too (up_marks g.M.Stands.whole g.M.Stands.stands g.M.Stands.tie (tables_of c.self.inside) c.self.invariant.0 c.args.iteration going m r at c.in-Some.token held)
@@ -101,7 +101,7 @@ start_below-marks-requires-clause-left g c =
     let r = c.index_mut-row.result.now in
     let at = row_at_read c.self.inside.rows.items c.args.iteration r inside c.index_mut-row.ensures.value in
     let held : r.token ≡ Some c.in-Some.token = sym c.take_token.ensures.token ∙ c.in-Some.is in
-    let st : Pending c.in-Pending.kind c.in-Pending.number ≡ may.frame.status = sym c.in-Pending.is ∙ (c.status.ensures ∙ (ap (λ (z : Row _). z.status) c.take_token.ensures.row ∙ (row_matches g.M.Stands.whole g.M.Stands.stands g.M.Stands.tie (tables_of c.self.inside) c.self.invariant.0 c.args.iteration going may r at).status)) in
+    let st : Pending c.in-Pending.kind c.in-Pending.number ≡ may.frame.status = sym c.in-Pending.is ∙ (c.status.ensures ∙ (ap (λ (z : IterationRow _). z.status) c.take_token.ensures.row ∙ (row_matches g.M.Stands.whole g.M.Stands.stands g.M.Stands.tie (tables_of c.self.inside) c.self.invariant.0 c.args.iteration going may r at).status)) in
     let m = may_as s c.args.iteration may c.in-Pending.kind c.in-Pending.number (sym st) in
     let fits : SFits w64 c.in-Pending.number = search rules in
     let num = to_z-of_z w64 c.in-Pending.number fits in
@@ -121,7 +121,7 @@ start_below-marks-requires-clause-inserted g c =
     let r = c.index_mut-row.result.now in
     let at = row_at_read c.self.inside.rows.items c.args.iteration r inside c.index_mut-row.ensures.value in
     let held : r.token ≡ Some c.in-Some.token = sym c.take_token.ensures.token ∙ c.in-Some.is in
-    let st : Pending c.in-Pending.kind c.in-Pending.number ≡ may.frame.status = sym c.in-Pending.is ∙ (c.status.ensures ∙ (ap (λ (z : Row _). z.status) c.take_token.ensures.row ∙ (row_matches g.M.Stands.whole g.M.Stands.stands g.M.Stands.tie (tables_of c.self.inside) c.self.invariant.0 c.args.iteration going may r at).status)) in
+    let st : Pending c.in-Pending.kind c.in-Pending.number ≡ may.frame.status = sym c.in-Pending.is ∙ (c.status.ensures ∙ (ap (λ (z : IterationRow _). z.status) c.take_token.ensures.row ∙ (row_matches g.M.Stands.whole g.M.Stands.stands g.M.Stands.tie (tables_of c.self.inside) c.self.invariant.0 c.args.iteration going may r at).status)) in
     let m = may_as s c.args.iteration may c.in-Pending.kind c.in-Pending.number (sym st) in
     let fits : SFits w64 c.in-Pending.number = search rules in
     let num = to_z-of_z w64 c.in-Pending.number fits in
@@ -151,7 +151,7 @@ start_below-marks-requires-clause-belongs g c =
     let r = c.index_mut-row.result.now in
     let at = row_at_read c.self.inside.rows.items c.args.iteration r inside c.index_mut-row.ensures.value in
     let held : r.token ≡ Some c.in-Some.token = sym c.take_token.ensures.token ∙ c.in-Some.is in
-    let st : Pending c.in-Pending.kind c.in-Pending.number ≡ may.frame.status = sym c.in-Pending.is ∙ (c.status.ensures ∙ (ap (λ (z : Row _). z.status) c.take_token.ensures.row ∙ (row_matches g.M.Stands.whole g.M.Stands.stands g.M.Stands.tie (tables_of c.self.inside) c.self.invariant.0 c.args.iteration going may r at).status)) in
+    let st : Pending c.in-Pending.kind c.in-Pending.number ≡ may.frame.status = sym c.in-Pending.is ∙ (c.status.ensures ∙ (ap (λ (z : IterationRow _). z.status) c.take_token.ensures.row ∙ (row_matches g.M.Stands.whole g.M.Stands.stands g.M.Stands.tie (tables_of c.self.inside) c.self.invariant.0 c.args.iteration going may r at).status)) in
     let m = may_as s c.args.iteration may c.in-Pending.kind c.in-Pending.number (sym st) in
     (kept g.M.Stands.whole g.M.Stands.stands g.M.Stands.tie (tables_of c.self.inside) c.self.invariant.0 c.args.iteration going m r at c.in-Some.token held).belongs
 
@@ -176,7 +176,7 @@ stamp-requires-clause-now g c =
     let r = c.index_mut-row.result.now in
     let at = row_at_read c.self.inside.rows.items c.args.iteration r inside c.index_mut-row.ensures.value in
     let held : r.token ≡ Some c.in-Some.token = sym c.take_token.ensures.token ∙ c.in-Some.is in
-    let st : Pending c.in-Pending.kind c.in-Pending.number ≡ may.frame.status = sym c.in-Pending.is ∙ (c.status.ensures ∙ (ap (λ (z : Row _). z.status) c.take_token.ensures.row ∙ (row_matches g.M.Stands.whole g.M.Stands.stands g.M.Stands.tie (tables_of c.self.inside) c.self.invariant.0 c.args.iteration going may r at).status)) in
+    let st : Pending c.in-Pending.kind c.in-Pending.number ≡ may.frame.status = sym c.in-Pending.is ∙ (c.status.ensures ∙ (ap (λ (z : IterationRow _). z.status) c.take_token.ensures.row ∙ (row_matches g.M.Stands.whole g.M.Stands.stands g.M.Stands.tie (tables_of c.self.inside) c.self.invariant.0 c.args.iteration going may r at).status)) in
     let m = may_as s c.args.iteration may c.in-Pending.kind c.in-Pending.number (sym st) in
     now_below g.M.Stands.whole g.M.Stands.stands g.M.Stands.tie (tables_of c.self.inside) c.self.invariant.0 c.args.iteration going m r at c.in-Some.token held
 
@@ -189,7 +189,7 @@ overflow_add-token g c =
     let r = c.index_mut-row.result.now in
     let at = row_at_read c.self.inside.rows.items c.args.iteration r inside c.index_mut-row.ensures.value in
     let held : r.token ≡ Some c.in-Some.token = sym c.take_token.ensures.token ∙ c.in-Some.is in
-    let st : Pending c.in-Pending.kind c.in-Pending.number ≡ may.frame.status = sym c.in-Pending.is ∙ (c.status.ensures ∙ (ap (λ (z : Row _). z.status) c.take_token.ensures.row ∙ (row_matches g.M.Stands.whole g.M.Stands.stands g.M.Stands.tie (tables_of c.self.inside) c.self.invariant.0 c.args.iteration going may r at).status)) in
+    let st : Pending c.in-Pending.kind c.in-Pending.number ≡ may.frame.status = sym c.in-Pending.is ∙ (c.status.ensures ∙ (ap (λ (z : IterationRow _). z.status) c.take_token.ensures.row ∙ (row_matches g.M.Stands.whole g.M.Stands.stands g.M.Stands.tie (tables_of c.self.inside) c.self.invariant.0 c.args.iteration going may r at).status)) in
     let m = may_as s c.args.iteration may c.in-Pending.kind c.in-Pending.number (sym st) in
     let l = few g.M.Stands.whole g.M.Stands.stands g.M.Stands.tie (tables_of c.self.inside) c.self.invariant.0 c.args.iteration going m r at in
     let e = (kept g.M.Stands.whole g.M.Stands.stands g.M.Stands.tie (tables_of c.self.inside) c.self.invariant.0 c.args.iteration going m r at c.in-Some.token held).index in
@@ -213,10 +213,10 @@ enter-requires-clause-numbers g c =
     let r = c.index_mut-row.result.now in
     let at = row_at_read c.self.inside.rows.items c.args.iteration r inside c.index_mut-row.ensures.value in
     let held : r.token ≡ Some c.in-Some.token = sym c.take_token.ensures.token ∙ c.in-Some.is in
-    let st : Pending c.in-Pending.kind c.in-Pending.number ≡ may.frame.status = sym c.in-Pending.is ∙ (c.status.ensures ∙ (ap (λ (z : Row _). z.status) c.take_token.ensures.row ∙ (row_matches g.M.Stands.whole g.M.Stands.stands g.M.Stands.tie (tables_of c.self.inside) c.self.invariant.0 c.args.iteration going may r at).status)) in
+    let st : Pending c.in-Pending.kind c.in-Pending.number ≡ may.frame.status = sym c.in-Pending.is ∙ (c.status.ensures ∙ (ap (λ (z : IterationRow _). z.status) c.take_token.ensures.row ∙ (row_matches g.M.Stands.whole g.M.Stands.stands g.M.Stands.tie (tables_of c.self.inside) c.self.invariant.0 c.args.iteration going may r at).status)) in
     let m = may_as s c.args.iteration may c.in-Pending.kind c.in-Pending.number (sym st) in
     let e2 = c.index_mut-row-2.ensures.value ∙ (get_or-set_same c.self.inside.rows.items c.args.iteration c.take_token.new.self c.index_mut-row-2.result.now inside ∙ c.take_token.ensures.row) in
-    subst (λ (z : Row _). length z.numbers < z.room) (sym e2) (row_room g.M.Stands.whole g.M.Stands.stands g.M.Stands.tie (tables_of c.self.inside) c.self.invariant.0 c.args.iteration going m r at)
+    subst (λ (z : IterationRow _). length z.numbers < z.room) (sym e2) (row_room g.M.Stands.whole g.M.Stands.stands g.M.Stands.tie (tables_of c.self.inside) c.self.invariant.0 c.args.iteration going m r at)
 
 pub enter-requires-clause-marks : goal.enter-requires-clause-marks
 enter-requires-clause-marks g c =
@@ -227,10 +227,10 @@ enter-requires-clause-marks g c =
     let r = c.index_mut-row.result.now in
     let at = row_at_read c.self.inside.rows.items c.args.iteration r inside c.index_mut-row.ensures.value in
     let held : r.token ≡ Some c.in-Some.token = sym c.take_token.ensures.token ∙ c.in-Some.is in
-    let st : Pending c.in-Pending.kind c.in-Pending.number ≡ may.frame.status = sym c.in-Pending.is ∙ (c.status.ensures ∙ (ap (λ (z : Row _). z.status) c.take_token.ensures.row ∙ (row_matches g.M.Stands.whole g.M.Stands.stands g.M.Stands.tie (tables_of c.self.inside) c.self.invariant.0 c.args.iteration going may r at).status)) in
+    let st : Pending c.in-Pending.kind c.in-Pending.number ≡ may.frame.status = sym c.in-Pending.is ∙ (c.status.ensures ∙ (ap (λ (z : IterationRow _). z.status) c.take_token.ensures.row ∙ (row_matches g.M.Stands.whole g.M.Stands.stands g.M.Stands.tie (tables_of c.self.inside) c.self.invariant.0 c.args.iteration going may r at).status)) in
     let m = may_as s c.args.iteration may c.in-Pending.kind c.in-Pending.number (sym st) in
     let e2 = c.index_mut-row-2.ensures.value ∙ (get_or-set_same c.self.inside.rows.items c.args.iteration c.take_token.new.self c.index_mut-row-2.result.now inside ∙ c.take_token.ensures.row) in
-    subst (λ (z : Row _). length z.marks < z.room) (sym e2) (marks_room g.M.Stands.whole g.M.Stands.stands g.M.Stands.tie (tables_of c.self.inside) c.self.invariant.0 c.args.iteration going m r at)
+    subst (λ (z : IterationRow _). length z.marks < z.room) (sym e2) (marks_room g.M.Stands.whole g.M.Stands.stands g.M.Stands.tie (tables_of c.self.inside) c.self.invariant.0 c.args.iteration going m r at)
 
 pub invariant_of-self : goal.invariant_of-self
 invariant_of-self g c =
@@ -241,7 +241,7 @@ invariant_of-self g c =
     let r = c.index_mut-row.result.now in
     let at = row_at_read c.self.inside.rows.items c.args.iteration r inside c.index_mut-row.ensures.value in
     let held : r.token ≡ Some c.in-Some.token = sym c.take_token.ensures.token ∙ c.in-Some.is in
-    let st : Pending c.in-Pending.kind c.in-Pending.number ≡ may.frame.status = sym c.in-Pending.is ∙ (c.status.ensures ∙ (ap (λ (z : Row _). z.status) c.take_token.ensures.row ∙ (row_matches g.M.Stands.whole g.M.Stands.stands g.M.Stands.tie (tables_of c.self.inside) c.self.invariant.0 c.args.iteration going may r at).status)) in
+    let st : Pending c.in-Pending.kind c.in-Pending.number ≡ may.frame.status = sym c.in-Pending.is ∙ (c.status.ensures ∙ (ap (λ (z : IterationRow _). z.status) c.take_token.ensures.row ∙ (row_matches g.M.Stands.whole g.M.Stands.stands g.M.Stands.tie (tables_of c.self.inside) c.self.invariant.0 c.args.iteration going may r at).status)) in
     let m = may_as s c.args.iteration may c.in-Pending.kind c.in-Pending.number (sym st) in
     let fits : SFits w64 c.in-Pending.number = search rules in
     let num = to_z-of_z w64 c.in-Pending.number fits in
@@ -263,7 +263,7 @@ returns-clause-book g c =
     let r = c.index_mut-row.result.now in
     let at = row_at_read c.self.inside.rows.items c.args.iteration r inside c.index_mut-row.ensures.value in
     let held : r.token ≡ Some c.in-Some.token = sym c.take_token.ensures.token ∙ c.in-Some.is in
-    let st : Pending c.in-Pending.kind c.in-Pending.number ≡ may.frame.status = sym c.in-Pending.is ∙ (c.status.ensures ∙ (ap (λ (z : Row _). z.status) c.take_token.ensures.row ∙ (row_matches g.M.Stands.whole g.M.Stands.stands g.M.Stands.tie (tables_of c.self.inside) c.self.invariant.0 c.args.iteration going may r at).status)) in
+    let st : Pending c.in-Pending.kind c.in-Pending.number ≡ may.frame.status = sym c.in-Pending.is ∙ (c.status.ensures ∙ (ap (λ (z : IterationRow _). z.status) c.take_token.ensures.row ∙ (row_matches g.M.Stands.whole g.M.Stands.stands g.M.Stands.tie (tables_of c.self.inside) c.self.invariant.0 c.args.iteration going may r at).status)) in
     let m = may_as s c.args.iteration may c.in-Pending.kind c.in-Pending.number (sym st) in
     let fits : SFits w64 c.in-Pending.number = search rules in
     let num = to_z-of_z w64 c.in-Pending.number fits in
@@ -284,7 +284,7 @@ returns-clause-instance g c =
     let r = c.index_mut-row.result.now in
     let at = row_at_read c.self.inside.rows.items c.args.iteration r inside c.index_mut-row.ensures.value in
     let held : r.token ≡ Some c.in-Some.token = sym c.take_token.ensures.token ∙ c.in-Some.is in
-    let st : Pending c.in-Pending.kind c.in-Pending.number ≡ may.frame.status = sym c.in-Pending.is ∙ (c.status.ensures ∙ (ap (λ (z : Row _). z.status) c.take_token.ensures.row ∙ (row_matches g.M.Stands.whole g.M.Stands.stands g.M.Stands.tie (tables_of c.self.inside) c.self.invariant.0 c.args.iteration going may r at).status)) in
+    let st : Pending c.in-Pending.kind c.in-Pending.number ≡ may.frame.status = sym c.in-Pending.is ∙ (c.status.ensures ∙ (ap (λ (z : IterationRow _). z.status) c.take_token.ensures.row ∙ (row_matches g.M.Stands.whole g.M.Stands.stands g.M.Stands.tie (tables_of c.self.inside) c.self.invariant.0 c.args.iteration going may r at).status)) in
     let m = may_as s c.args.iteration may c.in-Pending.kind c.in-Pending.number (sym st) in
     subst (λ v. (c.in-Some.token.iteration ≡ c.args.iteration) × (c.in-Some.token.index + 1 ≡ length (nodes_at (own_columns (state_of v)) c.args.iteration))) c.self.view_is ((kept g.M.Stands.whole g.M.Stands.stands g.M.Stands.tie (tables_of c.self.inside) c.self.invariant.0 c.args.iteration going m r at c.in-Some.token held).iteration, (let e = index_is g.M.Stands.whole g.M.Stands.stands g.M.Stands.tie (tables_of c.self.inside) c.self.invariant.0 c.args.iteration going m r at c.in-Some.token held in omega (arith, e)))
 
@@ -297,7 +297,7 @@ returns-clause-folded g c =
     let r = c.index_mut-row.result.now in
     let at = row_at_read c.self.inside.rows.items c.args.iteration r inside c.index_mut-row.ensures.value in
     let held : r.token ≡ Some c.in-Some.token = sym c.take_token.ensures.token ∙ c.in-Some.is in
-    let st : Pending c.in-Pending.kind c.in-Pending.number ≡ may.frame.status = sym c.in-Pending.is ∙ (c.status.ensures ∙ (ap (λ (z : Row _). z.status) c.take_token.ensures.row ∙ (row_matches g.M.Stands.whole g.M.Stands.stands g.M.Stands.tie (tables_of c.self.inside) c.self.invariant.0 c.args.iteration going may r at).status)) in
+    let st : Pending c.in-Pending.kind c.in-Pending.number ≡ may.frame.status = sym c.in-Pending.is ∙ (c.status.ensures ∙ (ap (λ (z : IterationRow _). z.status) c.take_token.ensures.row ∙ (row_matches g.M.Stands.whole g.M.Stands.stands g.M.Stands.tie (tables_of c.self.inside) c.self.invariant.0 c.args.iteration going may r at).status)) in
     let m = may_as s c.args.iteration may c.in-Pending.kind c.in-Pending.number (sym st) in
     let fits : SFits w64 c.in-Pending.number = search rules in
     let num = to_z-of_z w64 c.in-Pending.number fits in
@@ -316,7 +316,7 @@ returns-clause-token g c =
     let r = c.index_mut-row.result.now in
     let at = row_at_read c.self.inside.rows.items c.args.iteration r inside c.index_mut-row.ensures.value in
     let held : r.token ≡ Some c.in-Some.token = sym c.take_token.ensures.token ∙ c.in-Some.is in
-    let st : Pending c.in-Pending.kind c.in-Pending.number ≡ may.frame.status = sym c.in-Pending.is ∙ (c.status.ensures ∙ (ap (λ (z : Row _). z.status) c.take_token.ensures.row ∙ (row_matches g.M.Stands.whole g.M.Stands.stands g.M.Stands.tie (tables_of c.self.inside) c.self.invariant.0 c.args.iteration going may r at).status)) in
+    let st : Pending c.in-Pending.kind c.in-Pending.number ≡ may.frame.status = sym c.in-Pending.is ∙ (c.status.ensures ∙ (ap (λ (z : IterationRow _). z.status) c.take_token.ensures.row ∙ (row_matches g.M.Stands.whole g.M.Stands.stands g.M.Stands.tie (tables_of c.self.inside) c.self.invariant.0 c.args.iteration going may r at).status)) in
     let m = may_as s c.args.iteration may c.in-Pending.kind c.in-Pending.number (sym st) in
     let fits : SFits w64 c.in-Pending.number = search rules in
     let num = to_z-of_z w64 c.in-Pending.number fits in

@@ -9,7 +9,7 @@ use Rattle.pipe_model.specs.declared.event.Event.TheVariants.{Enter}
 use Rattle.run_laws.proofs.RunStates.Frames.{frame_at_within}
 use Rattle.frame_book.specs.BookStates.{BookState, item_or, state_of, Spent}
 use Rattle.frame_book.specs.BookTables.{tables_of}
-use Rattle.frame_book.specs.IterationRows.{Row}
+use Rattle.frame_book.specs.IterationRows.{IterationRow}
 use Rattle.frame_book.specs.CallEffects.{IsReady, kept_folded, with_entered, with_resumed}
 use Rattle.frame_book.specs.Tables.{book_state, token_state_of, token_state_by}
 use Rattle.frame_book.proofs.Keeping.Resume.{set_itself, can_frame, can_run, can_enter, can_not, kept_none, resumes_by_entering, kept, resume_keeps, resume_view, resume_given, resume_beside, resume_folded}
@@ -42,7 +42,7 @@ unreachable-requires g c =
     let at = row_at_read c.self.inside.rows.items i r inside c.index_mut-row.ensures.value in
     let q = row_of_frame (not s.stopped) s.frames c.self.inside.rows.items i it.0 c.self.invariant.0.rows.each it.1 in
     let same : q.row ≡ r = (let y : Some q.row ≡ Some r = sym q.is ∙ at in cc) in
-    let status : r.status ≡ it.0.status = sym (ap (λ (z : Row _). z.status) same) ∙ q.matches.status in
+    let status : r.status ≡ it.0.status = sym (ap (λ (z : IterationRow _). z.status) same) ∙ q.matches.status in
     let runs : it.0.status ≡ Running = sym status ∙ (sym c.status.ensures ∙ c.in-Running.is) in
     let ready = can_run v i it.0 it.1 runs can in
     let place : token_state_by r.token Running ≡ Rattle.frame_book.specs.BookStates.Kept ready.fields = ap (token_state_by r.token) (sym runs ∙ sym status) ∙ (sym (map_at token_state_of c.self.inside.rows.items i r Spent at) ∙ ready.kept) in
@@ -61,7 +61,7 @@ invariant_of-self g c =
     let at = row_at_read c.self.inside.rows.items i r inside c.index_mut-row.ensures.value in
     let q = row_of_frame (not s.stopped) s.frames c.self.inside.rows.items i it.0 c.self.invariant.0.rows.each it.1 in
     let same : q.row ≡ r = (let y : Some q.row ≡ Some r = sym q.is ∙ at in cc) in
-    let status : r.status ≡ it.0.status = sym (ap (λ (z : Row _). z.status) same) ∙ q.matches.status in
+    let status : r.status ≡ it.0.status = sym (ap (λ (z : IterationRow _). z.status) same) ∙ q.matches.status in
     let runs : it.0.status ≡ Running = sym status ∙ (sym c.status.ensures ∙ c.in-Running.is) in
     let held : r.token ≡ Some c.in-Some.token = sym c.take_token.ensures.token ∙ c.in-Some.is in
     rw c.take_token.ensures.row (resume_keeps g.M.Stands.whole g.M.Stands.stands g.M.Stands.tie (tables_of c.self.inside) c.self.invariant.0 c.args.iteration going r at it.0 it.1 runs c.in-Some.token held, alive_set c.self.inside.rows.items _ i r _ _ _ at (ap is_completed (status ∙ runs)) c.self.invariant.1)
@@ -79,7 +79,7 @@ enter_named-requires-clause-may g c =
     let at = row_at_read c.self.inside.rows.items i r inside c.index_mut-row.ensures.value in
     let q = row_of_frame (not s.stopped) s.frames c.self.inside.rows.items i it.0 c.self.invariant.0.rows.each it.1 in
     let same : q.row ≡ r = (let y : Some q.row ≡ Some r = sym q.is ∙ at in cc) in
-    let status : r.status ≡ it.0.status = sym (ap (λ (z : Row _). z.status) same) ∙ q.matches.status in
+    let status : r.status ≡ it.0.status = sym (ap (λ (z : IterationRow _). z.status) same) ∙ q.matches.status in
     let st : it.0.status ≡ Pending c.in-Pending.field-0 c.in-Pending.field-1 = sym status ∙ (sym c.status.ensures ∙ c.in-Pending.is) in
     can_enter v i it.0 c.in-Pending.field-0 c.in-Pending.field-1 it.1 st can
 
@@ -96,7 +96,7 @@ unreachable-requires-in-Completed g c =
     let at = row_at_read c.self.inside.rows.items i r inside c.index_mut-row.ensures.value in
     let q = row_of_frame (not s.stopped) s.frames c.self.inside.rows.items i it.0 c.self.invariant.0.rows.each it.1 in
     let same : q.row ≡ r = (let y : Some q.row ≡ Some r = sym q.is ∙ at in cc) in
-    let status : r.status ≡ it.0.status = sym (ap (λ (z : Row _). z.status) same) ∙ q.matches.status in
+    let status : r.status ≡ it.0.status = sym (ap (λ (z : IterationRow _). z.status) same) ∙ q.matches.status in
     can_not v i it.0 c.in-Completed.field-0 it.1 (sym status ∙ (sym c.status.ensures ∙ c.in-Completed.is)) can
 
 pub returns-in-Some-clause-iteration : goal.returns-in-Some-clause-iteration
@@ -112,7 +112,7 @@ returns-in-Some-clause-iteration g c =
     let at = row_at_read c.self.inside.rows.items i r inside c.index_mut-row.ensures.value in
     let q = row_of_frame (not s.stopped) s.frames c.self.inside.rows.items i it.0 c.self.invariant.0.rows.each it.1 in
     let same : q.row ≡ r = (let y : Some q.row ≡ Some r = sym q.is ∙ at in cc) in
-    let status : r.status ≡ it.0.status = sym (ap (λ (z : Row _). z.status) same) ∙ q.matches.status in
+    let status : r.status ≡ it.0.status = sym (ap (λ (z : IterationRow _). z.status) same) ∙ q.matches.status in
     let runs : it.0.status ≡ Running = sym status ∙ (sym c.status.ensures ∙ c.in-Running.is) in
     let held : r.token ≡ Some c.in-Some.token = sym c.take_token.ensures.token ∙ c.in-Some.is in
     (kept g.M.Stands.whole g.M.Stands.stands g.M.Stands.tie (tables_of c.self.inside) c.self.invariant.0 c.args.iteration going r at it.0 it.1 runs c.in-Some.token held).iteration
@@ -130,7 +130,7 @@ returns-in-Some-clause-book g c =
     let at = row_at_read c.self.inside.rows.items i r inside c.index_mut-row.ensures.value in
     let q = row_of_frame (not s.stopped) s.frames c.self.inside.rows.items i it.0 c.self.invariant.0.rows.each it.1 in
     let same : q.row ≡ r = (let y : Some q.row ≡ Some r = sym q.is ∙ at in cc) in
-    let status : r.status ≡ it.0.status = sym (ap (λ (z : Row _). z.status) same) ∙ q.matches.status in
+    let status : r.status ≡ it.0.status = sym (ap (λ (z : IterationRow _). z.status) same) ∙ q.matches.status in
     let runs : it.0.status ≡ Running = sym status ∙ (sym c.status.ensures ∙ c.in-Running.is) in
     let held : r.token ≡ Some c.in-Some.token = sym c.take_token.ensures.token ∙ c.in-Some.is in
     rw (c.take_token.ensures.row, ← c.self.view_is) (resume_view g.M.Stands.whole g.M.Stands.stands g.M.Stands.tie (tables_of c.self.inside) c.self.invariant.0 c.args.iteration going r at it.0 it.1 runs c.in-Some.token held)
@@ -148,7 +148,7 @@ returns-in-Some-clause-token g c =
     let at = row_at_read c.self.inside.rows.items i r inside c.index_mut-row.ensures.value in
     let q = row_of_frame (not s.stopped) s.frames c.self.inside.rows.items i it.0 c.self.invariant.0.rows.each it.1 in
     let same : q.row ≡ r = (let y : Some q.row ≡ Some r = sym q.is ∙ at in cc) in
-    let status : r.status ≡ it.0.status = sym (ap (λ (z : Row _). z.status) same) ∙ q.matches.status in
+    let status : r.status ≡ it.0.status = sym (ap (λ (z : IterationRow _). z.status) same) ∙ q.matches.status in
     let runs : it.0.status ≡ Running = sym status ∙ (sym c.status.ensures ∙ c.in-Running.is) in
     let held : r.token ≡ Some c.in-Some.token = sym c.take_token.ensures.token ∙ c.in-Some.is in
     rw c.take_token.ensures.row (resume_given g.M.Stands.whole g.M.Stands.stands g.M.Stands.tie (tables_of c.self.inside) c.self.invariant.0 c.args.iteration going r at it.0 it.1 runs c.in-Some.token held)
@@ -166,7 +166,7 @@ returns-in-Pending-clause-book g c =
     let at = row_at_read c.self.inside.rows.items i r inside c.index_mut-row.ensures.value in
     let q = row_of_frame (not s.stopped) s.frames c.self.inside.rows.items i it.0 c.self.invariant.0.rows.each it.1 in
     let same : q.row ≡ r = (let y : Some q.row ≡ Some r = sym q.is ∙ at in cc) in
-    let status : r.status ≡ it.0.status = sym (ap (λ (z : Row _). z.status) same) ∙ q.matches.status in
+    let status : r.status ≡ it.0.status = sym (ap (λ (z : IterationRow _). z.status) same) ∙ q.matches.status in
     let st : it.0.status ≡ Pending c.in-Pending.field-0 c.in-Pending.field-1 = sym status ∙ (sym c.status.ensures ∙ c.in-Pending.is) in
     c.enter_named.ensures.book ∙ (ap (λ rs. with_entered (book_state (record (tables_of c.self.inside) { rows = rs })) i) (set_itself c.self.inside.rows.items i r at) ∙ (resumes_by_entering v i it.0 c.in-Pending.field-0 c.in-Pending.field-1 it.1 st ∙ ap (λ x. with_resumed x i) c.self.view_is))
 
@@ -183,7 +183,7 @@ returns-in-Some-clause-now g c =
     let at = row_at_read c.self.inside.rows.items i r inside c.index_mut-row.ensures.value in
     let q = row_of_frame (not s.stopped) s.frames c.self.inside.rows.items i it.0 c.self.invariant.0.rows.each it.1 in
     let same : q.row ≡ r = (let y : Some q.row ≡ Some r = sym q.is ∙ at in cc) in
-    let status : r.status ≡ it.0.status = sym (ap (λ (z : Row _). z.status) same) ∙ q.matches.status in
+    let status : r.status ≡ it.0.status = sym (ap (λ (z : IterationRow _). z.status) same) ∙ q.matches.status in
     let runs : it.0.status ≡ Running = sym status ∙ (sym c.status.ensures ∙ c.in-Running.is) in
     let held : r.token ≡ Some c.in-Some.token = sym c.take_token.ensures.token ∙ c.in-Some.is in
     rw (c.take_token.ensures.row, ← c.self.view_is) (resume_beside g.M.Stands.whole g.M.Stands.stands g.M.Stands.tie (tables_of c.self.inside) c.self.invariant.0 c.args.iteration going r at it.0 it.1 runs c.in-Some.token held)
@@ -201,7 +201,7 @@ returns-in-Pending-clause-now g c =
     let at = row_at_read c.self.inside.rows.items i r inside c.index_mut-row.ensures.value in
     let q = row_of_frame (not s.stopped) s.frames c.self.inside.rows.items i it.0 c.self.invariant.0.rows.each it.1 in
     let same : q.row ≡ r = (let y : Some q.row ≡ Some r = sym q.is ∙ at in cc) in
-    let status : r.status ≡ it.0.status = sym (ap (λ (z : Row _). z.status) same) ∙ q.matches.status in
+    let status : r.status ≡ it.0.status = sym (ap (λ (z : IterationRow _). z.status) same) ∙ q.matches.status in
     let st : it.0.status ≡ Pending c.in-Pending.field-0 c.in-Pending.field-1 = sym status ∙ (sym c.status.ensures ∙ c.in-Pending.is) in
     let one : resume_events (frame_at s.frames i) i ≡ Enter i ∷ [] = ap (λ o. resume_events o i) it.1 ∙ ap (λ w. pending_events w i) st in
     let events : resume_events (frame_at (state_of c.args.self.now).frames i) i ≡ Enter i ∷ [] = subst (λ (x : BookState). resume_events (frame_at (state_of x).frames i) i ≡ Enter i ∷ []) c.self.view_is one in
@@ -220,7 +220,7 @@ returns-in-Some-clause-folded g c =
     let at = row_at_read c.self.inside.rows.items i r inside c.index_mut-row.ensures.value in
     let q = row_of_frame (not s.stopped) s.frames c.self.inside.rows.items i it.0 c.self.invariant.0.rows.each it.1 in
     let same : q.row ≡ r = (let y : Some q.row ≡ Some r = sym q.is ∙ at in cc) in
-    let status : r.status ≡ it.0.status = sym (ap (λ (z : Row _). z.status) same) ∙ q.matches.status in
+    let status : r.status ≡ it.0.status = sym (ap (λ (z : IterationRow _). z.status) same) ∙ q.matches.status in
     let runs : it.0.status ≡ Running = sym status ∙ (sym c.status.ensures ∙ c.in-Running.is) in
     let held : r.token ≡ Some c.in-Some.token = sym c.take_token.ensures.token ∙ c.in-Some.is in
     rw (← c.self.view_is) (resume_folded g.M.Stands.whole g.M.Stands.stands g.M.Stands.tie (tables_of c.self.inside) c.self.invariant.0 c.args.iteration going r at it.0 it.1 runs c.in-Some.token held)
