@@ -1,7 +1,7 @@
 -- What a name is declared as, by the size with which it is declared.
 use Rattle.std.specs.Prelude.{◌≡◌, ℤ, Option, Some, None}
-use Rattle.pipe_check.specs.declared.cells.CellShape.{CellShape}
-use Rattle.pipe_check.specs.declared.cells.CellShape.TheVariants.{Undeclared, Plain, Array}
+use Rattle.pipe_check.specs.declared.cell_table.CellShape.{CellShape}
+use Rattle.pipe_check.specs.declared.cell_table.CellShape.TheVariants.{Undeclared, Plain, Array}
 
 -- the size, if there is one, is that of a declaration of this shape
 abbrev pub HasShape : Option (Option ℤ) → CellShape → Type 0

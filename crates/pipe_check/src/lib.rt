@@ -2,7 +2,7 @@
 //! declared once, before they are used, and used as what they are.
 #![tactic(auto)]
 
-mod cells;
+mod cell_table;
 pub mod checked;
 mod expression;
 pub mod fault;

@@ -9,7 +9,7 @@ ghost use Rattle.pipe_model.specs.Language.SpellablePrograms.{IsSpellable};
 ghost use Rattle.pipe_model.specs.Language.SyntaxTree.{expression_of, statements_of, tree_of};
 ghost use Rattle.pipe_model.specs.declared.region.Region.TheVariants as regions;
 
-use crate::cells::Cells;
+use crate::cell_table::CellTable;
 use crate::checked::Checked;
 use crate::expression::check_expression;
 use crate::fault::CheckFault;
@@ -26,7 +26,7 @@ const OWN_CELLS: u32 = 2;
 // Checks the marks of a block that is a region of its own.
 fn check_region(
     alloc: Global,
-    cells: &Cells,
+    cells: &CellTable,
     region: Region,
     next: u32,
     block: &Block,
@@ -43,7 +43,7 @@ fn check_region(
 }
 
 // Checks the marks of the loop's test.
-fn check_test(alloc: Global, cells: &Cells, next: u32, test: &Expr) -> Result<u32, CheckFault>
+fn check_test(alloc: Global, cells: &CellTable, next: u32, test: &Expr) -> Result<u32, CheckFault>
     requires { Fits next (marks_of_expression (opening regions.Test cells.now) (expression_of test.now)) }
     ensures { PassesMarks result next (marks_of_expression (opening regions.Test cells.now) (expression_of test.now)) }
 {
@@ -58,7 +58,7 @@ fn check_marks(alloc: Global, program: &Program) -> Result<u32, CheckFault>
     ensures ok { OnOk result (first_fault 0 (marks_of (tree_of program.now)) ≡ None) }
     ensures err { IfErr result (λ fault. IsFirstFaultOf fault (first_fault 0 (marks_of (tree_of program.now)))) }
 {
-    let cells = Cells::of(alloc, program.cells.as_slice())?;
+    let cells = CellTable::of(alloc, program.cells.as_slice())?;
     let next = cells.len() as u32;
     let next = check_region(alloc, &cells, Region::Init, next, &program.init)?;
     let next = check_test(alloc, &cells, next, &program.test)?;

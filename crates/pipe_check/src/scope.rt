@@ -6,7 +6,7 @@ ghost use Rattle.pipe_model.specs.declared.bounds.TheConstants as bounds;
 ghost use Rattle.pipe_model.specs.Language.Marks.{DeclaredLocal, Indexed, IterWord, Plain, StageWord, mark_at, opening, after_let};
 ghost use Rattle.pipe_model.specs.Language.CheckingRules.{is_among};
 
-use crate::cells::{CellShape, Cells};
+use crate::cell_table::{CellShape, CellTable};
 use crate::fault::CheckFault;
 use pipe_model::bounds::MOST_LOCALS;
 use pipe_model::memory::NoMemory;
@@ -20,7 +20,7 @@ use std::marker::Model;
 #[derive(Drop)]
 pub struct Scope<'a, 'b> {
     region: Region,
-    cells: &'a Cells<'b>,
+    cells: &'a CellTable<'b>,
     visible: Vec<Name>,
     lets: Vec<Name>,
 }
@@ -41,7 +41,7 @@ fn is_among(names: &[Name], name: &Name) -> bool
 
 impl<'a, 'b> Scope<'a, 'b> {
     /// Returns what is known at the beginning of a region.
-    pub fn opening(alloc: Global, region: Region, cells: &'a Cells<'b>) -> Self
+    pub fn opening(alloc: Global, region: Region, cells: &'a CellTable<'b>) -> Self
         ensures { result ≡ opening region cells.now }
     {
         Scope {

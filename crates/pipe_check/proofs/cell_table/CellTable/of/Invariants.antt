@@ -2,7 +2,7 @@ use Rattle.std.proofs.Common.{◌≡◌, [], take, drop}
 use Rattle.pipe_check.specs.CellTables.{IsCellTable}
 use Rattle.pipe_model.specs.Language.CheckingRules.{first_fault}
 use Rattle.pipe_model.specs.Language.Marks.{marks_of_cells}
-use Rattle.pipe_check.proofs.cells.Cells.of.Given as goal
+use Rattle.pipe_check.proofs.cell_table.CellTable.of.Given as goal
 
 -- the table has the cells so far, which have no fault
 abbrev pub invariant-loop-cell : goal.invariant-loop-cell

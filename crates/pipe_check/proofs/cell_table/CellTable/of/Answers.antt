@@ -6,7 +6,7 @@ use Rattle.pipe_model.specs.declared.tree.Declaration.{Declaration}
 use Rattle.pipe_model.specs.Language.CheckingRules.{size_in, is_cell, cell_total}
 use Rattle.pipe_model.specs.Language.Programs.{declared_size}
 use Rattle.pipe_check.proofs.CellTables.{table_more, take_next, cell_passed}
-use Rattle.pipe_check.proofs.cells.Cells.of.Goals as goal
+use Rattle.pipe_check.proofs.cell_table.CellTable.of.Goals as goal
 
 -- what holds if the result is `Ok` holds, since it is `Ok`
 since_ok : {A E : Type 0} (P : Type 0) (r : Result A E) → true ≡ is_ok r → OnOk r P → P

@@ -32,13 +32,13 @@ pub enum CellShape {
 
 /// The declared cells of a program, found by their names. Contracts see the declarations.
 #[derive(Drop)]
-pub struct Cells<'a> {
+pub struct CellTable<'a> {
     declared: &'a [Declaration],
     sizes: BTreeMap<&'a [u8], Option<i64>>,
     total: u32,
 }
 
-impl<'a> Model for Cells<'a> {
+impl<'a> Model for CellTable<'a> {
     ghost use Rattle.std.specs.Prelude.{List};
     ghost use Rattle.pipe_model.specs.declared.tree.Declaration.{Declaration};
 
@@ -65,7 +65,7 @@ fn count_of(size: Option<i64>, most: u32) -> Option<u32>
     Some(count as u32)
 }
 
-impl<'a> Cells<'a> {
+impl<'a> CellTable<'a> {
     /// Returns the declared cells, whose names all differ, or the first fault of the declarations.
     /// `NoMemory` is returned only if memory runs out.
     pub fn of(alloc: Global, declared: &'a [Declaration]) -> Result<Self, CheckFault>
@@ -94,7 +94,7 @@ impl<'a> Cells<'a> {
             total += count;
             next += 1;
         }
-        Ok(Cells {
+        Ok(CellTable {
             declared,
             sizes,
             total,
