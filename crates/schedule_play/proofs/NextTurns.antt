@@ -15,7 +15,7 @@ use Rattle.pipe_model.specs.Runs.State.{Frame, State, frame_at}
 use Rattle.frame_book.specs.BookStates.{BookState, item_or}
 use Rattle.run_laws.proofs.RunStates.Frames.{frame_at_exists}
 use Rattle.stage_code.specs.FlatCode.{FlatCode}
-use Rattle.schedule_play.specs.HeldInstances.{HeldState}
+use Rattle.schedule_play.specs.RunningIterations.{RunningIterationState}
 use Rattle.schedule_play.specs.PlayStates.{FitsStatus, IsPlay, PlayState, pipeline_played, run_state}
 use Rattle.schedule_play.specs.declared.turns.Alive.{Alive}
 use Rattle.schedule_play.specs.declared.turns.Standing.TheVariants.{MayEnter, MustWait}
@@ -96,16 +96,16 @@ has_next_is p s i kept e =
 
 -- ---- running instances
 
-by_status : (code : FlatCode) (cells : ℕ) (b : BookState) (p : Pipeline) (s : State) (i : ℕ) (w : Status) (trace : List Action) (kept : Option HeldState)
+by_status : (code : FlatCode) (cells : ℕ) (b : BookState) (p : Pipeline) (s : State) (i : ℕ) (w : Status) (trace : List Action) (kept : Option RunningIterationState)
     → FitsStatus code cells b i w trace kept → is_some kept ≡ true → is_some (event_of_status p s i w trace) ≡ true
 by_status code cells b p s i statuses.Running trace kept h e = refl
 by_status code cells b p s i (statuses.Pending k n) trace kept h e = absurd (no_none (h.0) e)
   where
-    no_none : {o : Option HeldState} → o ≡ None → is_some o ≡ true → ⊥
+    no_none : {o : Option RunningIterationState} → o ≡ None → is_some o ≡ true → ⊥
     no_none n t = let z : false ≡ true = ap is_some (sym n) ∙ t in cc
 by_status code cells b p s i (statuses.Completed x) trace kept h e = absurd (no_none h e)
   where
-    no_none : {o : Option HeldState} → o ≡ None → is_some o ≡ true → ⊥
+    no_none : {o : Option RunningIterationState} → o ≡ None → is_some o ≡ true → ⊥
     no_none n t = let z : false ≡ true = ap is_some (sym n) ∙ t in cc
 
 -- an iteration whose instance runs has a next event

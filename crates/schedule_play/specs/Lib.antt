@@ -2,7 +2,7 @@ pub mod SeedChoices
 pub mod OneAccess
 pub mod RunningInstances
 pub mod Runners
-pub mod HeldInstances
+pub mod RunningIterations
 pub mod Turns
 pub mod AliveChanges
 pub mod ScheduleStates

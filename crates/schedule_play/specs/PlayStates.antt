@@ -18,7 +18,7 @@ use Rattle.pipe_model.specs.Runs.State.{Frame, State, accesses_of, frame_at}
 use Rattle.frame_book.specs.BookStates.{BookState, events_of, item_or, left_of, pipeline_in, replies_at}
 use Rattle.frame_book.specs.GivenTokens.{IsOutOf}
 use Rattle.stage_code.specs.FlatCode.{FlatCode}
-use Rattle.schedule_play.specs.HeldInstances.{HeldState, IsHeld}
+use Rattle.schedule_play.specs.RunningIterations.{RunningIterationState, IsRunningIteration}
 use Rattle.schedule_play.specs.OneAccess.{HasAllCells}
 use Rattle.schedule_play.specs.Runners.{no_tie}
 use Rattle.schedule_play.specs.ScheduleStates.{IsScheduleOf, ScheduleState}
@@ -27,7 +27,7 @@ use Rattle.schedule_play.specs.ScheduleStates.{IsScheduleOf, ScheduleState}
 pub record PlayState : Type 0 where
   pub book : BookState
   pub schedule : ScheduleState
-  pub running : List (Option HeldState)
+  pub running : List (Option RunningIterationState)
   pub cells : ShardState
   pub events : List Event
   pub accesses : List NodeAccess
@@ -43,21 +43,21 @@ run_state v = state_after v.events
 -- ---- running instances
 
 -- the token of iteration i is out, and its instance has made the last actions of the iteration's trace
-pub record IsRunningAt (code : FlatCode) (cells : ℕ) (b : BookState) (i : ℕ) (trace : List Action) (h : HeldState) : Type 0 where
+pub record IsRunningAt (code : FlatCode) (cells : ℕ) (b : BookState) (i : ℕ) (trace : List Action) (h : RunningIterationState) : Type 0 where
   pub iteration : h.token.iteration ≡ i
   pub out : IsOutOf b h.token
-  pub held : IsHeld code cells (tree_of b.program) b.input (replies_at b i) h
+  pub instance : IsRunningIteration code cells (tree_of b.program) b.input (replies_at b i) h
   pub left : behaviour_after_all ((pipeline_in b).behaviour i) trace ≡ behaviour_after_all (left_of b i) (accessed h.trace)
 
 -- iteration i has this status and trace, and its running instance is kept if it runs
-abbrev pub FitsStatus : FlatCode → ℕ → BookState → ℕ → Status → List Action → Option HeldState → Type 0
+abbrev pub FitsStatus : FlatCode → ℕ → BookState → ℕ → Status → List Action → Option RunningIterationState → Type 0
 FitsStatus code cells b i Running trace None = ⊥
 FitsStatus code cells b i Running trace (Some h) = IsRunningAt code cells b i trace h
 FitsStatus code cells b i (Pending k n) trace kept = (kept ≡ None) × (behaviour_after_all ((pipeline_in b).behaviour i) trace ≡ left_of b i)
 FitsStatus code cells b i (Completed e) trace kept = kept ≡ None
 
 -- the running instances of all iterations are kept, and the book has traces and a token for each
-pub record KeepsRunning (code : FlatCode) (cells : ℕ) (b : BookState) (fs : List Frame) (running : List (Option HeldState)) : Type 0 where
+pub record KeepsRunning (code : FlatCode) (cells : ℕ) (b : BookState) (fs : List Frame) (running : List (Option RunningIterationState)) : Type 0 where
   pub count : length running ≡ length fs
   pub traces : length b.traces ≡ length fs
   pub tokens : length b.tokens ≡ length fs

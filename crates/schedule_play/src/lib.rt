@@ -4,7 +4,6 @@
 mod changes;
 pub mod choices;
 pub mod examples;
-mod held;
 mod instance;
 mod loop_play;
 mod one_access;
@@ -14,5 +13,6 @@ pub mod player;
 pub mod program_play;
 pub mod runner;
 mod running_instance;
+mod running_iteration;
 mod schedule;
 pub mod turns;

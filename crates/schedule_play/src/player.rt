@@ -17,14 +17,14 @@ ghost use Rattle.pipe_model.specs.Runs.Allowed.{IsRunning};
 ghost use Rattle.pipe_model.specs.Runs.NextEvents.{next_begin, next_event};
 ghost use Rattle.pipe_model.specs.Runs.Run.{IsFinished};
 ghost use Rattle.pipe_model.specs.Runs.Schedules.{candidates, chosen};
-ghost use Rattle.schedule_play.specs.HeldInstances.{HeldState};
+ghost use Rattle.schedule_play.specs.RunningIterations.{RunningIterationState};
 ghost use Rattle.schedule_play.specs.PlayStates.{IsPlay, KeepsProgram, pipeline_played, run_state};
 ghost use Rattle.schedule_play.specs.Turns.{turn_event};
 
-use crate::held::Held;
 use crate::opening::open_book;
 use crate::runner::{PlayedCode, Runner};
 use crate::running_instance::NextAction;
+use crate::running_iteration::RunningIteration;
 use crate::schedule::Schedule;
 use crate::turns::Turn;
 use cell_store::cells::Cells;
@@ -47,7 +47,7 @@ use std::marker::Model;
 pub struct Player<B: PlayedCode> {
     book: Book<Runner<B>, OmList>,
     schedule: Schedule,
-    running: Vec<Option<Held<B>>>,
+    running: Vec<Option<RunningIteration<B>>>,
     cells: Cells,
     events: Events,
     accesses: NodeAccesses,
@@ -125,8 +125,8 @@ impl<B: PlayedCode> Player<B> {
             unreachable!()
         };
         let iteration = token.iteration;
-        let held = Held::new(alloc, token, code, input, &self.cells);
-        self.running.push(Some(held))?;
+        let running = RunningIteration::new(alloc, token, code, input, &self.cells);
+        self.running.push(Some(running))?;
         self.schedule.begin();
         self.events.push(Event::Begin(iteration))?;
         Ok(())
@@ -152,8 +152,8 @@ impl<B: PlayedCode> Player<B> {
         let Some(token) = self.book.enter(iteration) else {
             unreachable!()
         };
-        let held = Held::new(alloc, token, code, input, &self.cells);
-        self.running[iteration as usize] = Some(held);
+        let running = RunningIteration::new(alloc, token, code, input, &self.cells);
+        self.running[iteration as usize] = Some(running);
         self.schedule.enter(iteration);
         self.events.push(Event::Enter(iteration))?;
         Ok(())
@@ -162,10 +162,10 @@ impl<B: PlayedCode> Player<B> {
     // Returns what the running instance of an iteration does next. Returns `None` if none runs.
     fn next_of_running(&self, iteration: u32) -> Option<NextAction>
         requires there { iteration < length self.now.running }
-        ensures { result ≡ option_map (λ (h : HeldState). h.next) (item_or None self.now.running iteration) }
+        ensures { result ≡ option_map (λ (h : RunningIterationState). h.next) (item_or None self.now.running iteration) }
     {
         match &self.running[iteration as usize] {
-            Some(held) => Some(held.next()),
+            Some(running) => Some(running.next()),
             None => None,
         }
     }
@@ -176,19 +176,19 @@ impl<B: PlayedCode> Player<B> {
         requires input { input.now ≡ self.old.book.input }
         requires play { IsPlay B.code B.cells self.old }
         requires runs { IsRunning (run_state self.old) iteration }
-        requires next { IfSome (item_or None self.old.running iteration) (λ (h : HeldState). h.next ≡ NextAction.Access) }
+        requires next { IfSome (item_or None self.old.running iteration) (λ (h : RunningIterationState). h.next ≡ NextAction.Access) }
         ensures play { IfOk result (λ u. IsPlay B.code B.cells self.new) }
         ensures event { IfOk result (λ u. (e : PlainEvent) → next_event (pipeline_played self.old) (run_state self.old) iteration ≡ Some e
             → self.new.events ≡ self.old.events ++ e ∷ []) }
         ensures keeps { IfOk result (λ u. KeepsProgram self.old self.new) }
     {
         let ticket = self.events.len() as u64 + 1;
-        let Some(mut held) = self.running[iteration as usize].take() else {
+        let Some(mut running) = self.running[iteration as usize].take() else {
             unreachable!()
         };
-        let access = held.access(code, input, &mut self.cells, ticket)?;
-        let node = held.node();
-        self.running[iteration as usize] = Some(held);
+        let access = running.access(code, input, &mut self.cells, ticket)?;
+        let node = running.node();
+        self.running[iteration as usize] = Some(running);
         self.accesses.push(NodeAccess { node, access })?;
         self.events.push(Event::Access(iteration, access))?;
         Ok(())
@@ -198,17 +198,17 @@ impl<B: PlayedCode> Player<B> {
     fn end(&mut self, iteration: u32, end: StageEnd) -> Result<(), NoMemory>
         requires play { IsPlay B.code B.cells self.old }
         requires runs { IsRunning (run_state self.old) iteration }
-        requires next { IfSome (item_or None self.old.running iteration) (λ (h : HeldState). h.next ≡ NextAction.End end) }
+        requires next { IfSome (item_or None self.old.running iteration) (λ (h : RunningIterationState). h.next ≡ NextAction.End end) }
         requires ends { end ≢ StageEnd.Stopped }
         ensures play { IfOk result (λ u. IsPlay B.code B.cells self.new) }
         ensures event { IfOk result (λ u. (e : PlainEvent) → next_event (pipeline_played self.old) (run_state self.old) iteration ≡ Some e
             → self.new.events ≡ self.old.events ++ e ∷ []) }
         ensures keeps { IfOk result (λ u. KeepsProgram self.old self.new) }
     {
-        let Some(held) = self.running[iteration as usize].take() else {
+        let Some(running) = self.running[iteration as usize].take() else {
             unreachable!()
         };
-        held.end(end, &mut self.book);
+        running.end(end, &mut self.book);
         let event = self.schedule.end_instance(iteration, end);
         self.events.push(event)?;
         Ok(())

@@ -28,14 +28,14 @@ use Rattle.run_laws.proofs.LogMerge.ControlPart.{same_frame}
 use Rattle.run_laws.proofs.RunStates.FrameMoves.{frame_at_moved}
 use Rattle.run_laws.proofs.RunStates.Frames.{frame_at_within, length-update_frame}
 use Rattle.stage_code.specs.FlatCode.{FlatCode}
-use Rattle.schedule_play.specs.HeldInstances.{HeldState, IsHeld}
+use Rattle.schedule_play.specs.RunningIterations.{RunningIterationState, IsRunningIteration}
 use Rattle.schedule_play.specs.PlayStates.{FitsStatus, IsPlay, IsRunningAt, PlayState, pipeline_played, run_state}
 use Rattle.schedule_play.specs.RunningInstances.{next_of}
 use Rattle.schedule_play.proofs.Playing.Outlines.{schedule_of_control}
 use Rattle.schedule_play.proofs.Playing.Steps.{played_on, same_control}
 
 module _ (code : FlatCode) (cells : ℕ) (v : PlayState) (h : IsPlay code cells v) (i : ℕ) (f : Frame) (is : frame_at (run_state v).frames i ≡ Some f)
-    (runs : f.status ≡ Running) (k : HeldState) (kept : item_or None v.running i ≡ Some k) where
+    (runs : f.status ≡ Running) (k : RunningIterationState) (kept : item_or None v.running i ≡ Some k) where
   abbrev p : Pipeline
   p = pipeline_played v
 
@@ -79,9 +79,9 @@ module _ (code : FlatCode) (cells : ℕ) (v : PlayState) (h : IsPlay code cells 
 
   -- ---- an access
 
-  module _ (a : Cell_access) (ticket : ℕ) (k' : HeldState) (cells' : ShardState) (next : next_event p s i ≡ Some (Access i a))
+  module _ (a : Cell_access) (ticket : ℕ) (k' : RunningIterationState) (cells' : ShardState) (next : next_event p s i ≡ Some (Access i a))
       (token : k'.token ≡ record k.token { now = ticket }) (low : ticket ≤ 2 ^ 62 + length v.book.log)
-      (held : IsHeld code cells (tree_of v.book.program) v.book.input (replies_at v.book i) k')
+      (instance : IsRunningIteration code cells (tree_of v.book.program) v.book.input (replies_at v.book i) k')
       (trace : k'.trace ≡ k.trace ++ record { ticket = ticket; access = a } ∷ []) where
     abbrev u : Frame → Frame
     u = with_action (Accessed a) Running
@@ -106,7 +106,7 @@ module _ (code : FlatCode) (cells : ℕ) (v : PlayState) (h : IsPlay code cells 
         token = record { running = fits.out.token.running; index = fits.out.token.index; marks = fits.out.token.marks; joined = fits.out.token.joined; folded = fits.out.token.folded };
         now = low;
       });
-      held = held;
+      instance = instance;
       left = left;
     }
 
@@ -162,10 +162,10 @@ slot_taken code cells v h i r none =
     (subst (λ w. FitsStatus code cells v.book i w r.frame.trace (item_or None v.running i)) r.runs (h.running.each i r.frame r.is))
 
 -- the access is the next event, and the play goes on with it
-pub access_made : (code : FlatCode) (cells : ℕ) (v : PlayState) (h : IsPlay code cells v) (i : ℕ) (r : IsRunning (run_state v) i) (k : HeldState)
-    → item_or None v.running i ≡ Some k → (input : List ℤ) → input ≡ v.book.input → (a : Cell_access) (k' : HeldState) (cells' : ShardState)
-    → ((tree : SyntaxTree) (replies : List (List ℤ)) → IsHeld code cells tree input replies k → IsHeld code cells tree input replies k')
-    → ((tree : SyntaxTree) (replies : List (List ℤ)) (q : Pipeline) (before : List Cell_access) → IsHeld code cells tree input replies k → IsStateAfter q.store before v.cells
+pub access_made : (code : FlatCode) (cells : ℕ) (v : PlayState) (h : IsPlay code cells v) (i : ℕ) (r : IsRunning (run_state v) i) (k : RunningIterationState)
+    → item_or None v.running i ≡ Some k → (input : List ℤ) → input ≡ v.book.input → (a : Cell_access) (k' : RunningIterationState) (cells' : ShardState)
+    → ((tree : SyntaxTree) (replies : List (List ℤ)) → IsRunningIteration code cells tree input replies k → IsRunningIteration code cells tree input replies k')
+    → ((tree : SyntaxTree) (replies : List (List ℤ)) (q : Pipeline) (before : List Cell_access) → IsRunningIteration code cells tree input replies k → IsStateAfter q.store before v.cells
     → next_of q before k.token.iteration (after_instances ((pipeline_of tree input).behaviour k.token.iteration) replies) k.trace ≡ Access k.token.iteration a)
     → k'.token ≡ record k.token { now = length v.events + 1 } → k'.trace ≡ k.trace ++ record { ticket = length v.events + 1; access = a } ∷ []
     → ((store : InitialStore) (before : List Cell_access) → IsStateAfter store before v.cells → IsStateAfter store (before ++ a ∷ []) cells')
@@ -177,20 +177,20 @@ pub access_made : (code : FlatCode) (cells : ℕ) (v : PlayState) (h : IsPlay co
       events = v.events ++ Access i a ∷ [];
       accesses = v.accesses ++ record { node = record { iteration = k'.token.iteration; index = k'.token.index }; access = a } ∷ [];
     })
-access_made code cells v h i r k kept input same a k' cells' held event token trace state shard =
+access_made code cells v h i r k kept input same a k' cells' instance event token trace state shard =
     let p = pipeline_played v in
     let s = run_state v in
     let before = p.preamble ++ accesses_of s.accesses in
     let at = fits code cells v h i r.frame r.is r.runs k kept in
     let tree = tree_of v.book.program in
     let replies = replies_at v.book i in
-    let mine : IsHeld code cells tree input replies k = subst (λ l. IsHeld code cells tree l replies k) (sym same) at.held in
+    let mine : IsRunningIteration code cells tree input replies k = subst (λ l. IsRunningIteration code cells tree l replies k) (sym same) at.instance in
     let here : next_of p before i (left_of v.book i) k.trace ≡ Access i a =
     subst (λ l. next_of p before i (after_instances ((pipeline_of tree l).behaviour i) replies) k.trace ≡ Access i a) same
     (subst (λ j. next_of p before j (after_instances ((pipeline_of tree input).behaviour j) replies) k.trace ≡ Access j a) at.iteration (event tree replies p before mine h.state)) in
     let next : next_event p s i ≡ Some (Access i a) = next_here code cells v h i r.frame r.is r.runs k kept ∙ ap Some here in
     let low : length v.events + 1 ≤ 2 ^ 62 + length v.book.log = (let short = (h.short v.events s h.run h.going).0 in omega (arith, short)) in
-    let now : IsHeld code cells tree v.book.input replies k' = subst (λ l. IsHeld code cells tree l replies k') same (held tree replies mine) in
+    let now : IsRunningIteration code cells tree v.book.input replies k' = subst (λ l. IsRunningIteration code cells tree l replies k') same (instance tree replies mine) in
     let node : record { iteration = k.token.iteration; index = k.token.index } ≡ record { iteration = k'.token.iteration; index = k'.token.index } =
     ap (λ (t : TokenFields). record { iteration = t.iteration; index = t.index }) (sym token) in (
       next,

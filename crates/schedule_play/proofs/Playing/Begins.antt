@@ -28,7 +28,7 @@ use Rattle.program_laws.proofs.AllowedEvents.{begin_is_allowed}
 use Rattle.run_laws.proofs.RunStates.FrameMoves.{frame_at_begun}
 use Rattle.run_laws.proofs.RunStates.LoopEnds.{iterations_begin_in_turn}
 use Rattle.stage_code.specs.FlatCode.{FlatCode}
-use Rattle.schedule_play.specs.HeldInstances.{HeldState, IsHeld}
+use Rattle.schedule_play.specs.RunningIterations.{RunningIterationState, IsRunningIteration}
 use Rattle.stage_interp.specs.MachineState.{MachineState}
 use Rattle.schedule_play.specs.Runners.{IsAtInstance}
 use Rattle.schedule_play.specs.PlayStates.{FitsStatus, IsPlay, IsRunningAt, PlayState, pipeline_played, run_state}
@@ -49,9 +49,9 @@ module _ (code : FlatCode) (cells : ℕ) (v : PlayState) (h : IsPlay code cells 
   pub begin_allowed : (e : Event) → next_begin limit s ≡ Some e → Allowed p limit s e
   begin_allowed e next = begin_is_allowed p limit s e h.going next
 
-  module _ (i : ℕ) (next : next_begin limit s ≡ Some (Begin i)) (k : HeldState) (iteration : k.token.iteration ≡ i)
+  module _ (i : ℕ) (next : next_begin limit s ≡ Some (Begin i)) (k : RunningIterationState) (iteration : k.token.iteration ≡ i)
       (out : IsOutOf (record v.book { log = with_events v.book.log 0 (Begin i ∷ []); traces = v.book.traces ++ [] ∷ []; tokens = v.book.tokens ++ Out ∷ [] }) k.token)
-      (held : IsHeld code cells (tree_of v.book.program) v.book.input (map replies_of (item_or [] (v.book.traces ++ [] ∷ []) i)) k) (empty : k.trace ≡ []) where
+      (instance : IsRunningIteration code cells (tree_of v.book.program) v.book.input (map replies_of (item_or [] (v.book.traces ++ [] ∷ []) i)) k) (empty : k.trace ≡ []) where
     abbrev log : List BookEntry
     log = with_events v.book.log 0 (Begin i ∷ [])
 
@@ -82,7 +82,7 @@ module _ (code : FlatCode) (cells : ℕ) (v : PlayState) (h : IsPlay code cells 
     here = record {
       iteration = iteration;
       out = out;
-      held = held;
+      instance = instance;
       left = sym (ap (λ l. behaviour_after_all (left_of begun i) (Rattle.pipe_frame.specs.Replies.accessed l)) empty
           ∙ ap (λ l. after_instances ((pipeline_in v.book).behaviour i) (map replies_of l)) no_traces);
     }
@@ -179,8 +179,8 @@ pub begun_made : {M : Type 0} (code : FlatCode) (cells : ℕ) (v : PlayState) (h
     → (token : FrameToken M) → BeginReturns v.book.limit (state_of v.book) (results.Started token)
     → IsOutOf (after_begin v.book (results.Started token)) (fields_of token) → (machine : MachineState)
     → IsAtInstance code cells (tree_of v.book.program) v.book.input machine token.iteration (replies_at (after_begin v.book (results.Started token)) token.iteration)
-    → (k : HeldState) → k.token ≡ fields_of token → k.trace ≡ [] → (input : List ℤ) → input ≡ v.book.input
-    → ((tree : SyntaxTree) (replies : List (List ℤ)) → IsAtInstance code cells tree input machine token.iteration replies → IsHeld code cells tree input replies k)
+    → (k : RunningIterationState) → k.token ≡ fields_of token → k.trace ≡ [] → (input : List ℤ) → input ≡ v.book.input
+    → ((tree : SyntaxTree) (replies : List (List ℤ)) → IsAtInstance code cells tree input machine token.iteration replies → IsRunningIteration code cells tree input replies k)
     → (schedule : ScheduleState) → ((s : State) → IsScheduleOf s v.schedule → IsScheduleOf (next_state s (Begin v.schedule.begun)) schedule)
     → schedule.limit ≡ v.schedule.limit
     → (e ≡ Begin token.iteration) × IsPlay code cells (record v {
@@ -189,7 +189,7 @@ pub begun_made : {M : Type 0} (code : FlatCode) (cells : ℕ) (v : PlayState) (h
       running = v.running ++ Some k ∷ [];
       events = v.events ++ Begin token.iteration ∷ [];
     })
-begun_made code cells v h e next token answer out machine stands k fields empty input same held schedule scheduled limited =
+begun_made code cells v h e next token answer out machine stands k fields empty input same instance schedule scheduled limited =
     let s = run_state v in
     let i = token.iteration in
     let tree = tree_of v.book.program in
@@ -197,9 +197,9 @@ begun_made code cells v h e next token answer out machine stands k fields empty 
     let may : MayBegin v.book.limit s i = ((agrees code cells v h).allow (Begin i)).1 answer.2 in
     let is : e ≡ Begin i = begin_event v.book.limit s e next ∙ ap Begin (sym may.number) in
     let number : v.schedule.begun ≡ i = h.schedule.begun ∙ sym may.number in
-    let there : IsHeld code cells tree input replies k = held tree replies (subst (λ l. IsAtInstance code cells tree l machine i replies) (sym same) stands) in (
+    let there : IsRunningIteration code cells tree input replies k = instance tree replies (subst (λ l. IsAtInstance code cells tree l machine i replies) (sym same) stands) in (
       is,
       begun_on code cells v h i (next ∙ ap Some is) k (ap (λ (x : TokenFields). x.iteration) fields)
-          (subst (IsOutOf (after_begin v.book (results.Started token))) (sym fields) out) (subst (λ l. IsHeld code cells tree l replies k) same there) empty
+          (subst (IsOutOf (after_begin v.book (results.Started token))) (sym fields) out) (subst (λ l. IsRunningIteration code cells tree l replies k) same there) empty
           schedule (subst (λ j. IsScheduleOf (next_state s (Begin j)) schedule) number (scheduled s h.schedule)) (limited ∙ h.limit),
     )

@@ -36,7 +36,7 @@ use Rattle.run_laws.proofs.RunStates.Frames.{frame_at_within, length-update_fram
 use Rattle.stage_code.specs.FlatCode.{FlatCode}
 use Rattle.stage_interp.specs.Standing.{EndsAs}
 use Rattle.schedule_play.specs.declared.running_instance.NextAction.TheVariants as actions
-use Rattle.schedule_play.specs.HeldInstances.{HeldState}
+use Rattle.schedule_play.specs.RunningIterations.{RunningIterationState}
 use Rattle.schedule_play.specs.PlayStates.{FitsStatus, IsPlay, KeepsRunning, PlayState, pipeline_played, run_state}
 use Rattle.schedule_play.specs.RunningInstances.{IsUnderWay, next_of}
 use Rattle.schedule_play.specs.ScheduleStates.{IsScheduleOf, ScheduleState}
@@ -45,7 +45,7 @@ use Rattle.schedule_play.proofs.Playing.Steps.{fits_still, logged, played_on, sa
 use Rattle.schedule_play.proofs.UnderWay.{after_instances-push, after_trace, instance_ends}
 
 module _ (code : FlatCode) (cells : ℕ) (v : PlayState) (h : IsPlay code cells v) (i : ℕ) (f : Frame) (is : frame_at (run_state v).frames i ≡ Some f)
-    (runs : f.status ≡ Running) (k : HeldState) (kept : item_or None v.running i ≡ Some k) (ending : StageEnd) (at : k.next ≡ actions.End ending) where
+    (runs : f.status ≡ Running) (k : RunningIterationState) (kept : item_or None v.running i ≡ Some k) (ending : StageEnd) (at : k.next ≡ actions.End ending) where
   abbrev p : Pipeline
   p = pipeline_played v
 
@@ -60,7 +60,7 @@ module _ (code : FlatCode) (cells : ℕ) (v : PlayState) (h : IsPlay code cells 
       let fit = fits code cells v h i f is runs k kept in
       subst (λ a. IsUnderWay code cells v.book.input (left_of v.book i) k.machine.run k.trace a) at
       (subst (λ j. IsUnderWay code cells v.book.input (after_instances ((pipeline_in v.book).behaviour j) (replies_at v.book i)) k.machine.run k.trace k.next)
-      fit.iteration fit.held.under_way)
+      fit.iteration fit.instance.under_way)
 
   -- the event of the end is next
   pub end_is_next : (e : Event) → stage_end_events i ending ≡ e ∷ [] → next_event p s i ≡ Some e
@@ -88,7 +88,7 @@ module _ (code : FlatCode) (cells : ℕ) (v : PlayState) (h : IsPlay code cells 
     abbrev tokens : List TokenState
     tokens = set v.book.tokens k.token.iteration token
 
-    abbrev running : List (Option HeldState)
+    abbrev running : List (Option RunningIterationState)
     running = set v.running i None
 
     iteration : k.token.iteration ≡ i
@@ -264,7 +264,7 @@ module _ (code : FlatCode) (cells : ℕ) (v : PlayState) (h : IsPlay code cells 
       by stage_ends.Stopped here answer one = absurd (under_way.is_at.0 here)
 
 -- the result of a call of the player: the event is the next one, and the play goes on with it
-pub end_made : (code : FlatCode) (cells : ℕ) (v : PlayState) (h : IsPlay code cells v) (i : ℕ) (r : IsRunning (run_state v) i) (k : HeldState)
+pub end_made : (code : FlatCode) (cells : ℕ) (v : PlayState) (h : IsPlay code cells v) (i : ℕ) (r : IsRunning (run_state v) i) (k : RunningIterationState)
     → item_or None v.running i ≡ Some k → (end : StageEnd) → k.next ≡ actions.End end → (result : Named)
     → NameReturns (state_of v.book) end result → (e : Event) → stage_end_events i end ≡ e ∷ [] → (schedule : ScheduleState)
     → ((s : State) → IsScheduleOf s v.schedule → ControlAllows v.schedule.limit s e → IsScheduleOf (next_state s e) schedule)

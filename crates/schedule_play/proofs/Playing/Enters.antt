@@ -23,7 +23,7 @@ use Rattle.program_laws.proofs.AllowedEvents.{allowed_events_are_next}
 use Rattle.run_laws.proofs.RunStates.FrameMoves.{enter_pending_is, entered_frame, frame_at_moved}
 use Rattle.run_laws.proofs.RunStates.Frames.{frame_at_within, length-update_frame}
 use Rattle.stage_code.specs.FlatCode.{FlatCode}
-use Rattle.schedule_play.specs.HeldInstances.{HeldState, IsHeld}
+use Rattle.schedule_play.specs.RunningIterations.{RunningIterationState, IsRunningIteration}
 use Rattle.stage_interp.specs.MachineState.{MachineState}
 use Rattle.schedule_play.specs.Runners.{IsAtInstance}
 use Rattle.schedule_play.specs.PlayStates.{FitsStatus, IsPlay, IsRunningAt, PlayState, pipeline_played, run_state}
@@ -41,8 +41,8 @@ module _ (code : FlatCode) (cells : ℕ) (v : PlayState) (h : IsPlay code cells 
   limit = v.book.limit
 
   module _ (i : ℕ) (f : Frame) (is : frame_at s.frames i ≡ Some f) (kind : Kind) (n : ℤ) (named : f.status ≡ Pending kind n)
-      (next : next_event p s i ≡ Some (Enter i)) (k : HeldState) (iteration : k.token.iteration ≡ i) (out : IsOutOf (with_entered v.book i) k.token)
-      (held : IsHeld code cells (tree_of v.book.program) v.book.input (replies_at v.book i) k) (empty : k.trace ≡ []) where
+      (next : next_event p s i ≡ Some (Enter i)) (k : RunningIterationState) (iteration : k.token.iteration ≡ i) (out : IsOutOf (with_entered v.book i) k.token)
+      (instance : IsRunningIteration code cells (tree_of v.book.program) v.book.input (replies_at v.book i) k) (empty : k.trace ≡ []) where
     abbrev u : Frame → Frame
     u = λ g. enter_pending g.status g
 
@@ -68,7 +68,7 @@ module _ (code : FlatCode) (cells : ℕ) (v : PlayState) (h : IsPlay code cells 
     here = record {
       iteration = iteration;
       out = out;
-      held = held;
+      instance = instance;
       left = left ∙ sym (ap (λ l. behaviour_after_all (left_of v.book i) (Rattle.pipe_frame.specs.Replies.accessed l)) empty);
     }
 
@@ -130,7 +130,7 @@ enters_next code cells v h i none e next =
     by f is (Completed x) at fit q = absurd (cc)
 
 -- an iteration whose instance is kept runs
-pub runs_by_slot : (code : FlatCode) (cells : ℕ) (v : PlayState) → IsPlay code cells v → (i : ℕ) (k : HeldState) → item_or None v.running i ≡ Some k → (e : Event)
+pub runs_by_slot : (code : FlatCode) (cells : ℕ) (v : PlayState) → IsPlay code cells v → (i : ℕ) (k : RunningIterationState) → item_or None v.running i ≡ Some k → (e : Event)
     → next_event (pipeline_played v) (run_state v) i ≡ Some e → IsRunning (run_state v) i
 runs_by_slot code cells v h i k some e next =
     let f = frame_of_next (pipeline_played v) (run_state v) i e next in
@@ -156,19 +156,19 @@ enter_possible code cells v h i next answer =
 pub entered_made : (code : FlatCode) (cells : ℕ) (v : PlayState) (h : IsPlay code cells v) (i : ℕ) → next_event (pipeline_played v) (run_state v) i ≡ Some (Enter i)
     → (t : TokenFields) → t.iteration ≡ i → IsOutOf (with_entered v.book t.iteration) t → (machine : MachineState)
     → IsAtInstance code cells (tree_of v.book.program) v.book.input machine t.iteration (replies_at v.book t.iteration)
-    → (k : HeldState) → k.token ≡ t → k.trace ≡ [] → (input : List ℤ) → input ≡ v.book.input
-    → ((tree : SyntaxTree) (replies : List (List ℤ)) → IsAtInstance code cells tree input machine t.iteration replies → IsHeld code cells tree input replies k)
+    → (k : RunningIterationState) → k.token ≡ t → k.trace ≡ [] → (input : List ℤ) → input ≡ v.book.input
+    → ((tree : SyntaxTree) (replies : List (List ℤ)) → IsAtInstance code cells tree input machine t.iteration replies → IsRunningIteration code cells tree input replies k)
     → (schedule : ScheduleState) → ((s : State) → IsScheduleOf s v.schedule → MayEnter s i → IsScheduleOf (next_state s (Enter i)) schedule)
     → schedule.limit ≡ v.schedule.limit
     → IsPlay code cells (record v { book = with_entered v.book t.iteration; schedule = schedule; running = set v.running i (Some k); events = v.events ++ Enter i ∷ [] })
-entered_made code cells v h i next t iteration out machine stands k fields empty input same held schedule scheduled limited =
+entered_made code cells v h i next t iteration out machine stands k fields empty input same instance schedule scheduled limited =
     let allowed = (allowed_events_are_next (pipeline_played v) v.book.limit v.events (run_state v) (Enter i) h.run h.proper h.going (λ q. absurd (cc))).1 (inl (i, next)) in
     let may : MayEnter (run_state v) i = allowed.control in
     let tree = tree_of v.book.program in
-    let there : IsHeld code cells tree input (replies_at v.book t.iteration) k =
-    held tree (replies_at v.book t.iteration) (subst (λ l. IsAtInstance code cells tree l machine t.iteration (replies_at v.book t.iteration)) (sym same) stands) in
-    let here : IsHeld code cells tree v.book.input (replies_at v.book i) k =
-    subst (λ l. IsHeld code cells tree l (replies_at v.book i) k) same (subst (λ j. IsHeld code cells tree input (replies_at v.book j) k) iteration there) in
+    let there : IsRunningIteration code cells tree input (replies_at v.book t.iteration) k =
+    instance tree (replies_at v.book t.iteration) (subst (λ l. IsAtInstance code cells tree l machine t.iteration (replies_at v.book t.iteration)) (sym same) stands) in
+    let here : IsRunningIteration code cells tree v.book.input (replies_at v.book i) k =
+    subst (λ l. IsRunningIteration code cells tree l (replies_at v.book i) k) same (subst (λ j. IsRunningIteration code cells tree input (replies_at v.book j) k) iteration there) in
     let gone : IsOutOf (with_entered v.book i) k.token =
     subst (IsOutOf (with_entered v.book i)) (sym fields) (subst (λ j. IsOutOf (with_entered v.book j) t) iteration out) in
     subst (λ j. IsPlay code cells (record v { book = with_entered v.book j; schedule = schedule; running = set v.running i (Some k); events = v.events ++ Enter i ∷ [] })) (sym iteration)

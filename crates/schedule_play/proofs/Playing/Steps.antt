@@ -27,7 +27,7 @@ use Rattle.order_2d.proofs.EventsSoFar.{without-append}
 use Rattle.program_laws.specs.ControlLaws.{AgreeInControl, HasControlRun}
 use Rattle.program_laws.proofs.ControlOutlines.{control_goes_by_outlines, control_skips_accesses, runs_have_control_runs}
 use Rattle.stage_code.specs.FlatCode.{FlatCode}
-use Rattle.schedule_play.specs.HeldInstances.{HeldState, IsHeld}
+use Rattle.schedule_play.specs.RunningIterations.{RunningIterationState, IsRunningIteration}
 use Rattle.schedule_play.specs.OneAccess.{HasAllCells}
 use Rattle.schedule_play.specs.PlayStates.{FitsStatus, IsPlay, KeepsRunning, PlayState, pipeline_played, run_state}
 use Rattle.schedule_play.specs.ScheduleStates.{IsScheduleOf, ScheduleState}
@@ -86,7 +86,7 @@ module _ (code : FlatCode) (cells : ℕ) (v : PlayState) (h : IsPlay code cells 
   pub fits_still : (e : Event) (log : List BookEntry) (traces : List (List (List Entry))) (tokens : List TokenState) → ControlAllows limit s e → is_access e ≡ false
       → events_of log ≡ events_of v.book.log ++ e ∷ [] → (j : ℕ) → EndsNoneOf j e
       → item_or Spent tokens j ≡ item_or Spent v.book.tokens j → item_or [] traces j ≡ item_or [] v.book.traces j
-      → (w : Status) (trace : List Action) (kept : Option HeldState) → FitsStatus code cells v.book j w trace kept
+      → (w : Status) (trace : List Action) (kept : Option RunningIterationState) → FitsStatus code cells v.book j w trace kept
       → FitsStatus code cells (with_book log traces tokens) j w trace kept
   fits_still e log traces tokens may quiet more j none same_token same_traces Running trace None fits = fits
   fits_still e log traces tokens may quiet more j none same_token same_traces Running trace (Some k) fits = record {
@@ -94,7 +94,7 @@ module _ (code : FlatCode) (cells : ℕ) (v : PlayState) (h : IsPlay code cells 
     out = stays_out e log traces tokens may quiet more k.token
         (subst (λ i. EndsNoneOf i e) (sym fits.iteration) none)
         (subst (λ i. item_or Spent tokens i ≡ item_or Spent v.book.tokens i) (sym fits.iteration) same_token) fits.out;
-    held = subst (λ (l : List (List Entry)). IsHeld code cells (tree_of v.book.program) v.book.input (map replies_of l) k) (sym same_traces) fits.held;
+    instance = subst (λ (l : List (List Entry)). IsRunningIteration code cells (tree_of v.book.program) v.book.input (map replies_of l) k) (sym same_traces) fits.instance;
     left = subst (λ (l : List (List Entry)). behaviour_after_all ((pipeline_in v.book).behaviour j) trace
         ≡ behaviour_after_all (after_instances ((pipeline_in v.book).behaviour j) (map replies_of l)) (accessed k.trace)) (sym same_traces) fits.left;
   }
@@ -120,7 +120,7 @@ module _ (code : FlatCode) (cells : ℕ) (v : PlayState) (h : IsPlay code cells 
     still_short = h.short (v.events ++ e ∷ []) (next_state s e) run going
 
     pub played_on : (log : List BookEntry) (traces : List (List (List Entry))) (tokens : List TokenState) (schedule : ScheduleState)
-        (running : List (Option HeldState)) (cells' : ShardState) (accesses : List NodeAccess)
+        (running : List (Option RunningIterationState)) (cells' : ShardState) (accesses : List NodeAccess)
         → events_of log ≡ without_accesses (v.events ++ e ∷ [])
         → IsScheduleOf (next_state s e) schedule → schedule.limit ≡ limit
         → KeepsRunning code cells (with_book log traces tokens) (next_state s e).frames running

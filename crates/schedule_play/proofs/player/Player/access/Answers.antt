@@ -4,7 +4,7 @@ use Rattle.pipe_model.specs.declared.event.Event.TheVariants as events
 use Rattle.schedule_play.specs.declared.running_instance.NextAction.TheVariants as actions
 use Rattle.pipe_model.specs.Language.SyntaxTree.{tree_of}
 use Rattle.frame_book.specs.BookStates.{replies_at}
-use Rattle.schedule_play.specs.HeldInstances.{HeldState, IsHeld}
+use Rattle.schedule_play.specs.RunningIterations.{RunningIterationState, IsRunningIteration}
 use Rattle.pipe_model.specs.Runs.Allowed.{IsRunning}
 use Rattle.pipe_model.specs.Runs.NextEvents.{next_event}
 use Rattle.schedule_play.specs.PlayStates.{IsPlay, PlayState, pipeline_played, run_state}
@@ -45,10 +45,10 @@ access-requires-clause-pending g c =
     let within = slot_within code cells v c.requires.play i c.requires.runs.frame c.requires.runs.is in
     let slot = c.take.ensures.value ∙ c.index_mut.ensures.value ∙ ap (λ l. slice_index_or l i c.index_mut.result.now) running
     ∙ get_or_default v.running i c.index_mut.result.now None within in
-    subst (λ o. IfSome o (λ (h : HeldState). h.next ≡ actions.Access)) (sym slot ∙ c.in-Some.is) c.requires.next
+    subst (λ o. IfSome o (λ (h : RunningIterationState). h.next ≡ actions.Access)) (sym slot ∙ c.in-Some.is) c.requires.next
 
-pub access-requires-clause-held : goal.access-requires-clause-held
-access-requires-clause-held g c =
+pub access-requires-clause-instance : goal.access-requires-clause-instance
+access-requires-clause-instance g c =
     let code = g.B.PlayedCode.code in
     let cells = g.B.PlayedCode.cells in
     let v = c.args.self.now in
@@ -57,8 +57,8 @@ access-requires-clause-held g c =
     let within = slot_within code cells v c.requires.play i c.requires.runs.frame c.requires.runs.is in
     let slot = c.take.ensures.value ∙ c.index_mut.ensures.value ∙ ap (λ l. slice_index_or l i c.index_mut.result.now) running
     ∙ get_or_default v.running i c.index_mut.result.now None within in
-    let at = fits code cells v c.requires.play i c.requires.runs.frame c.requires.runs.is c.requires.runs.runs c.in-Some.held (sym slot ∙ c.in-Some.is) in
-    (tree_of v.book.program, (replies_at v.book i, subst (λ (l : List ℤ). IsHeld code cells (tree_of v.book.program) l (replies_at v.book i) c.in-Some.held) (sym c.requires.input) at.held))
+    let at = fits code cells v c.requires.play i c.requires.runs.frame c.requires.runs.is c.requires.runs.runs c.in-Some.running (sym slot ∙ c.in-Some.is) in
+    (tree_of v.book.program, (replies_at v.book i, subst (λ (l : List ℤ). IsRunningIteration code cells (tree_of v.book.program) l (replies_at v.book i) c.in-Some.running) (sym c.requires.input) at.instance))
 
 pub index_mut-requires-2 : goal.index_mut-requires-2
 index_mut-requires-2 g c =
@@ -86,9 +86,9 @@ returns-clause-play g c =
     let input = c.requires.input ∙ ap (λ (x : PlayState). x.book.input) (sym c.self.view_is) in
     let told = c.in_ok-access.ensures in
     let ticket = c.len.ensures in
-    let made = access_made code cells w h i runs c.in-Some.held kept c.args.input.now input c.in_ok-access.access c.access.new.self c.access.new.cells
-    told.held told.event (subst (λ n. c.access.new.self.token ≡ record c.in-Some.held.token { now = n + 1 }) ticket told.fields)
-    (subst (λ n. c.access.new.self.trace ≡ c.in-Some.held.trace ++ record { ticket = n + 1; access = c.in_ok-access.access } ∷ []) ticket told.trace) told.state told.shard in
+    let made = access_made code cells w h i runs c.in-Some.running kept c.args.input.now input c.in_ok-access.access c.access.new.self c.access.new.cells
+    told.instance told.event (subst (λ n. c.access.new.self.token ≡ record c.in-Some.running.token { now = n + 1 }) ticket told.fields)
+    (subst (λ n. c.access.new.self.trace ≡ c.in-Some.running.trace ++ record { ticket = n + 1; access = c.in_ok-access.access } ∷ []) ticket told.trace) told.state told.shard in
     rw (set-set inside.running.items i c.take.new.self (Some c.access.new.self), c.in_ok-push-2.ensures.ok, c.in_ok-push.ensures.ok, c.node-node.ensures) made.1
 
 pub returns-clause-event : goal.returns-clause-event
@@ -105,9 +105,9 @@ returns-clause-event g c = λ e next.
     let input = c.requires.input ∙ ap (λ (x : PlayState). x.book.input) (sym c.self.view_is) in
     let told = c.in_ok-access.ensures in
     let ticket = c.len.ensures in
-    let made = access_made code cells w h i runs c.in-Some.held kept c.args.input.now input c.in_ok-access.access c.access.new.self c.access.new.cells
-    told.held told.event (subst (λ n. c.access.new.self.token ≡ record c.in-Some.held.token { now = n + 1 }) ticket told.fields)
-    (subst (λ n. c.access.new.self.trace ≡ c.in-Some.held.trace ++ record { ticket = n + 1; access = c.in_ok-access.access } ∷ []) ticket told.trace) told.state told.shard in
+    let made = access_made code cells w h i runs c.in-Some.running kept c.args.input.now input c.in_ok-access.access c.access.new.self c.access.new.cells
+    told.instance told.event (subst (λ n. c.access.new.self.token ≡ record c.in-Some.running.token { now = n + 1 }) ticket told.fields)
+    (subst (λ n. c.access.new.self.trace ≡ c.in-Some.running.trace ++ record { ticket = n + 1; access = c.in_ok-access.access } ∷ []) ticket told.trace) told.state told.shard in
     let there = subst (λ (x : PlayState). next_event (pipeline_played x) (run_state x) i ≡ Some e) (sym c.self.view_is) next in
     let same : events.Access i c.in_ok-access.access ≡ e = (let q = sym made.0 ∙ there in cc) in
     c.in_ok-push-2.ensures.ok ∙ (ap (λ x. inside.events ++ x ∷ []) same ∙ ap (λ (x : PlayState). x.events ++ e ∷ []) c.self.view_is)

@@ -4,7 +4,7 @@ use Rattle.pipe_model.specs.Language.SyntaxTree.{tree_of}
 use Rattle.frame_book.specs.BookStates.{item_or, replies_at}
 use Rattle.frame_book.specs.GivenTokens.{IsOutOf}
 use Rattle.schedule_play.specs.declared.running_instance.NextAction.TheVariants as actions
-use Rattle.schedule_play.specs.HeldInstances.{HeldState, IsHeld}
+use Rattle.schedule_play.specs.RunningIterations.{RunningIterationState, IsRunningIteration}
 use Rattle.pipe_model.specs.Runs.Allowed.{IsRunning}
 use Rattle.pipe_model.specs.Runs.NextEvents.{next_event}
 use Rattle.schedule_play.specs.PlayStates.{IsPlay, PlayState, pipeline_played, run_state}
@@ -46,8 +46,8 @@ end-requires-clause-out g c =
     let within = slot_within code cells v c.requires.play i c.requires.runs.frame c.requires.runs.is in
     let slot = c.take.ensures.value ∙ c.index_mut.ensures.value ∙ ap (λ l. slice_index_or l i c.index_mut.result.now) running
     ∙ get_or_default v.running i c.index_mut.result.now None within in
-    let at = fits code cells v c.requires.play i c.requires.runs.frame c.requires.runs.is c.requires.runs.runs c.in-Some.held (sym slot ∙ c.in-Some.is) in
-    subst (λ (x : PlayState). IsOutOf x.book c.in-Some.held.token) (sym c.self.view_is) at.out
+    let at = fits code cells v c.requires.play i c.requires.runs.frame c.requires.runs.is c.requires.runs.runs c.in-Some.running (sym slot ∙ c.in-Some.is) in
+    subst (λ (x : PlayState). IsOutOf x.book c.in-Some.running.token) (sym c.self.view_is) at.out
 
 pub end-requires-clause-ends : goal.end-requires-clause-ends
 end-requires-clause-ends g c =
@@ -59,10 +59,10 @@ end-requires-clause-ends g c =
     let within = slot_within code cells v c.requires.play i c.requires.runs.frame c.requires.runs.is in
     let slot = c.take.ensures.value ∙ c.index_mut.ensures.value ∙ ap (λ l. slice_index_or l i c.index_mut.result.now) running
     ∙ get_or_default v.running i c.index_mut.result.now None within in
-    subst (λ o. IfSome o (λ (h : HeldState). h.next ≡ actions.End c.args.end)) (sym slot ∙ c.in-Some.is) c.requires.next
+    subst (λ o. IfSome o (λ (h : RunningIterationState). h.next ≡ actions.End c.args.end)) (sym slot ∙ c.in-Some.is) c.requires.next
 
-pub end-requires-clause-held : goal.end-requires-clause-held
-end-requires-clause-held g c =
+pub end-requires-clause-instance : goal.end-requires-clause-instance
+end-requires-clause-instance g c =
     let code = g.B.PlayedCode.code in
     let cells = g.B.PlayedCode.cells in
     let v = c.args.self.now in
@@ -71,9 +71,9 @@ end-requires-clause-held g c =
     let within = slot_within code cells v c.requires.play i c.requires.runs.frame c.requires.runs.is in
     let slot = c.take.ensures.value ∙ c.index_mut.ensures.value ∙ ap (λ l. slice_index_or l i c.index_mut.result.now) running
     ∙ get_or_default v.running i c.index_mut.result.now None within in
-    let at = fits code cells v c.requires.play i c.requires.runs.frame c.requires.runs.is c.requires.runs.runs c.in-Some.held (sym slot ∙ c.in-Some.is) in
-    subst (λ (x : PlayState). IsHeld code cells (tree_of x.book.program) x.book.input (replies_at x.book c.in-Some.held.token.iteration) c.in-Some.held) (sym c.self.view_is)
-    (subst (λ j. IsHeld code cells (tree_of v.book.program) v.book.input (replies_at v.book j) c.in-Some.held) (sym at.iteration) at.held)
+    let at = fits code cells v c.requires.play i c.requires.runs.frame c.requires.runs.is c.requires.runs.runs c.in-Some.running (sym slot ∙ c.in-Some.is) in
+    subst (λ (x : PlayState). IsRunningIteration code cells (tree_of x.book.program) x.book.input (replies_at x.book c.in-Some.running.token.iteration) c.in-Some.running) (sym c.self.view_is)
+    (subst (λ j. IsRunningIteration code cells (tree_of v.book.program) v.book.input (replies_at v.book j) c.in-Some.running) (sym at.iteration) at.instance)
 
 pub returns-clause-play : goal.returns-clause-play
 returns-clause-play g c =
@@ -86,10 +86,10 @@ returns-clause-play g c =
     let runs = subst (λ (x : PlayState). IsRunning (run_state x) i) (sym c.self.view_is) c.requires.runs in
     let within = slot_within code cells w h i runs.frame runs.is in
     let kept = sym (get_or_default inside.running.items i c.index_mut.result.now None within) ∙ sym (c.take.ensures.value ∙ c.index_mut.ensures.value) ∙ c.in-Some.is in
-    let at = subst (λ o. IfSome o (λ (x : HeldState). x.next ≡ actions.End c.args.end)) kept
-    (subst (λ (x : PlayState). IfSome (item_or None x.running i) (λ (y : HeldState). y.next ≡ actions.End c.args.end)) (sym c.self.view_is) c.requires.next) in
+    let at = subst (λ o. IfSome o (λ (x : RunningIterationState). x.next ≡ actions.End c.args.end)) kept
+    (subst (λ (x : PlayState). IfSome (item_or None x.running i) (λ (y : RunningIterationState). y.next ≡ actions.End c.args.end)) (sym c.self.view_is) c.requires.next) in
     let told = c.end_instance-event.ensures in
-    let made = end_made code cells w h i runs c.in-Some.held kept c.args.end at c.end.result c.end.ensures.answer c.end_instance-event.result told.event
+    let made = end_made code cells w h i runs c.in-Some.running kept c.args.end at c.end.result c.end.ensures.answer c.end_instance-event.result told.event
     c.end_instance-event.new.self told.schedule told.limit in
     rw (c.take.ensures.after, c.end.ensures.book, c.in_ok-push.ensures.ok) made.1
 
@@ -104,10 +104,10 @@ returns-clause-event g c = λ e next.
     let runs = subst (λ (x : PlayState). IsRunning (run_state x) i) (sym c.self.view_is) c.requires.runs in
     let within = slot_within code cells w h i runs.frame runs.is in
     let kept = sym (get_or_default inside.running.items i c.index_mut.result.now None within) ∙ sym (c.take.ensures.value ∙ c.index_mut.ensures.value) ∙ c.in-Some.is in
-    let at = subst (λ o. IfSome o (λ (x : HeldState). x.next ≡ actions.End c.args.end)) kept
-    (subst (λ (x : PlayState). IfSome (item_or None x.running i) (λ (y : HeldState). y.next ≡ actions.End c.args.end)) (sym c.self.view_is) c.requires.next) in
+    let at = subst (λ o. IfSome o (λ (x : RunningIterationState). x.next ≡ actions.End c.args.end)) kept
+    (subst (λ (x : PlayState). IfSome (item_or None x.running i) (λ (y : RunningIterationState). y.next ≡ actions.End c.args.end)) (sym c.self.view_is) c.requires.next) in
     let told = c.end_instance-event.ensures in
-    let made = end_made code cells w h i runs c.in-Some.held kept c.args.end at c.end.result c.end.ensures.answer c.end_instance-event.result told.event
+    let made = end_made code cells w h i runs c.in-Some.running kept c.args.end at c.end.result c.end.ensures.answer c.end_instance-event.result told.event
     c.end_instance-event.new.self told.schedule told.limit in
     let there = subst (λ (x : PlayState). next_event (pipeline_played x) (run_state x) i ≡ Some e) (sym c.self.view_is) next in
     let same : c.end_instance-event.result ≡ e = (let q = sym made.0 ∙ there in cc) in

@@ -9,7 +9,7 @@ use Rattle.stage_interp.specs.MachineState.{RunState}
 use Rattle.frame_book.specs.BookStates.{item_or}
 use Rattle.schedule_play.specs.declared.running_instance.NextAction.{NextAction}
 use Rattle.schedule_play.specs.declared.running_instance.NextAction.TheVariants as actions
-use Rattle.schedule_play.specs.HeldInstances.{HeldState}
+use Rattle.schedule_play.specs.RunningIterations.{RunningIterationState}
 use Rattle.schedule_play.specs.PlayStates.{pipeline_played, run_state}
 use Rattle.schedule_play.specs.RunningInstances.{IsUnderWay}
 use Rattle.schedule_play.proofs.Playing.Accesses.{fits, slot_within}
@@ -17,11 +17,11 @@ use Rattle.schedule_play.proofs.Playing.Enters.{enters_next, frame_of_next, runs
 use Rattle.schedule_play.proofs.player.Player.next.Goals as goal
 
 -- the slot, by what is known of its next event
-no_slot : (o : Option HeldState) → option_map (λ (h : HeldState). h.next) o ≡ None → o ≡ None
+no_slot : (o : Option RunningIterationState) → option_map (λ (h : RunningIterationState). h.next) o ≡ None → o ≡ None
 no_slot None e = refl
 no_slot (Some h) e = absurd (cc)
 
-slot : (o : Option HeldState) (end : NextAction) → option_map (λ (h : HeldState). h.next) o ≡ Some end → (h : HeldState) × (o ≡ Some h) × (h.next ≡ end)
+slot : (o : Option RunningIterationState) (end : NextAction) → option_map (λ (h : RunningIterationState). h.next) o ≡ Some end → (h : RunningIterationState) × (o ≡ Some h) × (h.next ≡ end)
 slot None end e = absurd (cc)
 slot (Some h) end e = (h, refl, cc)
 
@@ -58,7 +58,7 @@ pub access-requires-clause-next : goal.access-requires-clause-next
 access-requires-clause-next g c =
     let v = c.args.self.now in
     let k = slot (item_or None v.running c.args.iteration) actions.Access (sym c.next_of_running.ensures ∙ c.in-Some.is ∙ ap Some c.in-Access.is) in
-    subst (λ o. IfSome o (λ (h : HeldState). h.next ≡ actions.Access)) (sym k.1) k.2
+    subst (λ o. IfSome o (λ (h : RunningIterationState). h.next ≡ actions.Access)) (sym k.1) k.2
 
 pub end-requires-clause-runs : goal.end-requires-clause-runs
 end-requires-clause-runs g c =
@@ -72,7 +72,7 @@ pub end-requires-clause-next : goal.end-requires-clause-next
 end-requires-clause-next g c =
     let v = c.args.self.now in
     let k = slot (item_or None v.running c.args.iteration) (actions.End c.in-End.end) (sym c.next_of_running.ensures ∙ c.in-Some.is ∙ ap Some c.in-End.is) in
-    subst (λ o. IfSome o (λ (h : HeldState). h.next ≡ actions.End c.in-End.end)) (sym k.1) k.2
+    subst (λ o. IfSome o (λ (h : RunningIterationState). h.next ≡ actions.End c.in-End.end)) (sym k.1) k.2
 
 pub end-requires-clause-ends : goal.end-requires-clause-ends
 end-requires-clause-ends g c =
@@ -82,4 +82,4 @@ end-requires-clause-ends g c =
     let k = slot (item_or None v.running c.args.iteration) (actions.End c.in-End.end) (sym c.next_of_running.ensures ∙ c.in-Some.is ∙ ap Some c.in-End.is) in
     let runs = runs_by_slot code cells v c.requires.play c.args.iteration k.0 k.1 c.requires.next.0 c.requires.next.1 in
     let at = fits code cells v c.requires.play c.args.iteration runs.frame runs.is runs.runs k.0 k.1 in
-    ends_apart at.held.under_way k.2
+    ends_apart at.instance.under_way k.2

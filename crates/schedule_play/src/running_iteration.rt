@@ -15,7 +15,7 @@ ghost use Rattle.pipe_model.specs.Pipelines.Store.{InitialStore};
 ghost use Rattle.frame_book.specs.BookStates.{replies_at, state_of};
 ghost use Rattle.frame_book.specs.CallEffects.{after_name_next};
 ghost use Rattle.frame_book.specs.GivenTokens.{IsOutOf};
-ghost use Rattle.schedule_play.specs.HeldInstances.{IsHeld};
+ghost use Rattle.schedule_play.specs.RunningIterations.{IsRunningIteration};
 ghost use Rattle.schedule_play.specs.OneAccess.{HasAllCells};
 ghost use Rattle.schedule_play.specs.RunningInstances.{next_of};
 ghost use Rattle.schedule_play.specs.Runners.{IsAtInstance, no_tie};
@@ -40,16 +40,16 @@ use std::marker::Model;
 /// A running iteration: the token of its instance, and how far the instance is. Contracts see the
 /// fields of the token, the machine, the accesses of the instance and its next event.
 #[derive(Drop)]
-pub struct Held<B: PlayedCode> {
+pub struct RunningIteration<B: PlayedCode> {
     token: FrameToken<Runner<B>>,
     running: RunningInstance,
 }
 
-impl<B: PlayedCode> Model for Held<B> {
+impl<B: PlayedCode> Model for RunningIteration<B> {
     ghost use Rattle.pipe_frame.specs.TokenFields.{fields_of};
-    ghost use Rattle.schedule_play.specs.HeldInstances.{HeldState};
+    ghost use Rattle.schedule_play.specs.RunningIterations.{RunningIterationState};
 
-    ghost Value = { HeldState };
+    ghost Value = { RunningIterationState };
 
     ghost view = { λ h. record {
       token = fields_of h.token;
@@ -59,7 +59,7 @@ impl<B: PlayedCode> Model for Held<B> {
     } };
 }
 
-impl<B: PlayedCode> Held<B> {
+impl<B: PlayedCode> RunningIteration<B> {
     /// Begins the instance of a token: runs its machine up to its first event.
     pub fn new(
         alloc: Global,
@@ -72,13 +72,13 @@ impl<B: PlayedCode> Held<B> {
         requires cells { cells.now.shard.cells ≡ B.cells }
         requires few { cells.now.shard.cells ≤ 4294967296 }
         requires stands { (tree : SyntaxTree) × ((replies : List (List ℤ)) × IsAtInstance B.code B.cells tree input.now token.payload.machine token.iteration replies) }
-        ensures held { (tree : SyntaxTree) (replies : List (List ℤ)) → IsAtInstance B.code B.cells tree input.now token.payload.machine token.iteration replies
-            → IsHeld B.code B.cells tree input.now replies result }
+        ensures instance { (tree : SyntaxTree) (replies : List (List ℤ)) → IsAtInstance B.code B.cells tree input.now token.payload.machine token.iteration replies
+            → IsRunningIteration B.code B.cells tree input.now replies result }
         ensures fields { result.token ≡ fields_of token }
         ensures empty { result.trace ≡ [] }
     {
         let running = RunningInstance::new(alloc, &mut token.payload.machine, code, input, cells);
-        Held { token, running }
+        RunningIteration { token, running }
     }
 
     /// Returns the instance.
@@ -112,11 +112,11 @@ impl<B: PlayedCode> Held<B> {
         requires all { HasAllCells cells.old }
         requires few { cells.old.shard.cells ≤ 4294967296 }
         requires pending { self.old.next ≡ NextAction.Access }
-        requires held { (tree : SyntaxTree) × ((replies : List (List ℤ)) × IsHeld B.code B.cells tree input.now replies self.old) }
-        ensures held { IfOk result (λ a. (tree : SyntaxTree) (replies : List (List ℤ)) → IsHeld B.code B.cells tree input.now replies self.old
-            → IsHeld B.code B.cells tree input.now replies self.new) }
+        requires instance { (tree : SyntaxTree) × ((replies : List (List ℤ)) × IsRunningIteration B.code B.cells tree input.now replies self.old) }
+        ensures instance { IfOk result (λ a. (tree : SyntaxTree) (replies : List (List ℤ)) → IsRunningIteration B.code B.cells tree input.now replies self.old
+            → IsRunningIteration B.code B.cells tree input.now replies self.new) }
         ensures event { IfOk result (λ a. (tree : SyntaxTree) (replies : List (List ℤ)) (p : Pipeline) (before : List Accessed)
-            → IsHeld B.code B.cells tree input.now replies self.old → IsStateAfter p.store before cells.old
+            → IsRunningIteration B.code B.cells tree input.now replies self.old → IsStateAfter p.store before cells.old
             → next_of p before self.old.token.iteration (after_instances ((pipeline_of tree input.now).behaviour self.old.token.iteration) replies)
             self.old.trace ≡ events.Access self.old.token.iteration a) }
         ensures fields { IfOk result (λ a. self.new.token ≡ record self.old.token { now = ticket }) }
@@ -136,7 +136,7 @@ impl<B: PlayedCode> Held<B> {
         requires out { IsOutOf book.old self.token }
         requires ends { self.next ≡ NextAction.End end }
         requires lists { BelongsTo no_tie book.old.lists }
-        requires held { IsHeld B.code B.cells (tree_of book.old.program) book.old.input (replies_at book.old self.token.iteration) self }
+        requires instance { IsRunningIteration B.code B.cells (tree_of book.old.program) book.old.input (replies_at book.old self.token.iteration) self }
         ensures answer { NameReturns (state_of book.old) end result }
         ensures book { book.new ≡ after_name_next book.old self.token end self.trace result }
     {

@@ -4,10 +4,10 @@ use Rattle.pipe_model.specs.Language.Programs.{pipeline_of}
 use Rattle.stage_code.specs.FlatCode.{FlatCode}
 use Rattle.stage_interp.specs.Standing.{StandsFor}
 use Rattle.schedule_play.specs.RunningInstances.{IsUnderWay}
-use Rattle.schedule_play.proofs.held.Held.new.Goals as goal
+use Rattle.schedule_play.proofs.running_iteration.RunningIteration.new.Goals as goal
 
-pub returns-clause-held : goal.returns-clause-held
-returns-clause-held g c = λ tree replies at.
+pub returns-clause-instance : goal.returns-clause-instance
+returns-clause-instance g c = λ tree replies at.
     let code = g.B.PlayedCode.code in
     let cells = g.B.PlayedCode.cells in
     let input = c.args.input.now in

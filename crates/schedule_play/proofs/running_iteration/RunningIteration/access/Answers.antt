@@ -2,12 +2,12 @@ use Rattle.std.proofs.Common.{ℕ, subst, sym}
 use Rattle.pipe_frame.specs.Replies.{after_instances}
 use Rattle.pipe_model.specs.Language.Programs.{pipeline_of}
 use Rattle.stage_code.specs.FlatCode.{FlatCode}
-use Rattle.schedule_play.specs.HeldInstances.{IsHeld}
+use Rattle.schedule_play.specs.RunningIterations.{IsRunningIteration}
 use Rattle.schedule_play.specs.RunningInstances.{IsUnderWay}
-use Rattle.schedule_play.proofs.held.Held.access.Goals as goal
+use Rattle.schedule_play.proofs.running_iteration.RunningIteration.access.Goals as goal
 
-pub returns-clause-held : goal.returns-clause-held
-returns-clause-held g c = λ tree replies held.
+pub returns-clause-instance : goal.returns-clause-instance
+returns-clause-instance g c = λ tree replies instance.
     let code = g.B.PlayedCode.code in
     let cells = g.B.PlayedCode.cells in
     let served = c.args.cells.now.shard.cells in
@@ -16,7 +16,7 @@ returns-clause-held g c = λ tree replies held.
     let new = c.access.new.self in
     let run = c.access.new.machine.run in
     let t = after_instances ((pipeline_of tree input).behaviour old.token.iteration) replies in
-    let here = subst (IsHeld code cells tree input replies) (sym c.self.view_is) held in
+    let here = subst (IsRunningIteration code cells tree input replies) (sym c.self.view_is) instance in
     let before = subst (λ (x : FlatCode). IsUnderWay x served input t old.token.payload.machine.run old.running.trace.items old.running.next) (sym c.requires.code)
     (subst (λ (n : ℕ). IsUnderWay code n input t old.token.payload.machine.run old.running.trace.items old.running.next) (sym c.requires.cells) here.under_way) in
     let after = c.in_ok-access.ensures.goes_on t before in
