@@ -69,7 +69,7 @@ module _ (capacity : ℕ) (s : State ℕ View) (r : IsOrdered capacity s) where
     fits = fits;
     rises = rises;
     each = one_view (Knows now) s.views id v mine
-        (λ j d other at. record { told = (r.each j d at).told; role = others j d.log d.role other (r.each j d at).role });
+        (λ j d other at. record { learned = (r.each j d at).learned; role = others j d.log d.role other (r.each j d at).role });
   }
     where
       now : Contents

@@ -46,12 +46,12 @@ stored_rises new log labels kept agree =
 -- the writer rests again
 pub rests : (capacity words sequence : ℕ) (new : Links) (labels : List ℕ) (stage : Stage) (x : ℕ) (m m' m2 : SeatState)
     → words ≡ capacity + 2 → length labels ≡ capacity → m.1 ≡ []
-    → m' ≡ (view m.0.log m.0.told (Writing stage sequence labels), m.1)
+    → m' ≡ (view m.0.log m.0.learned (Writing stage sequence labels), m.1)
     → m2 ≡ (with_insertion x m'.0, m'.1) → IsKept new (m.0.log ++ x ∷ []) → AreLabelsOf labels new
     → length m.0.log + 1 < capacity
     → sequence % 2 ≡ 0 → sequence ≤ 2 * length m.0.log + 2 → IsResting capacity words sequence new m2
 rests capacity words sequence new labels stage x m m' m2 words_are wide empty e1 e2 kept agree below even few =
-    let e : m2 ≡ (view (m.0.log ++ x ∷ []) m.0.told (Writing Resting sequence labels), m.1) =
+    let e : m2 ≡ (view (m.0.log ++ x ∷ []) m.0.learned (Writing Resting sequence labels), m.1) =
     e2 ∙ ap (λ (n : SeatState). (with_insertion x n.0, n.1)) e1 in
     let log : m2.0.log ≡ m.0.log ++ x ∷ [] = ap (λ (n : SeatState). n.0.log) e in
     let long = ap (length {A = ℕ}) log ∙ length_push m.0.log x in

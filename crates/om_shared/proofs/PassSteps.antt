@@ -19,13 +19,13 @@ module _ (capacity : ℕ) where
       → Allows (IsOrdered capacity) slots id m 0 (λ n. n) (noted_sequence (step slots 0 0 0 none) m)
   notes_sequence slots id m at notes is s r _ have _ =
       let k = known capacity s r id m.0 (Asking at notes) is have in
-      let v : View = view m.0.log m.0.told (Asking (get_or s.words 0 0) []) in
+      let v : View = view m.0.log m.0.learned (Asking (get_or s.words 0 0) []) in
       let e = sequence_is capacity s r in (
         v,
         keeps,
         tt,
         unmoved capacity s r 0 id m.1 v
-            record { told = (r.each id m.0 have).told; role = (k.0, omega (arith, e), tt, λ _ _. tt) },
+            record { learned = (r.each id m.0 have).learned; role = (k.0, omega (arith, e), tt, λ _ _. tt) },
         refl,
       )
 
@@ -43,15 +43,15 @@ module _ (capacity : ℕ) where
       → Allows (IsOrdered capacity) slots id m (x + 2) (λ n. n) (noted_label (step slots (x + 2) 0 0 none) m)
   notes_label slots id m x l s r _ have _ =
       let label : ℕ = get_or s.words (x + 2) 0 in
-      let v : View = view m.0.log m.0.told (noting x label m.0.role) in
+      let v : View = view m.0.log m.0.learned (noting x label m.0.role) in
       let back : x ≡ (x + 2) - 2 = omega arith in
       let was = r.each id m.0 have in (
         v,
         keeps,
         tt,
         unmoved capacity s r (x + 2) id m.1 v
-            record { told = was.told; role = one_more_note s r id x label m.0.log m.0.role (label_is s r x) l was.role },
-        ap (λ (y : ℕ). (view m.0.log m.0.told (noting y label m.0.role), m.1)) back,
+            record { learned = was.learned; role = one_more_note s r id x label m.0.log m.0.role (label_is s r x) l was.role },
+        ap (λ (y : ℕ). (view m.0.log m.0.learned (noting y label m.0.role), m.1)) back,
       )
 
   -- two current labels give the order
@@ -97,13 +97,13 @@ module _ (capacity : ℕ) where
       → Allows (IsOrdered capacity) slots id m 0 (λ n. n) (saw_longer (step slots 0 0 0 none) m)
   sees_longer slots id m at notes is s r _ have _ =
       let k = known capacity s r id m.0 (Asking at notes) is have in
-      let both = longer_prefix r.now.log m.0.log m.0.told k.0 (r.each id m.0 have).told in
-      let v : View = view (longer m.0.log m.0.told) [] (Asking (get_or s.words 0 0) []) in
+      let both = longer_prefix r.now.log m.0.log m.0.learned k.0 (r.each id m.0 have).learned in
+      let v : View = view (longer m.0.log m.0.learned) [] (Asking (get_or s.words 0 0) []) in
       let e = sequence_is capacity s r in (
         v,
         keeps,
         tt,
-        unmoved capacity s r 0 id m.1 v record { told = (r.now.log, refl); role = (both.0, omega (arith, e), tt, λ _ _. tt) },
+        unmoved capacity s r 0 id m.1 v record { learned = (r.now.log, refl); role = (both.0, omega (arith, e), tt, λ _ _. tt) },
         (refl, both.1, both.2),
       )
 
@@ -111,19 +111,19 @@ module _ (capacity : ℕ) where
 
 -- the seat after one more label was noted
 pub one_noted : (m m1 m2 : SeatState) (x at label : ℕ) (notes : List (ℕ × ℕ))
-    → m1 ≡ (view m.0.log m.0.told (Asking at notes), m.1)
-    → m2 ≡ (view m1.0.log m1.0.told (noting ((x + 2) - 2) label m1.0.role), m1.1)
-    → m2 ≡ (view m.0.log m.0.told (Asking at ((x, label) ∷ notes)), m.1)
+    → m1 ≡ (view m.0.log m.0.learned (Asking at notes), m.1)
+    → m2 ≡ (view m1.0.log m1.0.learned (noting ((x + 2) - 2) label m1.0.role), m1.1)
+    → m2 ≡ (view m.0.log m.0.learned (Asking at ((x, label) ∷ notes)), m.1)
 one_noted m m1 m2 x at label notes e1 e2 =
     let back : (x + 2) - 2 ≡ x = omega arith in
-    e2 ∙ (ap (λ (n : SeatState). (view n.0.log n.0.told (noting ((x + 2) - 2) label n.0.role), n.1)) e1
-    ∙ ap (λ (k : ℕ). (view m.0.log m.0.told (Asking at ((k, label) ∷ notes)), m.1)) back)
+    e2 ∙ (ap (λ (n : SeatState). (view n.0.log n.0.learned (noting ((x + 2) - 2) label n.0.role), n.1)) e1
+    ∙ ap (λ (k : ℕ). (view m.0.log m.0.learned (Asking at ((k, label) ∷ notes)), m.1)) back)
 
 -- a pass with another log, or with other notes
-pub still_asks : (capacity words : ℕ) (m m' : SeatState) (log told : List ℕ) (at : ℕ) (notes : List (ℕ × ℕ))
-    → m' ≡ (view log told (Asking at notes), m.1) → length log < capacity → IsAsking capacity words m
+pub still_asks : (capacity words : ℕ) (m m' : SeatState) (log learned : List ℕ) (at : ℕ) (notes : List (ℕ × ℕ))
+    → m' ≡ (view log learned (Asking at notes), m.1) → length log < capacity → IsAsking capacity words m
     → IsAsking capacity words m'
-still_asks capacity words m m' log told at notes e small k =
+still_asks capacity words m m' log learned at notes e small k =
     subst (IsAsking capacity words) (sym e) (k.0, small, k.2, (at, notes, refl))
 
 -- a pass whose view stays

@@ -46,7 +46,7 @@ pub one_more_moved : (capacity words sequence : ℕ) (links : Links) (range : La
     (m m' : SeatState)
     → AreLabelled links → IsSparseRange links range → length links.label.items ≤ capacity → k < range.count
     → element ≡ slice_index (elements_of links range) k → label ≡ spread_label range k
-    → m' ≡ (view m.0.log m.0.told (labelling ((element + 2) - 2) label m.0.role), m.1)
+    → m' ≡ (view m.0.log m.0.learned (labelling ((element + 2) - 2) label m.0.role), m.1)
     → IsMoved Moving capacity words sequence links range k m
     → IsMoved Moving capacity words sequence links range (k + 1) m'
 one_more_moved capacity words sequence links range k element label m m' h s fits l at label_is is before =

@@ -10,7 +10,7 @@ use Rattle.om_shared.specs.declared.view.Role.{Role}
 use Rattle.om_shared.specs.declared.view.Role.TheVariants.{Writing, Asking, Spent}
 use Rattle.om_shared.specs.declared.view.Stage.{Stage}
 use Rattle.om_shared.specs.Rule.{IsOrdered, Knows, KnowsAs, pass_view, spent_view, view}
-use Rattle.om_shared.specs.Steps.{SeatState, checked_told}
+use Rattle.om_shared.specs.Steps.{SeatState, checked_learned}
 use Rattle.om_shared.proofs.KnownSeats.{known, one_view, unmoved, with_views}
 
 pub writing_lives : (o : Role) (stage : Stage) (sequence : ℕ) (labels : List ℕ) → o ≡ Writing stage sequence labels
@@ -31,7 +31,7 @@ module _ (capacity : ℕ) where
   -- a pass may see any prefix of the log
   pass_knows : (s : State ℕ View) (r : IsOrdered capacity s) (id : ℕ) (seen : List ℕ) → StartsWith r.now.log seen
       → Knows r.now id (pass_view seen)
-  pass_knows s r id seen prefix = record { told = (r.now.log, refl); role = (prefix, omega arith, tt, λ _ _. tt) }
+  pass_knows s r id seen prefix = record { learned = (r.now.log, refl); role = (prefix, omega arith, tt, λ _ _. tt) }
 
   -- a further pass, which has seen as much
   pub splits_pass : (id : ℕ) (v : View) → v.role ≢ Spent → Splits (IsOrdered capacity) id v v (pass_view v.log)
@@ -51,14 +51,14 @@ module _ (capacity : ℕ) where
       ⊎_elim (λ x. absurd (apart x.0)) (λ x. x.1) (at_set s.views id other both w there) in
       let left = mine s r (r.each id v at) (r.each other w was) in
       with_views capacity s r _ _ _ refl (one_view (Knows r.now) (set s.views id both) other spent_view
-      record { told = (r.now.log, refl); role = tt }
+      record { learned = (r.now.log, refl); role = tt }
       (λ j d _. one_view (Knows r.now) s.views id both left (λ i y _. r.each i y) j d))
 
   -- a seat learns what another had seen
-  pub tells : (id : ℕ) (v : View) (other : ℕ) (w : View) → w.role ≢ Spent
+  pub learns_log : (id : ℕ) (v : View) (other : ℕ) (w : View) → w.role ≢ Spent
       → Joins (IsOrdered capacity) id v other w (view v.log w.log v.role) spent_view
-  tells id v other w live = joins id v other w (view v.log w.log v.role)
-      (λ s r mine theirs. record { told = seen_prefix s r other w.log w.role live theirs.role; role = mine.role })
+  learns_log id v other w live = joins id v other w (view v.log w.log v.role)
+      (λ s r mine theirs. record { learned = seen_prefix s r other w.log w.role live theirs.role; role = mine.role })
 
   -- a pass takes all that another seat had seen
   pub takes_in : (id : ℕ) (v : View) (other : ℕ) (w : View) → w.role ≢ Spent
@@ -66,10 +66,10 @@ module _ (capacity : ℕ) where
   takes_in id v other w live = joins id v other w (pass_view w.log)
       (λ s r mine theirs. pass_knows s r id w.log (seen_prefix s r other w.log w.role live theirs.role))
 
-  -- what the writer was told is a prefix of its log
-  pub checks_told : (slots id : ℕ) (m : SeatState)
-      → Allows (IsOrdered capacity) slots id m 0 (λ n. n) (checked_told (step slots 0 0 0 none) m)
-  checks_told slots id m s r _ have _ = (
+  -- the log that the writer learned of is a prefix of its log
+  pub checks_learned : (slots id : ℕ) (m : SeatState)
+      → Allows (IsOrdered capacity) slots id m 0 (λ n. n) (checked_learned (step slots 0 0 0 none) m)
+  checks_learned slots id m s r _ have _ = (
     m.0,
     keeps,
     tt,
@@ -78,6 +78,6 @@ module _ (capacity : ℕ) where
       refl,
       λ st sq ls is.
           let k = known capacity s r id m.0 (Writing st sq ls) is have in
-          subst (λ (l : List ℕ). StartsWith l m.0.told) (sym k.1) (r.each id m.0 have).told,
+          subst (λ (l : List ℕ). StartsWith l m.0.learned) (sym k.1) (r.each id m.0 have).learned,
     ),
   )

@@ -49,7 +49,7 @@ module _ (capacity : ℕ) where
       let old : FitsStage from sequence (length r.now.log) =
       subst (λ (n : ℕ). FitsStage from n (length r.now.log)) (sym k.3) (fits_stage s r from k.2) in
       let same = k.3 in
-      let v : View = view m.0.log m.0.told (at_stage to (sequence + 1) m.0.role) in
+      let v : View = view m.0.log m.0.learned (at_stage to (sequence + 1) m.0.role) in
       let now : Contents =
       record { writer = r.now.writer; log = r.now.log; stage = to; sequence = sequence + 1; labels = r.now.labels } in
       let mine : KnowsAs now id m.0.log (at_stage to (sequence + 1) m.0.role) =
@@ -60,7 +60,7 @@ module _ (capacity : ℕ) where
         rewritten capacity s r 0 (sequence + 1) id m.1 v to (sequence + 1) r.now.labels
             (ap (λ (ws : List ℕ). set ws 0 (sequence + 1)) r.words) r.wide (fits (length r.now.log) old)
             (λ even. subst (λ (x : List ℕ × List ℕ). RiseAlong x.0 x.1) (λ i. (k.4 i, k.1 i)) (up even))
-            k.0 (omega (arith, same)) record { told = (r.each id m.0 have).told; role = mine }
+            k.0 (omega (arith, same)) record { learned = (r.each id m.0 have).learned; role = mine }
             (λ at seen ns le even here _ _ _. absurd (omega (arith, le, here, same))),
         refl,
       )
@@ -96,7 +96,7 @@ module _ (capacity : ℕ) where
       → MayStore capacity slots id m x label
   stores slots id m x label stage sequence labels is still s r _ have _ =
       let k = known capacity s r id m.0 (Writing stage sequence labels) is have in
-      let v : View = view m.0.log m.0.told (labelling x label m.0.role) in
+      let v : View = view m.0.log m.0.learned (labelling x label m.0.role) in
       let labels' : List ℕ = set r.now.labels x label in
       let now : Contents =
       record { writer = r.now.writer; log = r.now.log; stage = r.now.stage; sequence = r.now.sequence; labels = labels' } in
@@ -111,10 +111,10 @@ module _ (capacity : ℕ) where
         tt,
         rewritten capacity s r (x + 2) label id m.1 v r.now.stage r.now.sequence labels' (rw (two, r.words) refl)
             (length-set r.now.labels x label ∙ r.wide) r.fits h.0 k.0 (le_refl r.now.sequence)
-            record { told = (r.each id m.0 have).told; role = mine }
+            record { learned = (r.each id m.0 have).learned; role = mine }
             (λ at seen ns le even here prefix named old.
             h.1 seen ns (ap (λ (z : ℕ). z % 2) (sym here) ∙ even) prefix named (old here)),
-        ap (λ (y : ℕ). (view m.0.log m.0.told (labelling y label m.0.role), m.1)) back,
+        ap (λ (y : ℕ). (view m.0.log m.0.learned (labelling y label m.0.role), m.1)) back,
       )
 
   -- while labels move, no note counts
@@ -181,8 +181,8 @@ module _ (capacity : ℕ) where
       let log_is : m.0.log ++ x ∷ [] ≡ log' = ap (λ (l : List ℕ). l ++ x ∷ []) k.1 in
       let role : KnowsAs now id (m.0.log ++ x ∷ []) (rested m.0.role) =
       subst (λ (o : Role). KnowsAs now id (m.0.log ++ x ∷ []) (rested o)) (sym is) (k.0, log_is, refl, k.3, k.4) in
-      let told = prefix_pushed r.now.log m.0.told x (r.each id m.0 have).told in
-      let mine : Knows now id (with_insertion x m.0) = record { told = told; role = role } in (
+      let learned = prefix_pushed r.now.log m.0.learned x (r.each id m.0 have).learned in
+      let mine : Knows now id (with_insertion x m.0) = record { learned = learned; role = role } in (
         with_insertion x m.0,
         keeps,
         tt,
@@ -221,29 +221,29 @@ module _ (capacity : ℕ) where
           → j ≢ id
           → Knows r.now j d → Knows (with_entry r x) j d
       others s r x id own j d other k =
-          record { told = prefix_pushed r.now.log d.told x k.told; role = in_role s r x id own j d.log d.role other k.role }
+          record { learned = prefix_pushed r.now.log d.learned x k.learned; role = in_role s r x id own j d.log d.role other k.role }
 
 -- ---- the seat of the writer
 
 -- the seat after a label was stored
 pub after_storing : (m m' : SeatState) (stage : Stage) (e label sequence : ℕ) (labels : List ℕ)
-    → m' ≡ (view m.0.log m.0.told (labelling ((e + 2) - 2) label m.0.role), m.1)
+    → m' ≡ (view m.0.log m.0.learned (labelling ((e + 2) - 2) label m.0.role), m.1)
     → m.0.role ≡ Writing stage sequence labels
-    → m' ≡ (view m.0.log m.0.told (Writing stage sequence (set labels e label)), m.1)
+    → m' ≡ (view m.0.log m.0.learned (Writing stage sequence (set labels e label)), m.1)
 after_storing m m' stage e label sequence labels is role =
     let back : (e + 2) - 2 ≡ e = omega arith in
-    is ∙ (ap (λ (k : ℕ). (view m.0.log m.0.told (labelling k label m.0.role), m.1)) back
-    ∙ ap (λ (o : Role). (view m.0.log m.0.told (labelling e label o), m.1)) role)
+    is ∙ (ap (λ (k : ℕ). (view m.0.log m.0.learned (labelling k label m.0.role), m.1)) back
+    ∙ ap (λ (o : Role). (view m.0.log m.0.learned (labelling e label o), m.1)) role)
 
 -- the insertion may be published, by the seat after the label was stored
 pub publishes_after : (capacity slots id : ℕ) (m m' : SeatState) (x c sequence : ℕ) (labels : List ℕ) (stage : Stage)
-    → m' ≡ (view m.0.log m.0.told (Writing stage sequence labels), m.1) → c ≡ length m.0.log → sequence % 2 ≡ 0
+    → m' ≡ (view m.0.log m.0.learned (Writing stage sequence labels), m.1) → c ≡ length m.0.log → sequence % 2 ≡ 0
     → x ≤ c → c + 1 < capacity
     → RiseAlong labels (m.0.log ++ x ∷ [])
     → MayPublish capacity slots id m' x c
 publishes_after capacity slots id m m' x c sequence labels stage e count even lx small up =
     subst (λ (k : SeatState). MayPublish capacity slots id k x c) (sym e)
-    (publishes capacity slots id (view m.0.log m.0.told (Writing stage sequence labels), m.1) x c sequence labels stage refl
+    (publishes capacity slots id (view m.0.log m.0.learned (Writing stage sequence labels), m.1) x c sequence labels stage refl
     count even
     (omega (arith, lx, count)) (omega (arith, small, count)) up)
 

@@ -24,7 +24,7 @@ at_stage to sequence Spent = Spent
 
 -- labels begin to move, or have moved: the sequence number is the stored one
 abbrev pub turned_to : Stage → Step ℕ → SeatState → ℕ → SeatState → Type 0
-turned_to to step m found m' = m' ≡ (view m.0.log m.0.told (at_stage to step.first m.0.role), m.1)
+turned_to to step m found m' = m' ≡ (view m.0.log m.0.learned (at_stage to step.first m.0.role), m.1)
 
 abbrev pub labelling : ℕ → ℕ → Role → Role
 labelling x label (Writing stage sequence labels) = Writing stage sequence (slice_set labels x label)
@@ -33,7 +33,7 @@ labelling x label Spent = Spent
 
 -- an element has another label
 abbrev pub stored : Step ℕ → SeatState → ℕ → SeatState → Type 0
-stored step m found m' = m' ≡ (view m.0.log m.0.told (labelling (step.word - 2) step.first m.0.role), m.1)
+stored step m found m' = m' ≡ (view m.0.log m.0.learned (labelling (step.word - 2) step.first m.0.role), m.1)
 
 abbrev pub rested : Role → Role
 rested (Writing stage sequence labels) = Writing Resting sequence labels
@@ -42,23 +42,23 @@ rested Spent = Spent
 
 -- one more insertion is in the log
 abbrev pub with_insertion : ℕ → View → View
-with_insertion x v = view (v.log ++ x ∷ []) v.told (rested v.role)
+with_insertion x v = view (v.log ++ x ∷ []) v.learned (rested v.role)
 
 -- an element was inserted after the one that the step announces
 abbrev pub published : Step ℕ → SeatState → ℕ → SeatState → Type 0
 published step m found m' = (x : ℕ) → step.said ≡ some x → m' ≡ (with_insertion x m.0, m.1)
 
--- what the writer was told is a prefix of its log
-abbrev pub checked_told : Step ℕ → SeatState → ℕ → SeatState → Type 0
-checked_told step m found m' = (m' ≡ m)
+-- the log that the writer learned of is a prefix of its own
+abbrev pub checked_learned : Step ℕ → SeatState → ℕ → SeatState → Type 0
+checked_learned step m found m' = (m' ≡ m)
     × ((stage : Stage) (sequence : ℕ) (labels : List ℕ) → m.0.role ≡ Writing stage sequence labels
-    → StartsWith m.0.log m.0.told)
+    → StartsWith m.0.log m.0.learned)
 
 -- ---- steps of a pass
 
 -- the pass has noted the sequence number, and no label since
 abbrev pub noted_sequence : Step ℕ → SeatState → ℕ → SeatState → Type 0
-noted_sequence step m found m' = m' ≡ (view m.0.log m.0.told (Asking found []), m.1)
+noted_sequence step m found m' = m' ≡ (view m.0.log m.0.learned (Asking found []), m.1)
 
 abbrev pub noting : ℕ → ℕ → Role → Role
 noting x label (Asking at notes) = Asking at ((x, label) ∷ notes)
@@ -67,7 +67,7 @@ noting x label Spent = Spent
 
 -- the pass has noted the label of one more element
 abbrev pub noted_label : Step ℕ → SeatState → ℕ → SeatState → Type 0
-noted_label step m found m' = m' ≡ (view m.0.log m.0.told (noting (step.word - 2) found m.0.role), m.1)
+noted_label step m found m' = m' ≡ (view m.0.log m.0.learned (noting (step.word - 2) found m.0.role), m.1)
 
 -- if the sequence number is even and still the noted one, two noted labels are in the order of their elements in the list
 -- of the seen log
@@ -79,7 +79,7 @@ checked_sequence step m found m' = (m' ≡ m)
 abbrev pub longer : List ℕ → List ℕ → List ℕ
 longer a b = if nat_le (length a) (length b) then b else a
 
--- of the seen log and the told one, which are prefixes of one list, the pass sees the longer from now on
+-- of the log that the pass has seen and the one that it learned of, which are prefixes of one list, the pass sees the longer from now on
 abbrev pub saw_longer : Step ℕ → SeatState → ℕ → SeatState → Type 0
-saw_longer step m found m' = (m' ≡ (view (longer m.0.log m.0.told) [] (Asking found []), m.1))
-    × StartsWith (longer m.0.log m.0.told) m.0.log × StartsWith (longer m.0.log m.0.told) m.0.told
+saw_longer step m found m' = (m' ≡ (view (longer m.0.log m.0.learned) [] (Asking found []), m.1))
+    × StartsWith (longer m.0.log m.0.learned) m.0.log × StartsWith (longer m.0.log m.0.learned) m.0.learned

@@ -35,22 +35,22 @@ first_after n (mark ∷ a) b h =
     none.skips (first_fault (n + 1) (a ++ b)) ∙ first_after (n + 1) a b none.follows ∙ ap (λ k. first_fault k b) (omega arith)
 
 -- an error that reports the fault of x reports that of y, if y has the same fault
-pub tells_more : (refusal : CheckFault) (x y : Option Fault) → ((fault : Fault) → x ≡ Some fault → y ≡ Some fault) → IsFirstFaultOf refusal x
+pub reports_same_fault : (refusal : CheckFault) (x y : Option Fault) → ((fault : Fault) → x ≡ Some fault → y ≡ Some fault) → IsFirstFaultOf refusal x
     → IsFirstFaultOf refusal y
-tells_more (faults.Unknown n) x y f h = f _ h
-tells_more (faults.Twice n) x y f h = f _ h
-tells_more (faults.LimitOut n) x y f h = f _ h
-tells_more (faults.PipeOutside n) x y f h = f _ h
-tells_more (faults.TooManyCells n) x y f h = f _ h
-tells_more (faults.TooManyLocals n) x y f h = f _ h
-tells_more (faults.NotAnArray n) x y f h = f _ h
-tells_more (faults.NeedsIndex n) x y f h = f _ h
-tells_more (faults.ZeroSize n) x y f h = f _ h
-tells_more faults.NoMemory x y f h = tt
+reports_same_fault (faults.Unknown n) x y f h = f _ h
+reports_same_fault (faults.Twice n) x y f h = f _ h
+reports_same_fault (faults.LimitOut n) x y f h = f _ h
+reports_same_fault (faults.PipeOutside n) x y f h = f _ h
+reports_same_fault (faults.TooManyCells n) x y f h = f _ h
+reports_same_fault (faults.TooManyLocals n) x y f h = f _ h
+reports_same_fault (faults.NotAnArray n) x y f h = f _ h
+reports_same_fault (faults.NeedsIndex n) x y f h = f _ h
+reports_same_fault (faults.ZeroSize n) x y f h = f _ h
+reports_same_fault faults.NoMemory x y f h = tt
 
 -- an error stays the same, whatever follows
 pub fails_first : (refusal : CheckFault) (n : ℕ) (a b : List Mark) → PassesMarks (Err refusal) n a → PassesMarks (Err refusal) n (a ++ b)
-fails_first refusal n a b h = tells_more refusal (first_fault n a) (first_fault n (a ++ b)) (first_stays n a b) h
+fails_first refusal n a b h = reports_same_fault refusal (first_fault n a) (first_fault n (a ++ b)) (first_stays n a b) h
 
 -- marks without a fault pass, and then what follows decides
 pub passes_then : (answer : Result ℕ CheckFault) (n k : ℕ) (a b : List Mark) → PassesMarks (Ok k) n a → PassesMarks answer k b → PassesMarks answer n (a ++ b)
@@ -59,7 +59,7 @@ passes_then (Ok end) n k a b p q =
     (following ∙ q.0, omega (arith, p.1, q.1, length-append a b))
 passes_then (Err refusal) n k a b p q =
     let following : first_fault n (a ++ b) ≡ first_fault k b = first_after n a b p.0 ∙ ap (λ j. first_fault j b) (sym p.1) in
-    tells_more refusal (first_fault k b) (first_fault n (a ++ b)) (λ fault h. following ∙ h) q
+    reports_same_fault refusal (first_fault k b) (first_fault n (a ++ b)) (λ fault h. following ∙ h) q
 
 -- the numbers of the first marks fit, and those of what follows them
 pub fits_first : (n : ℕ) (a b : List Mark) → Fits n (a ++ b) → Fits n a

@@ -387,9 +387,9 @@ module _ (M : Type 0) (start : HallStart) where
     abbrev shard_sat : ViewAndSlots M
     shard_sat = (v, (place (suc k), slots.Shard y) ∷ [])
 
-    told_shard : returns_shard {M = M} (step n (place (suc k)) 0 0 none) shard_sat 0 (view_of (after_shard v.it x y), [])
+    shard_returned : returns_shard {M = M} (step n (place (suc k)) 0 0 none) shard_sat 0 (view_of (after_shard v.it x y), [])
     unfolding held_shard_in shard_in
-    told_shard j a b e f =
+    shard_returned j a b e f =
         let p : x ≡ a = ap (held_shard_in x) (sym held ∙ e) in
         let q : y ≡ b = ap (shard_in y) f in
         ap (λ (z : ShardValue). (view_of (after_shard v.it z y), [])) p ∙ ap (λ (z : ShardValue). (view_of (after_shard v.it a z), [])) q
@@ -412,7 +412,7 @@ module _ (M : Type 0) (start : HallStart) where
               let g = subst (λ (z : ShardValue). MadeBy t.0 k z y) p.1 t.2 in
               subst (λ (z : ShardValue). Rule (shard_state s id k (view_of (after_shard v.it z y)) y)) (sym p.1) (made_state s h id k v t.0 y at held' t.1 p.0 g)))
               how,
-          told_shard,
+          shard_returned,
         )
       where
         still : (o : Option InstanceData) → y.log ≡ x.log → o ≡ after_log o x.log y.log

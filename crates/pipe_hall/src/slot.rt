@@ -15,7 +15,7 @@ pub enum Slot<M: Carrier> {
     Book(Kept<Book<M, OmWriter>>),
     /// A shard.
     Shard(Kept<Shard>),
-    /// No slot holds this: with it a step tells which token was given out.
+    /// No slot holds this: a step records in it which token was given out.
     Token(Witness<FrameToken<M>>),
     /// The value is out, or the slot is one of those that nobody uses.
     Out,

@@ -6,7 +6,7 @@ use Rattle.om_shared.specs.Steps.{SeatState}
 use Rattle.om_shared.proofs.PassSteps.{checks_sequence, notes_label, notes_sequence, one_noted, still_asks}
 use Rattle.om_shared.proofs.question.compare_labels.Goals as goal
 
-same_length : (m n : SeatState) (at : ℕ) (notes : List (ℕ × ℕ)) → n ≡ (view m.0.log m.0.told (Asking at notes), m.1)
+same_length : (m n : SeatState) (at : ℕ) (notes : List (ℕ × ℕ)) → n ≡ (view m.0.log m.0.learned (Asking at notes), m.1)
     → length n.0.log ≡ length m.0.log
 same_length m n at notes e = ap (λ (k : SeatState). length k.0.log) e
 
