@@ -8,7 +8,7 @@ use Rattle.pipe_model.specs.Language.SyntaxTree.{SyntaxTree}
 use Rattle.wave_laws.specs.Waves.MarkFlags.{first_true, flags_of_statements}
 use Rattle.wave_laws.specs.Waves.WaveFaults.{BadTest, HasStage, NoRow, RowSet, WaveRefusal, begins_with_row, first_row_set, first_stage}
 use Rattle.wave_laws.specs.Waves.WaveFaults.{is_number, is_stage_word, marks_before_body, row_fault, stage_fault_or, wave_fault}
-use Rattle.wave_lower.proofs.Marks.{block_flags, same_length, stage_of}
+use Rattle.wave_lower.proofs.ProgramFlags.{block_flags, same_length, stage_of}
 
 -- the number of the first flag that is true is within the list
 first_within : (n m : ℕ) (flags : List Bool) → first_true n flags ≡ Some m → m < n + length flags
