@@ -27,21 +27,21 @@ one_earlier e f l h g = elim (cases_lt e f) [
 ]
 
 -- the report is that of the first race of this cell
-record TellsOf (columns : List (List Node)) (accesses : List NodeAccess) (cell : ℕ) (r : Report) : Type 0 where
+record IsFirstRaceReport (columns : List (List Node)) (accesses : List NodeAccess) (cell : ℕ) (r : Report) : Type 0 where
   earlier : ℕ
   later : ℕ
   first : IsFirstRacingPair columns (accesses_to cell accesses) earlier later
   known : r ≡ report_of columns cell (access_at (accesses_to cell accesses) earlier) (access_at (accesses_to cell accesses) later)
 
 -- a report of a first race is that of its own cell
-tells_of : (columns : List (List Node)) (accesses : List NodeAccess) (cell : ℕ) (r : Report) → r.cell.0 ≡ cell → ReportsFirstRaceOfCell columns accesses r
-    → TellsOf columns accesses cell r
-tells_of columns accesses cell r e h =
-    subst (λ c. TellsOf columns accesses c r) e (record { earlier = h.earlier; later = h.later; first = h.first; known = h.told })
+first_race_report : (columns : List (List Node)) (accesses : List NodeAccess) (cell : ℕ) (r : Report) → r.cell.0 ≡ cell → ReportsFirstRaceOfCell columns accesses r
+    → IsFirstRaceReport columns accesses cell r
+first_race_report columns accesses cell r e h =
+    subst (λ c. IsFirstRaceReport columns accesses c r) e (record { earlier = h.earlier; later = h.later; first = h.first; known = h.told })
 
 -- a cell has at most one report of its first race
-one_report : (columns : List (List Node)) (accesses : List NodeAccess) (cell : ℕ) (r s : Report) → TellsOf columns accesses cell r
-    → TellsOf columns accesses cell s → r ≡ s
+one_report : (columns : List (List Node)) (accesses : List NodeAccess) (cell : ℕ) (r s : Report) → IsFirstRaceReport columns accesses cell r
+    → IsFirstRaceReport columns accesses cell s → r ≡ s
 one_report columns accesses cell r s h g =
     let l : h.later ≡ g.later = one_later h.earlier h.later g.earlier g.later h.first g.first in
     let e : h.earlier ≡ g.earlier = one_earlier h.earlier g.earlier g.later
@@ -105,8 +105,8 @@ among_both : (columns : List (List Node)) (accesses : List NodeAccess) (xs ys : 
 among_both columns accesses xs ys h g r m =
     let t = h.each r m in
     let s = g.all r.cell.0 t.later t.earlier t.first.race in
-    subst (λ z. Among z ys) (sym (one_report columns accesses r.cell.0 r s.0 (tells_of columns accesses r.cell.0 r refl t)
-    (tells_of columns accesses r.cell.0 s.0 s.2 (g.each s.0 s.1)))) s.1
+    subst (λ z. Among z ys) (sym (one_report columns accesses r.cell.0 r s.0 (first_race_report columns accesses r.cell.0 r refl t)
+    (first_race_report columns accesses r.cell.0 s.0 s.2 (g.each s.0 s.1)))) s.1
 
 -- two lists of the first races of all cells are equal
 pub one_first_races : (columns : List (List Node)) (accesses : List NodeAccess) (xs ys : List Report) → AreFirstRaces columns accesses xs

@@ -35,8 +35,8 @@ run_status_is_no_fault (inr (inl b)) (inr d) = absurd (omega (arith, b, d))
 run_status_is_no_fault (inr (inr c)) (inl d) = absurd (omega (arith, c, d))
 run_status_is_no_fault (inr (inr c)) (inr d) = absurd (omega (arith, c, d))
 
--- what follows from the status of a result
-record TellsStatus (asked : Option Command) (before now status : ℕ) (log : Option RunLog) : Type 0 where
+-- a result may have this status: what follows from it of faults and of the log
+record IsPossibleStatus (asked : Option Command) (before now status : ℕ) (log : Option RunLog) : Type 0 where
   small : status ≤ 4
   fault : status ≡ 4 → CountRose before now
   logged : IsLogged asked status log
@@ -46,15 +46,15 @@ no_log : (asked : Option Command) (status : ℕ) → (KeepsLog asked × (status 
 no_log asked status never = ((λ some. let d : false ≡ true = some in cc (d)), λ logs. absurd (never logs))
 
 -- a refusal
-refusal : {asked : Option Command} {before now : ℕ} → TellsStatus asked before now 1 None
+refusal : {asked : Option Command} {before now : ℕ} → IsPossibleStatus asked before now 1 None
 refusal = record { small = omega arith; fault = λ e. absurd (omega (arith, e)); logged = no_log _ _ (λ logs. logs.1 refl) }
 
 -- a read that failed
-read_fault : {asked : Option Command} {before now : ℕ} → CountRose before now → TellsStatus asked before now 4 None
+read_fault : {asked : Option Command} {before now : ℕ} → CountRose before now → IsPossibleStatus asked before now 4 None
 read_fault rose = record { small = omega arith; fault = λ e. rose; logged = no_log _ _ (λ logs. logs.2 refl) }
 
 -- a command that keeps no log
-without_log : {asked : Option Command} {before now status : ℕ} → (KeepsLog asked → ⊥) → IsRunStatus status → TellsStatus asked before now status None
+without_log : {asked : Option Command} {before now status : ℕ} → (KeepsLog asked → ⊥) → IsRunStatus status → IsPossibleStatus asked before now status None
 without_log silent is = record {
   small = run_status_is_small is;
   fault = λ four. absurd (run_status_is_no_fault is (inr four));
@@ -63,7 +63,7 @@ without_log silent is = record {
 
 -- a run
 with_run : {asked : Option Command} {before now status : ℕ} (log : RunLog) → KeepsLog asked → IsRunStatus status
-    → TellsStatus asked before now status (Some log)
+    → IsPossibleStatus asked before now status (Some log)
 with_run log keeps is = record {
   small = run_status_is_small is;
   fault = λ four. absurd (run_status_is_no_fault is (inr four));
@@ -73,7 +73,7 @@ with_run log keeps is = record {
 -- a record that is checked
 checked_status : {asked : Option Command} {before now : ℕ} {tree : SyntaxTree} {numbers : List ℤ} {throttle : ℕ} {name : List ℕ} {file : Option (List ℕ)}
     {status : ℕ} {text : List ℕ} {log : Option RunLog} {reports : List Report} → KeepsLog asked
-    → RecordResult tree numbers throttle name file status text log reports → TellsStatus asked before now status log
+    → RecordResult tree numbers throttle name file status text log reports → IsPossibleStatus asked before now status log
 checked_status keeps (NoRecord r) = refusal
 checked_status keeps (NoRun events k h r) = refusal
 checked_status keeps (RunOf events kind log reports h r) = with_run log keeps (reports_status reports)
@@ -84,7 +84,7 @@ checked_status keeps (RunOf events kind log reports h r) = with_run log keeps (r
 
 -- the status of a row
 row_status : {before now : ℕ} {asked : Option Command} {held : FileContents} {status : ℕ} {text : List ℕ} {log : Option RunLog} {reports : List Report}
-    → ResultRow asked held status text log reports → TellsStatus asked before now status log
+    → ResultRow asked held status text log reports → IsPossibleStatus asked before now status log
 row_status (NoCommand n) = refusal
 row_status (SourceRefused s w r) = refusal
 row_status (Formats s tree w o) = without_log (format_keeps_no_log w) (inl refl)
@@ -97,32 +97,32 @@ row_status (ChecksRecord s i r k tree numbers w a outcome) = checked_status (rw 
 row_status (Weighs s i tree numbers w a r) = without_log (λ keeps. let d : false ≡ true = rw w at keeps in cc (d)) (inl refl)
 
 -- the status of a result
-tells_status : {asked : Option Command} {holds : Option Content} {before now status : ℕ} {text : List ℕ} {log : Option RunLog} {reports : List Report}
-    → IsCallResult asked holds before now status text log reports → TellsStatus asked before now status log
-tells_status (OfRow same row) = row_status row.row
-tells_status (SourceFault s grew rose w) = read_fault rose
-tells_status (InputFault s i file tree grew rose w v known of can) = read_fault rose
-tells_status (RecordFault s i r file others tree ns grew rose w v u known also of read) = read_fault rose
+possible_status : {asked : Option Command} {holds : Option Content} {before now status : ℕ} {text : List ℕ} {log : Option RunLog} {reports : List Report}
+    → IsCallResult asked holds before now status text log reports → IsPossibleStatus asked before now status log
+possible_status (OfRow same row) = row_status row.row
+possible_status (SourceFault s grew rose w) = read_fault rose
+possible_status (InputFault s i file tree grew rose w v known of can) = read_fault rose
+possible_status (RecordFault s i r file others tree ns grew rose w v u known also of read) = read_fault rose
 
 -- no result has the status of a write that failed
 pub no_write_fault : {asked : Option Command} {holds : Option Content} {before now status : ℕ} {text : List ℕ} {log : Option RunLog} {reports : List Report}
     → IsCallResult asked holds before now status text log reports → status ≡ 5 → ⊥
-no_write_fault outcome five = let t = tells_status outcome in let small = t.small in absurd (omega (arith, small, five))
+no_write_fault outcome five = let t = possible_status outcome in let small = t.small in absurd (omega (arith, small, five))
 
 -- the status is at most 4
 pub result_is_small : {asked : Option Command} {holds : Option Content} {before now status : ℕ} {text : List ℕ} {log : Option RunLog} {reports : List Report}
     → IsCallResult asked holds before now status text log reports → status ≤ 4
-result_is_small outcome = let t = tells_status outcome in t.small
+result_is_small outcome = let t = possible_status outcome in t.small
 
 -- the status 4 has its cause
 pub result_has_cause : {asked : Option Command} {holds : Option Content} {before now status : ℕ} {text : List ℕ} {log : Option RunLog} {reports : List Report}
     → IsCallResult asked holds before now status text log reports → status ≡ 4 → CountRose before now
-result_has_cause outcome four = let t = tells_status outcome in t.fault four
+result_has_cause outcome four = let t = possible_status outcome in t.fault four
 
 -- there is a run log exactly if the command keeps one, the call was not refused, and no read failed
 pub result_is_logged : {asked : Option Command} {holds : Option Content} {before now status : ℕ} {text : List ℕ} {log : Option RunLog} {reports : List Report}
     → IsCallResult asked holds before now status text log reports → (is_some log ≡ true) ↔ (KeepsLog asked × (status ≢ 1) × (status ≢ 4))
-result_is_logged outcome = let t = tells_status outcome in t.logged
+result_is_logged outcome = let t = possible_status outcome in t.logged
 
 -- no count of faults falls
 pub counts_do_not_fall : (fault : Bool) {before now : ℕ} → CountsFault fault before now → before ≤ now

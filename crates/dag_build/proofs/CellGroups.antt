@@ -235,13 +235,13 @@ still_reported reports r cell h = (h.0, among_left h.0 reports (r ∷ []) h.1, h
 pub progress_with : (columns : List (List Node)) (xs rest : List NodeAccess) (reports : List Report) (c m : ℕ) (r : Report)
     → IsProgress columns xs rest reports → IsGroup rest c m → ReportsFirstRace columns (noted_all (take m rest)) r
     → r.cell.0 ≡ c → IsProgress columns xs (drop m rest) (reports ++ r ∷ [])
-progress_with columns xs rest reports c m r h g told e = record {
+progress_with columns xs rest reports c m r h g first e = record {
   left = left_after columns xs rest reports c m h g;
   sorted = IsNonDecreasingBy-drop cell_of m rest h.sorted;
   each = λ x among. elim (among_either x reports (r ∷ []) among) [
     | inl old ↦ h.each x old
     | inr new ↦ subst (ReportsFirstRaceOfCell columns xs) (sym (only_one x r new))
-        (subst (λ l. ReportsFirstRace columns l r) (sym (ap (λ i. accesses_to i xs) e ∙ of_group columns xs rest reports c m h g)) told)
+        (subst (λ l. ReportsFirstRace columns l r) (sym (ap (λ i. accesses_to i xs) e ∙ of_group columns xs rest reports c m h g)) first)
   ];
   below = λ x among. elim (among_either x reports (r ∷ []) among) [
     | inl old ↦ All-drop (λ a. x.cell.0 < cell_of a) m rest (h.below x old)

@@ -25,7 +25,7 @@ record HasAccesses (columns : List (List Node)) (accesses : List NodeAccess) (r 
   parallel : AreParallel columns earlier.node later.node
   earlier_cell : earlier.access.cell.0 ≡ r.cell.0
   later_cell : later.access.cell.0 ≡ r.cell.0
-  told : r ≡ report_of columns r.cell.0 (noted_of earlier) (noted_of later)
+  report_is : r ≡ report_of columns r.cell.0 (noted_of earlier) (noted_of later)
 
 -- a report of a first race has such accesses
 has_accesses : (columns : List (List Node)) (accesses : List NodeAccess) (r : Report)
@@ -48,7 +48,7 @@ has_accesses columns accesses r h =
           (subst (λ (y : NotedAccess). AreParallel columns (access_at noted h.earlier).who y.who) two.later_is race.parallel);
       earlier_cell = two.earlier_cell;
       later_cell = two.later_cell;
-      told = h.told ∙ (λ i. report_of columns r.cell.0 (two.earlier_is i) (two.later_is i));
+      report_is = h.told ∙ (λ i. report_of columns r.cell.0 (two.earlier_is i) (two.later_is i));
     }
 
 -- each report names a race of the list
@@ -66,9 +66,9 @@ report_names_race columns accesses r first =
       conflict = record { same = ap cell_id (a.earlier_cell ∙ sym a.later_cell); one = a.conflict };
       parallel = a.parallel;
       cell = ap cell_id (sym a.earlier_cell);
-      nodes = (ap (λ (x : Report). x.earlier) a.told, ap (λ (x : Report). x.later) a.told);
-      kinds = (ap (λ (x : Report). x.earlier_kind) a.told, ap (λ (x : Report). x.later_kind) a.told);
-      numbers = (ap (λ (x : Report). x.earlier_number) a.told, ap (λ (x : Report). x.later_number) a.told);
+      nodes = (ap (λ (x : Report). x.earlier) a.report_is, ap (λ (x : Report). x.later) a.report_is);
+      kinds = (ap (λ (x : Report). x.earlier_kind) a.report_is, ap (λ (x : Report). x.later_kind) a.report_is);
+      numbers = (ap (λ (x : Report). x.earlier_number) a.report_is, ap (λ (x : Report). x.later_number) a.report_is);
     }
 
 -- the accesses that a report names race

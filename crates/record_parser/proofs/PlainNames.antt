@@ -1,4 +1,4 @@
--- Names by which cells can be told apart.
+-- Names that distinguish the cells of a program.
 use Rattle.std.proofs.Common.{◌≡◌, ℕ, List}
 use Rattle.pipe_model.specs.declared.tree.Declaration.{Declaration}
 use Rattle.race_report.specs.CellNames.{cell_name}

@@ -36,7 +36,7 @@ use Rattle.schedule_play.specs.declared.loop_play.LoopPlay.{LoopPlay}
 use Rattle.schedule_play.specs.declared.loop_play.PlayLimits.{PlayLimits}
 use Rattle.schedule_play.specs.declared.program_play.Played.{Played}
 use Rattle.schedule_play.specs.LoopPlays.{IsLoopPlay}
-use Rattle.schedule_play.specs.ProgramPlays.{HasElisionResults, IsEndOfLoop, IsPlayed, MeetsPlayedHeadline, enough_turns}
+use Rattle.schedule_play.specs.ProgramPlays.{HasElisionResults, IsEndOfLoop, IsPlayed, MeetsPlayGuarantees, enough_turns}
 use Rattle.schedule_play.proofs.PlayedRuns.{reports_right}
 
 -- ---- `init` trapped
@@ -222,7 +222,7 @@ bounded tree input limits choices r accepted throttle workers h = by (is_some (i
         }
 
 pub plays_meet_the_headline : (tree : SyntaxTree) (input : List ℤ) (limits : PlayLimits) (choices : List ℕ) (r : Played)
-    → BreaksNoRule tree → 0 < limits.throttle → 0 < limits.workers → IsPlayed tree input limits choices r → MeetsPlayedHeadline tree input limits r
+    → BreaksNoRule tree → 0 < limits.throttle → 0 < limits.workers → IsPlayed tree input limits choices r → MeetsPlayGuarantees tree input limits r
 plays_meet_the_headline tree input limits choices r accepted throttle workers h = record {
   elision = agrees tree input limits choices r accepted h;
   enough = finishes tree input limits choices r accepted throttle workers h;

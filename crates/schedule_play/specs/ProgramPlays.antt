@@ -64,7 +64,7 @@ abbrev pub enough_turns : SyntaxTree → ℕ
 enough_turns tree = most_instances tree * (2 * natural tree.limits.steps + 2)
 
 -- what holds of the play of an accepted program
-pub record MeetsPlayedHeadline (tree : SyntaxTree) (input : List ℤ) (limits : PlayLimits) (r : Played) : Type 0 where
+pub record MeetsPlayGuarantees (tree : SyntaxTree) (input : List ℤ) (limits : PlayLimits) (r : Played) : Type 0 where
   pub elision : IsTrue r.finished → HasElisionResults (whole_of tree input) r
   pub enough : enough_turns tree ≤ limits.turns → IsTrue r.finished
   pub goes_on : (before after : List Event) → r.run_log.events ≡ before ++ after → (ProgramIsFinished (whole_of tree input) (state_after before) → ⊥)

@@ -20,7 +20,7 @@ ghost use Rattle.pipe_model.specs.Runs.WholeProgramRuns.{ProgramIsFinished, Prog
 ghost use Rattle.program_ends.specs.ProgramEnds.{reaches_final};
 ghost use Rattle.program_laws.specs.WorkBounds.{most_instances};
 ghost use Rattle.race_detection.specs.FoundReports.{found_reports};
-ghost use Rattle.schedule_play.specs.ProgramPlays.{HasElisionResults, IsEndOfLoop, IsPlayed, MeetsPlayedHeadline, enough_turns, played_events};
+ghost use Rattle.schedule_play.specs.ProgramPlays.{HasElisionResults, IsEndOfLoop, IsPlayed, MeetsPlayGuarantees, enough_turns, played_events};
 ghost use Rattle.serial_elision.specs.PartRuns.{Serves};
 ghost use Rattle.stage_code.specs.LimitRanges.{HasRangesOfLimits};
 ghost use Rattle.stage_interp.specs.MachineState.{IsMadeFor};
@@ -143,7 +143,7 @@ fn play_prepared(
     requires workers { 0 < limits.workers }
     requires throttle { 0 < limits.throttle }
     ensures played { IfOk result (IsPlayed (tree_of prepared.now.checked.now) prepared.now.input.now limits choices.now) }
-    ensures meets { IfOk result (MeetsPlayedHeadline (tree_of prepared.now.checked.now) prepared.now.input.now limits) }
+    ensures meets { IfOk result (MeetsPlayGuarantees (tree_of prepared.now.checked.now) prepared.now.input.now limits) }
 {
     let cells = first_cells(alloc, prepared.checked)?;
     let init = run_alone(alloc, machine, prepared, Part::Init, TrapPlace::Init, cells)?;

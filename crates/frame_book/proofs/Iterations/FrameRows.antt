@@ -163,5 +163,5 @@ pub none_ended : {M : Type 0} → (going : Bool) (fs : List Frame) (rs : List (I
 none_ended going fs rs h e j f l c = let n = rows_length going fs rs h in absurd (omega (arith, n, e, l))
 
 -- a test of a row as a fact of its frame
-pub free_answer : (P : Type 0) (t : Bool) (w w' : Status) (l l' : Option Counter) → (IsTrue t ↔ IsFreeRow w l) → w ≡ w' → l ≡ l' → (IsFreeRow w' l' ↔ P) → IsTrue t ↔ P
-free_answer P t w w' l l' a e f b = ((λ x. b.0 (subst (λ v. IsFreeRow v l') e (subst (IsFreeRow w) f (a.0 x)))), (λ x. a.1 (subst (IsFreeRow w) (sym f) (subst (λ v. IsFreeRow v l') (sym e) (b.1 x)))))
+pub free_test : (P : Type 0) (t : Bool) (w w' : Status) (l l' : Option Counter) → (IsTrue t ↔ IsFreeRow w l) → w ≡ w' → l ≡ l' → (IsFreeRow w' l' ↔ P) → IsTrue t ↔ P
+free_test P t w w' l l' a e f b = ((λ x. b.0 (subst (λ v. IsFreeRow v l') e (subst (IsFreeRow w) f (a.0 x)))), (λ x. a.1 (subst (IsFreeRow w) (sym f) (subst (λ v. IsFreeRow v l') (sym e) (b.1 x)))))

@@ -17,8 +17,8 @@ check-requires c =
 
 pub returns-clause-obeys : goal.returns-clause-obeys
 returns-clause-obeys c =
-    let told = c.in-Ok-check.ensures in
-    subst (λ (p : Program). BreaksNoRule (tree_of p)) (sym told.program) (record { obeys = told.ok })
+    let ensured = c.in-Ok-check.ensures in
+    subst (λ (p : Program). BreaksNoRule (tree_of p)) (sym ensured.program) (record { obeys = ensured.ok })
 
 pub returns-clause-small : goal.returns-clause-small
 returns-clause-small c =

@@ -11,5 +11,5 @@ check-requires c =
 
 pub returns : goal.returns
 returns c =
-    let told = c.in-Ok-check.ensures in
-    subst (λ (p : Program). BreaksNoRule (tree_of p)) (sym told.program) (record { obeys = told.ok })
+    let ensured = c.in-Ok-check.ensures in
+    subst (λ (p : Program). BreaksNoRule (tree_of p)) (sym ensured.program) (record { obeys = ensured.ok })

@@ -10,11 +10,11 @@ pub returns : goal.returns
 returns g c =
     let v = c.play_turns.new.player in
     let limits = c.args.limits in
-    let told = c.in_ok-play_turns.ensures in
+    let ensured = c.in_ok-play_turns.ensures in
     let first = c.in_ok-player.ensures in
-    let same = ap₂ (λ (q : Program) i. pipeline_after_init (tree_of q) i) told.keeps.program told.keeps.input in
-    let events = told.events ∙ sym (ap₂ (λ q l. played q l limits.workers c.args.choices.now limits.turns) same told.keeps.limit) in
+    let same = ap₂ (λ (q : Program) i. pipeline_after_init (tree_of q) i) ensured.keeps.program ensured.keeps.input in
+    let events = ensured.events ∙ sym (ap₂ (λ q l. played q l limits.workers c.args.choices.now limits.turns) same ensured.keeps.limit) in
     map_ok c.end_play.result c.end_play.ensures (λ r end.
-    loop_play (tree_of c.args.checked.now) c.args.input.now limits c.args.choices.now v g.B.PlayedCode.code g.B.PlayedCode.cells r told.play
-    c.requires.throttle c.requires.workers (ap (λ (q : Program). tree_of q) told.keeps.program ∙ first.tree) (told.keeps.input ∙ first.input)
-    (told.keeps.limit ∙ first.limit) events end)
+    loop_play (tree_of c.args.checked.now) c.args.input.now limits c.args.choices.now v g.B.PlayedCode.code g.B.PlayedCode.cells r ensured.play
+    c.requires.throttle c.requires.workers (ap (λ (q : Program). tree_of q) ensured.keeps.program ∙ first.tree) (ensured.keeps.input ∙ first.input)
+    (ensured.keeps.limit ∙ first.limit) events end)

@@ -84,11 +84,11 @@ returns-clause-play g c =
     let within = slot_within code cells w h i runs.frame runs.is in
     let kept = sym (get_or_default inside.running.items i c.index_mut.result.now None within) ∙ sym (c.take.ensures.value ∙ c.index_mut.ensures.value) ∙ c.in-Some.is in
     let input = c.requires.input ∙ ap (λ (x : PlayState). x.book.input) (sym c.self.view_is) in
-    let told = c.in_ok-access.ensures in
+    let ensured = c.in_ok-access.ensures in
     let ticket = c.len.ensures in
     let made = access_made code cells w h i runs c.in-Some.running kept c.args.input.now input c.in_ok-access.access c.access.new.self c.access.new.cells
-    told.instance told.event (subst (λ n. c.access.new.self.token ≡ record c.in-Some.running.token { now = n + 1 }) ticket told.fields)
-    (subst (λ n. c.access.new.self.trace ≡ c.in-Some.running.trace ++ record { ticket = n + 1; access = c.in_ok-access.access } ∷ []) ticket told.trace) told.state told.shard in
+    ensured.instance ensured.event (subst (λ n. c.access.new.self.token ≡ record c.in-Some.running.token { now = n + 1 }) ticket ensured.fields)
+    (subst (λ n. c.access.new.self.trace ≡ c.in-Some.running.trace ++ record { ticket = n + 1; access = c.in_ok-access.access } ∷ []) ticket ensured.trace) ensured.state ensured.shard in
     rw (set-set inside.running.items i c.take.new.self (Some c.access.new.self), c.in_ok-push-2.ensures.ok, c.in_ok-push.ensures.ok, c.node-node.ensures) made.1
 
 pub returns-clause-event : goal.returns-clause-event
@@ -103,11 +103,11 @@ returns-clause-event g c = λ e next.
     let within = slot_within code cells w h i runs.frame runs.is in
     let kept = sym (get_or_default inside.running.items i c.index_mut.result.now None within) ∙ sym (c.take.ensures.value ∙ c.index_mut.ensures.value) ∙ c.in-Some.is in
     let input = c.requires.input ∙ ap (λ (x : PlayState). x.book.input) (sym c.self.view_is) in
-    let told = c.in_ok-access.ensures in
+    let ensured = c.in_ok-access.ensures in
     let ticket = c.len.ensures in
     let made = access_made code cells w h i runs c.in-Some.running kept c.args.input.now input c.in_ok-access.access c.access.new.self c.access.new.cells
-    told.instance told.event (subst (λ n. c.access.new.self.token ≡ record c.in-Some.running.token { now = n + 1 }) ticket told.fields)
-    (subst (λ n. c.access.new.self.trace ≡ c.in-Some.running.trace ++ record { ticket = n + 1; access = c.in_ok-access.access } ∷ []) ticket told.trace) told.state told.shard in
+    ensured.instance ensured.event (subst (λ n. c.access.new.self.token ≡ record c.in-Some.running.token { now = n + 1 }) ticket ensured.fields)
+    (subst (λ n. c.access.new.self.trace ≡ c.in-Some.running.trace ++ record { ticket = n + 1; access = c.in_ok-access.access } ∷ []) ticket ensured.trace) ensured.state ensured.shard in
     let there = subst (λ (x : PlayState). next_event (pipeline_played x) (run_state x) i ≡ Some e) (sym c.self.view_is) next in
     let same : events.Access i c.in_ok-access.access ≡ e = (let q = sym made.0 ∙ there in cc) in
     c.in_ok-push-2.ensures.ok ∙ (ap (λ x. inside.events ++ x ∷ []) same ∙ ap (λ (x : PlayState). x.events ++ e ∷ []) c.self.view_is)

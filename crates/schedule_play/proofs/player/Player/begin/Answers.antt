@@ -41,9 +41,9 @@ returns-clause-play g c =
     let input = c.requires.input ∙ ap (λ (x : PlayState). x.book.input) (sym c.self.view_is) in
     let token = c.in-Started.token in
     let given = subst (λ (b : BookState). IsGivenBy (λ tree numbers x j replies. IsAtInstance code cells tree numbers x.machine j replies) (λ x. no_tie) b token) c.in-Started.ensures.book c.in-Started.ensures.token in
-    let told = c.new-running.ensures in
+    let ensured = c.new-running.ensures in
     let made = begun_made code cells w h c.requires.next.0 next token c.in-Started.ensures.answer given.out token.payload.machine given.payload.stands c.new-running.result
-    told.fields told.empty c.args.input.now input told.instance c.begin-2.new.self c.begin-2.ensures.schedule c.begin-2.ensures.limit in
+    ensured.fields ensured.empty c.args.input.now input ensured.instance c.begin-2.new.self c.begin-2.ensures.schedule c.begin-2.ensures.limit in
     rw (c.in-Started.ensures.book, c.in_ok-push.ensures.items, c.in_ok-push-2.ensures.ok) made.1
 
 pub returns-clause-event : goal.returns-clause-event
@@ -57,9 +57,9 @@ returns-clause-event g c = λ e is.
     let input = c.requires.input ∙ ap (λ (x : PlayState). x.book.input) (sym c.self.view_is) in
     let token = c.in-Started.token in
     let given = subst (λ (b : BookState). IsGivenBy (λ tree numbers x j replies. IsAtInstance code cells tree numbers x.machine j replies) (λ x. no_tie) b token) c.in-Started.ensures.book c.in-Started.ensures.token in
-    let told = c.new-running.ensures in
+    let ensured = c.new-running.ensures in
     let made = begun_made code cells w h c.requires.next.0 next token c.in-Started.ensures.answer given.out token.payload.machine given.payload.stands c.new-running.result
-    told.fields told.empty c.args.input.now input told.instance c.begin-2.new.self c.begin-2.ensures.schedule c.begin-2.ensures.limit in
+    ensured.fields ensured.empty c.args.input.now input ensured.instance c.begin-2.new.self c.begin-2.ensures.schedule c.begin-2.ensures.limit in
     let one : Some c.requires.next.0 ≡ Some e = sym c.requires.next.1 ∙ is in
     let same : events.Begin token.iteration ≡ e = (let q = made.0 in cc) in
     c.in_ok-push-2.ensures.ok ∙ (ap (λ x. inside.events ++ x ∷ []) same ∙ ap (λ (x : PlayState). x.events ++ e ∷ []) c.self.view_is)
