@@ -63,9 +63,9 @@ still_given i v w events ch run t other g =
       };
       payload = record {
         belongs = subst (λ l. BelongsTo (plan_tie t.payload) l) (sym ch.lists) g.payload.belongs;
-        stands = subst (λ p. IsPlanAt (tree_of p) w.input t.payload t.iteration (map replies_of (item_or [] w.traces t.iteration))) (sym ch.program)
+        ready = subst (λ p. IsPlanAt (tree_of p) w.input t.payload t.iteration (map replies_of (item_or [] w.traces t.iteration))) (sym ch.program)
             (subst (λ l. IsPlanAt (tree_of v.program) l t.payload t.iteration (map replies_of (item_or [] w.traces t.iteration))) (sym ch.input)
-            (subst (λ xs. IsPlanAt (tree_of v.program) v.input t.payload t.iteration (map replies_of xs)) (sym (ch.traces t.iteration other)) g.payload.stands));
+            (subst (λ xs. IsPlanAt (tree_of v.program) v.input t.payload t.iteration (map replies_of xs)) (sym (ch.traces t.iteration other)) g.payload.ready));
       };
       knows = g.knows;
       parts = ap (λ xs. length (map replies_of xs)) (ch.traces t.iteration other) ∙ g.parts;

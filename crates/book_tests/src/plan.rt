@@ -87,11 +87,11 @@ impl Stands for Plan {
 
     ghost whole = { IsPlanOf };
 
-    ghost stands = { IsPlanAt };
+    ghost ready_at = { IsPlanAt };
 
     ghost tie = { plan_tie };
 
-    ghost stands_whole = { λ tree input x i replies s. s.0 };
+    ghost ready_whole = { λ tree input x i replies s. s.0 };
 }
 
 impl Payload<OmList> for Plan {

@@ -15,16 +15,16 @@ pub record IsOutOf (v : BookState) (t : TokenFields) : Type 0 where
   pub now : t.now ≤ 2 ^ 62 + length v.log
 
 -- a payload that belongs to the book's lists, and is at the start of the instance of iteration i after these replies, for the book's program and input
-pub record IsPayloadOf {M : Type 0} (Stands : SyntaxTree → List ℤ → M → ℕ → List (List ℤ) → Type 0) (tie : M → Tie) (v : BookState)
+pub record IsPayloadOf {M : Type 0} (ReadyAt : SyntaxTree → List ℤ → M → ℕ → List (List ℤ) → Type 0) (tie : M → Tie) (v : BookState)
     (i : ℕ) (replies : List (List ℤ)) (m : M) : Type 0 where
   pub belongs : BelongsTo (tie m) v.lists
-  pub stands : Stands (tree_of v.program) v.input m i replies
+  pub ready : ReadyAt (tree_of v.program) v.input m i replies
 
 -- a token that the book returns
-pub record IsGivenBy {M : Type 0} (Stands : SyntaxTree → List ℤ → M → ℕ → List (List ℤ) → Type 0) (tie : M → Tie) (v : BookState)
+pub record IsGivenBy {M : Type 0} (ReadyAt : SyntaxTree → List ℤ → M → ℕ → List (List ℤ) → Type 0) (tie : M → Tie) (v : BookState)
     (t : FrameToken M) : Type 0 where
   pub out : IsOutOf v (fields_of t)
-  pub payload : IsPayloadOf Stands tie v t.iteration (replies_at v t.iteration) t.payload
+  pub payload : IsPayloadOf ReadyAt tie v t.iteration (replies_at v t.iteration) t.payload
   pub knows : KnowsMarks (tie t.payload) t.marks
   pub parts : length (replies_at v t.iteration) ≡ t.index
 

@@ -97,7 +97,7 @@ impl<M: Payload<L>, L: ListWriter + Drop> Model for Book<M, L> {
 
     ghost view = { λ b. book_state (tables_of b) };
 
-    ghost invariant = { λ b. IsBook M.whole M.stands M.tie (tables_of b) × HasAliveList b.rows.items b.spare.items b.alive.items (vec_capacity b.alive) };
+    ghost invariant = { λ b. IsBook M.whole M.ready_at M.tie (tables_of b) × HasAliveList b.rows.items b.spare.items b.alive.items (vec_capacity b.alive) };
 }
 
 impl<M: Payload<L>, L: ListWriter + Drop> Book<M, L> {
@@ -232,7 +232,7 @@ impl<M: Payload<L>, L: ListWriter + Drop> Book<M, L> {
     pub fn begin(&mut self) -> Begun<M>
         ensures answer { BeginReturns self.old.limit (state_of self.old) result }
         ensures book { self.new ≡ after_begin self.old result }
-        ensures token { IfStarted result (IsGivenBy M.stands M.tie self.new) }
+        ensures token { IfStarted result (IsGivenBy M.ready_at M.tie self.new) }
         ensures now { IfStarted result (λ t. t.now ≡ last_ticket self.new.log) }
         ensures folded { IfStarted result (λ t. t.folded ≡ None) }
     {
@@ -274,7 +274,7 @@ impl<M: Payload<L>, L: ListWriter + Drop> Book<M, L> {
         requires going { (state_of self.old).stopped ≡ false }
         requires out { IsOutOf self.old (fields_of token) }
         requires performs { Performs (left_of self.old token.iteration) (accessed trace ++ Staged kind number ∷ []) }
-        requires payload { IsPayloadOf M.stands M.tie self.old token.iteration (replies_at self.old token.iteration ++ replies_of trace ∷ []) token.payload }
+        requires payload { IsPayloadOf M.ready_at M.tie self.old token.iteration (replies_at self.old token.iteration ++ replies_of trace ∷ []) token.payload }
         ensures { self.new ≡ with_named self.old (fields_of token) (events.Advance token.iteration kind number) trace }
     {
         let iteration = token.iteration;
@@ -323,7 +323,7 @@ impl<M: Payload<L>, L: ListWriter + Drop> Book<M, L> {
         ensures instance { (result.iteration ≡ iteration) × (result.index ≡ length (nodes_at (own_columns (state_of self.old)) iteration)) }
         ensures folded { result.folded ≡ kept_folded (item_or Spent self.old.tokens iteration) }
         ensures now { result.now ≡ last_ticket self.new.log }
-        ensures token { IsGivenBy M.stands M.tie self.new result }
+        ensures token { IsGivenBy M.ready_at M.tie self.new result }
     {
         let row = &mut self.rows[iteration as usize];
         let Some(mut token) = row.take_token() else {
@@ -361,11 +361,11 @@ impl<M: Payload<L>, L: ListWriter + Drop> Book<M, L> {
         requires whole { M.whole (tree_of self.old.program) token.payload }
         requires belongs { BelongsTo (M.tie token.payload) self.old.lists }
         requires performs { IsPerformed (pipeline_in self.old) token.iteration (replies_at self.old token.iteration) trace end }
-        requires stands { NamesNextStage end → M.stands (tree_of self.old.program) self.old.input token.payload token.iteration (replies_at self.old token.iteration ++ replies_of trace ∷ []) }
+        requires ready { NamesNextStage end → M.ready_at (tree_of self.old.program) self.old.input token.payload token.iteration (replies_at self.old token.iteration ++ replies_of trace ∷ []) }
         requires stopped { end ≡ StageEnd.Stopped → (state_of self.old).stopped ≡ true }
         ensures answer { AdvanceReturns (state_of self.old) token.iteration token.index end result }
         ensures book { self.new ≡ after_advance self.old (fields_of token) end trace result }
-        ensures token { IfGo result (λ t. IsGivenBy M.stands M.tie self.new t × (t.folded ≡ folded_after self.old (fields_of token) end)) }
+        ensures token { IfGo result (λ t. IsGivenBy M.ready_at M.tie self.new t × (t.folded ≡ folded_after self.old (fields_of token) end)) }
         ensures now { IfGo result (λ t. t.now ≡ last_ticket self.new.log) }
     {
         if self.stopped {
@@ -397,10 +397,10 @@ impl<M: Payload<L>, L: ListWriter + Drop> Book<M, L> {
         requires out { IsOutOf self.old (fields_of token) }
         requires kind { kind ≢ Kind.Zero }
         requires performs { Performs (left_of self.old token.iteration) (accessed trace ++ Staged kind number ∷ []) }
-        requires payload { IsPayloadOf M.stands M.tie self.old token.iteration (replies_at self.old token.iteration ++ replies_of trace ∷ []) token.payload }
+        requires payload { IsPayloadOf M.ready_at M.tie self.old token.iteration (replies_at self.old token.iteration ++ replies_of trace ∷ []) token.payload }
         ensures answer { AdvanceReturns (state_of self.old) token.iteration token.index (stage_end kind number) result }
         ensures book { self.new ≡ after_advance self.old (fields_of token) (stage_end kind number) trace result }
-        ensures token { IfGo result (λ t. IsGivenBy M.stands M.tie self.new t × (t.folded ≡ folded_after self.old (fields_of token) (stage_end kind number))) }
+        ensures token { IfGo result (λ t. IsGivenBy M.ready_at M.tie self.new t × (t.folded ≡ folded_after self.old (fields_of token) (stage_end kind number))) }
         ensures now { IfGo result (λ t. t.now ≡ last_ticket self.new.log) }
     {
         let iteration = token.iteration;
@@ -423,7 +423,7 @@ impl<M: Payload<L>, L: ListWriter + Drop> Book<M, L> {
         requires whole { M.whole (tree_of self.old.program) token.payload }
         requires belongs { BelongsTo (M.tie token.payload) self.old.lists }
         requires performs { IsPerformed (pipeline_in self.old) token.iteration (replies_at self.old token.iteration) trace end }
-        requires stands { NamesNextStage end → M.stands (tree_of self.old.program) self.old.input token.payload token.iteration (replies_at self.old token.iteration ++ replies_of trace ∷ []) }
+        requires ready { NamesNextStage end → M.ready_at (tree_of self.old.program) self.old.input token.payload token.iteration (replies_at self.old token.iteration ++ replies_of trace ∷ []) }
         requires stopped { end ≡ StageEnd.Stopped → (state_of self.old).stopped ≡ true }
         ensures answer { NameReturns (state_of self.old) end result }
         ensures book { self.new ≡ after_name_next self.old (fields_of token) end trace result }
@@ -462,7 +462,7 @@ impl<M: Payload<L>, L: ListWriter + Drop> Book<M, L> {
     pub fn enter(&mut self, iteration: u32) -> Option<FrameToken<M>>
         ensures answer { EnterReturns (state_of self.old) iteration result }
         ensures book { self.new ≡ after_enter self.old result }
-        ensures token { IfSome result (IsGivenBy M.stands M.tie self.new) }
+        ensures token { IfSome result (IsGivenBy M.ready_at M.tie self.new) }
         ensures now { IfSome result (λ t. t.now ≡ last_ticket self.new.log) }
         ensures folded { IfSome result (λ t. t.folded ≡ kept_folded (item_or Spent self.old.tokens iteration)) }
     {
@@ -479,7 +479,7 @@ impl<M: Payload<L>, L: ListWriter + Drop> Book<M, L> {
     pub fn check_right(&mut self, iteration: u32) -> Option<FrameToken<M>>
         ensures answer { EnterReturns (state_of self.old) (iteration + 1) result }
         ensures book { self.new ≡ after_enter self.old result }
-        ensures token { IfSome result (IsGivenBy M.stands M.tie self.new) }
+        ensures token { IfSome result (IsGivenBy M.ready_at M.tie self.new) }
         ensures now { IfSome result (λ t. t.now ≡ last_ticket self.new.log) }
         ensures folded { IfSome result (λ t. t.folded ≡ kept_folded (item_or Spent self.old.tokens (iteration + 1))) }
     {
@@ -496,7 +496,7 @@ impl<M: Payload<L>, L: ListWriter + Drop> Book<M, L> {
     pub fn rescue(&mut self) -> Rescue<M>
         ensures answer { RescueReturns self.old.limit (state_of self.old) (IsReady self.old) result }
         ensures book { self.new ≡ after_rescue self.old result }
-        ensures token { IfToken result (IsGivenBy M.stands M.tie self.new) }
+        ensures token { IfToken result (IsGivenBy M.ready_at M.tie self.new) }
         ensures now { IfToken result (λ t. IsGivenBeside (resume_events (frame_at (state_of self.old).frames t.iteration) t.iteration) self.old self.new (fields_of t)) }
         ensures folded { IfToken result (λ t. t.folded ≡ kept_folded (item_or Spent self.old.tokens t.iteration)) }
         ensures nothing { IfNothing result ((i : ℕ) × IsOut self.old i) }
@@ -555,7 +555,7 @@ impl<M: Payload<L>, L: ListWriter + Drop> Book<M, L> {
         requires can { CanGoOn (IsReady self.old) (state_of self.old) iteration }
         ensures iteration { result.iteration ≡ iteration }
         ensures book { self.new ≡ with_resumed self.old iteration }
-        ensures token { IsGivenBy M.stands M.tie self.new result }
+        ensures token { IsGivenBy M.ready_at M.tie self.new result }
         ensures now { IsGivenBeside (resume_events (frame_at (state_of self.old).frames iteration) iteration) self.old self.new (fields_of result) }
         ensures folded { result.folded ≡ kept_folded (item_or Spent self.old.tokens iteration) }
     {
@@ -573,7 +573,7 @@ impl<M: Payload<L>, L: ListWriter + Drop> Book<M, L> {
     /// Keeps the token of an instance that has started and made no access, for `rescue`.
     pub fn leave_ready(&mut self, token: FrameToken<M>)
         requires out { IsOutOf self.old (fields_of token) }
-        requires payload { IsPayloadOf M.stands M.tie self.old token.iteration (replies_at self.old token.iteration) token.payload }
+        requires payload { IsPayloadOf M.ready_at M.tie self.old token.iteration (replies_at self.old token.iteration) token.payload }
         requires knows { KnowsMarks (M.tie token.payload) token.marks }
         ensures { self.new ≡ after_leave_ready self.old (fields_of token) }
     {

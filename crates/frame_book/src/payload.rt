@@ -13,7 +13,7 @@ use pipe_frame::stands::Stands;
 pub trait Payload<L: ListWriter + Drop>: Stands + Drop {
     /// Goes to the start of an iteration.
     fn begin(&mut self, iteration: u32)
-        ensures stands { (tree : SyntaxTree) (input : List ℤ) → Self.whole tree self.old → Self.stands tree input self.new iteration [] }
+        ensures ready { (tree : SyntaxTree) (input : List ℤ) → Self.whole tree self.old → Self.ready_at tree input self.new iteration [] }
         ensures tie { Self.tie self.new ≡ Self.tie self.old };
 
     /// Notes that an instance has started, so that the payload knows all elements of the lists. They
@@ -21,7 +21,7 @@ pub trait Payload<L: ListWriter + Drop>: Stands + Drop {
     fn started(&mut self, orders: &mut TwoOrders<L>)
         requires { BelongsTo (Self.tie self.old) (identities_of_orders orders.old) }
         ensures whole { (tree : SyntaxTree) → Self.whole tree self.old → Self.whole tree self.new }
-        ensures stands { (tree : SyntaxTree) (input : List ℤ) (i : ℕ) (replies : List (List ℤ)) → Self.stands tree input self.old i replies → Self.stands tree input self.new i replies }
+        ensures ready { (tree : SyntaxTree) (input : List ℤ) (i : ℕ) (replies : List (List ℤ)) → Self.ready_at tree input self.old i replies → Self.ready_at tree input self.new i replies }
         ensures tie { SameTieButLogs (Self.tie self.new) (Self.tie self.old) orders.old }
         ensures orders { orders.new ≡ orders.old };
 }

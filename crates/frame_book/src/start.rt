@@ -28,7 +28,7 @@ pub fn start_head<M: Payload<L>, L: ListWriter + Drop>(
     requires belongs { BelongsTo (M.tie payload.old) (identities_of_orders orders.old) }
     ensures marks { result ≡ marks_after (length orders.old.down.log) (down_taken None (head_marks rows.now)) (right_taken None (head_marks rows.now)) }
     ensures lists { orders.new ≡ with_start orders.old (down_taken None (head_marks rows.now)) (right_taken None (head_marks rows.now)) }
-    ensures stands { (tree : SyntaxTree) (input : List ℤ) (i : ℕ) (replies : List (List ℤ)) → M.stands tree input payload.old i replies → M.stands tree input payload.new i replies }
+    ensures ready { (tree : SyntaxTree) (input : List ℤ) (i : ℕ) (replies : List (List ℤ)) → M.ready_at tree input payload.old i replies → M.ready_at tree input payload.new i replies }
     ensures tie { SameTieButLogs (M.tie payload.new) (M.tie payload.old) orders.new }
 {
     let marks = insert_head(rows, orders);
@@ -96,7 +96,7 @@ pub fn start_below<M: Payload<L>, L: ListWriter + Drop>(
     requires belongs { BelongsTo (M.tie payload.old) (identities_of_orders orders.old) }
     ensures marks { result ≡ marks_after (length orders.old.down.log) (down_taken (Some (marks_at rows.now iteration index)) (left_marks rows.now iteration left)) (right_taken (Some (marks_at rows.now iteration index)) (left_marks rows.now iteration left)) }
     ensures lists { orders.new ≡ with_start orders.old (down_taken (Some (marks_at rows.now iteration index)) (left_marks rows.now iteration left)) (right_taken (Some (marks_at rows.now iteration index)) (left_marks rows.now iteration left)) }
-    ensures stands { (tree : SyntaxTree) (input : List ℤ) (i : ℕ) (replies : List (List ℤ)) → M.stands tree input payload.old i replies → M.stands tree input payload.new i replies }
+    ensures ready { (tree : SyntaxTree) (input : List ℤ) (i : ℕ) (replies : List (List ℤ)) → M.ready_at tree input payload.old i replies → M.ready_at tree input payload.new i replies }
     ensures tie { SameTieButLogs (M.tie payload.new) (M.tie payload.old) orders.new }
 {
     let marks = insert_below(rows, orders, iteration, index, left);

@@ -92,13 +92,13 @@ impl<M: Stands + Drop, H: Hall<M>> Hall<M> for Counting<H> {
         requires trace { trace ≡ seated_entries (M.tie token.payload) }
         requires whole { M.whole (H.named self.old.hall).tree token.payload }
         requires performs { IsPerformed (pipeline_of (H.named self.old.hall).tree (H.named self.old.hall).input) token.iteration (seated_replies (M.tie token.payload)) trace end }
-        requires stands { NamesNextStage end → M.stands (H.named self.old.hall).tree (H.named self.old.hall).input token.payload token.iteration (seated_replies (M.tie token.payload) ++ replies_of trace ∷ []) }
+        requires ready { NamesNextStage end → M.ready_at (H.named self.old.hall).tree (H.named self.old.hall).input token.payload token.iteration (seated_replies (M.tie token.payload) ++ replies_of trace ∷ []) }
         requires stopped { end ≡ StageEnd.Stopped → (state_after (H.seen self.old.hall)).stopped ≡ true }
         ensures named { H.named self.new.hall ≡ H.named self.old.hall }
         ensures sees { Sees (H.seen self.old.hall) (H.seen self.new.hall) (advance_events token.iteration end result) (λ s. AdvanceReturns s token.iteration token.index end result) }
         ensures tokens { Exchanges (tokens_next result) 1 (H.tokens self.old.hall) (H.tokens self.new.hall) }
         ensures seen_runs { ControlRun (H.named self.new.hall).limit (H.seen self.new.hall) (state_after (H.seen self.new.hall)) }
-        ensures token { IfGo result (IsGivenToken M.stands M.tie (H.named self.old.hall)) }
+        ensures token { IfGo result (IsGivenToken M.ready_at M.tie (H.named self.old.hall)) }
         ensures runs { IfGo result (λ t. IsTokenOf (H.seen self.new.hall) (fields_of t)) }
     {
         count(&mut self.calls.advance);
@@ -118,7 +118,7 @@ impl<M: Stands + Drop, H: Hall<M>> Hall<M> for Counting<H> {
     fn leave_ready<R: Wait>(&mut self, rt: &R, token: FrameToken<M>)
         requires out { IsSeated (H.named self.old.hall) (fields_of token) (M.tie token.payload) }
         requires fresh { seated_entries (M.tie token.payload) ≡ [] }
-        requires stands { M.stands (H.named self.old.hall).tree (H.named self.old.hall).input token.payload token.iteration (seated_replies (M.tie token.payload)) }
+        requires ready { M.ready_at (H.named self.old.hall).tree (H.named self.old.hall).input token.payload token.iteration (seated_replies (M.tie token.payload)) }
         ensures named { H.named self.new.hall ≡ H.named self.old.hall }
         ensures sees { Sees (H.seen self.old.hall) (H.seen self.new.hall) [] (λ s. Unit {0}) }
         ensures tokens { Exchanges 0 1 (H.tokens self.old.hall) (H.tokens self.new.hall) }

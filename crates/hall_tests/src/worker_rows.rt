@@ -50,7 +50,7 @@ fn begin<R: Wait, M: Runs + Drop, H: Hall<M>>(
     hall: &mut H,
 ) -> Result<FrameToken<M>, NoMemory>
     ensures named { H.named hall.new ≡ H.named hall.old }
-    ensures given { IfOk result (IsGivenToken M.stands M.tie (H.named hall.old)) }
+    ensures given { IfOk result (IsGivenToken M.ready_at M.tie (H.named hall.old)) }
 {
     match hall.begin(rt) {
         Begun::Started(token) => Ok(token),
@@ -68,7 +68,7 @@ fn run_first<R: Wait, M: Runs + Drop, H: Hall<M>>(
 ) -> Result<FrameToken<M>, NoMemory>
     requires drives { CanDrive M.code (H.named hall.old) code.now input.now }
     ensures named { H.named hall.new ≡ H.named hall.old }
-    ensures given { IfOk result (IsGivenToken M.stands M.tie (H.named hall.old)) }
+    ensures given { IfOk result (IsGivenToken M.ready_at M.tie (H.named hall.old)) }
 {
     let token = begin::<R, M, H>(rt, hall)?;
     let (next, _end) = run_and_advance(alloc, rt, code, input, hall, token);

@@ -73,16 +73,16 @@ impl<B: RunCode> Carried<B> {
 }
 
 impl<B: RunCode> Stands for Carried<B> {
-    ghost use Rattle.pipe_worker.specs.Machines.{CanRun, HasMachine, IsAtInstance, stands_whole};
+    ghost use Rattle.pipe_worker.specs.Machines.{CanRun, HasMachine, IsAtInstance, ready_whole};
     ghost use Rattle.pipe_hall.specs.Lending.{tie_of};
 
     ghost whole = { λ tree x. HasMachine x.machine (CanRun B.code tree) };
 
-    ghost stands = { λ tree input x i replies. HasMachine x.machine (λ m. IsAtInstance B.code tree input m i replies) };
+    ghost ready_at = { λ tree input x i replies. HasMachine x.machine (λ m. IsAtInstance B.code tree input m i replies) };
 
     ghost tie = { λ x. tie_of x.passes x.seat };
 
-    ghost stands_whole = { λ tree input x i replies h. stands_whole B.code tree input x.machine i replies h };
+    ghost ready_whole = { λ tree input x i replies h. ready_whole B.code tree input x.machine i replies h };
 }
 
 impl<B: RunCode> Runs for Carried<B> {
@@ -101,9 +101,9 @@ impl<B: RunCode> Runs for Carried<B> {
         self.machine = Some(machine);
     }
 
-    ghost stands_by = { λ tree input x i replies h. h };
+    ghost machine_ready = { λ tree input x i replies h. h };
 
-    ghost by_stands = { λ tree input x i replies h. h };
+    ghost ready_by_machine = { λ tree input x i replies h. h };
 
     ghost by_machine = { λ tree x h. h };
 }
@@ -151,5 +151,5 @@ impl<B: RunCode> Carrier for Carried<B> {
 
     ghost seat_whole = { λ tree x s h. h };
 
-    ghost seat_stands = { λ tree input x s i replies h. h };
+    ghost seat_ready = { λ tree input x s i replies h. h };
 }

@@ -32,7 +32,7 @@ impl<J: DrivenHall, M: Runs + Drop> TaskTest<Task<M>> for TestOf<J, M> {
     ghost use Rattle.pipe_worker.specs.Tasks.{IsTask};
     ghost use Rattle.pipe_engine.specs.TaskNumbers.{task_number};
 
-    ghost meets = { λ t. IsTask (IsGivenToken M.stands M.tie J.named) t };
+    ghost meets = { λ t. IsTask (IsGivenToken M.ready_at M.tie J.named) t };
 
     ghost tag = { task_number };
 }

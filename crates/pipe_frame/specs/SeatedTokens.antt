@@ -34,8 +34,8 @@ abbrev pub seated_entries : Tie → List Entry
 seated_entries t = entries_of_seat t.seat
 
 -- a token that a call returns is out, its payload is at the start of its instance, and the instance has made no access
-pub record IsGivenToken {M : Type 0} (Stands : SyntaxTree → List ℤ → M → ℕ → List (List ℤ) → Type 0) (tie : M → Tie) (h : HallName)
+pub record IsGivenToken {M : Type 0} (ReadyAt : SyntaxTree → List ℤ → M → ℕ → List (List ℤ) → Type 0) (tie : M → Tie) (h : HallName)
     (t : FrameToken M) : Type 0 where
   pub out : IsSeated h (fields_of t) (tie t.payload)
-  pub stands : Stands h.tree h.input t.payload t.iteration (seated_replies (tie t.payload))
+  pub ready : ReadyAt h.tree h.input t.payload t.iteration (seated_replies (tie t.payload))
   pub fresh : seated_entries (tie t.payload) ≡ []

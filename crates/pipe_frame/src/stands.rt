@@ -12,11 +12,11 @@ pub trait Stands {
 
     /// Whether it is, for a program and an input, at the start of the instance of an iteration that
     /// comes after instances with these replies to their reads.
-    ghost stands: { SyntaxTree → List ℤ → Self → ℕ → List (List ℤ) → Type 0 };
+    ghost ready_at: { SyntaxTree → List ℤ → Self → ℕ → List (List ℤ) → Type 0 };
 
     /// The order lists and the seat that it belongs to.
     ghost tie: { Self → Tie };
 
     /// A payload at the start of an instance can run its program.
-    ghost stands_whole: { (tree : SyntaxTree) (input : List ℤ) (x : Self) (i : ℕ) (replies : List (List ℤ)) → stands tree input x i replies → whole tree x };
+    ghost ready_whole: { (tree : SyntaxTree) (input : List ℤ) (x : Self) (i : ℕ) (replies : List (List ℤ)) → ready_at tree input x i replies → whole tree x };
 }

@@ -180,9 +180,9 @@ ran_badge v (Some x) e =
     let b = instance_badge (v ∷ []) e in
     let same : v ≡ b.view = (let w = b.is in cc) in
     let knows : v.it.constants ≡ Some b.constants = ap (λ (u : View). u.it.constants) same ∙ b.knows in
-    let stands : v.it.run ≡ Some b.run = ap (λ (u : View). u.it.run) same ∙ b.stands in
+    let run_is : v.it.run ≡ Some b.run = ap (λ (u : View). u.it.run) same ∙ b.run_is in
     let held : v.it.held ≡ [] = ap (λ (u : View). u.it.held) same ∙ b.held in
-    is_badge (view_of (ran v.it (Some x))) b.constants (run_accessed b.run x.ticket x.access) knows (ap (λ r. run_more r x) stands) held
+    is_badge (view_of (ran v.it (Some x))) b.constants (run_accessed b.run x.ticket x.access) knows (ap (λ r. run_more r x) run_is) held
 
 -- the seat as its tie names it
 pub ran_seat : (z : TableId) (id : ℕ) (v : View) (o : Option Entry) → seat_of z id (ran v.it o).constants (ran v.it o).run ≡ seat_done (seat_of z id v.it.constants v.it.run) o

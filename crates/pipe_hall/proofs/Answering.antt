@@ -43,9 +43,9 @@ same_table g h e = numbers_same g.table h.table (sym (name_hall g.table g.consta
 
 -- ---- tokens
 
-module _ (M : Type 0) (Stands : SyntaxTree → List ℤ → M → ℕ → List (List ℤ) → Type 0) (tie : M → Tie) (lists : M → SeenLists) (seat : M → Option RunSeat) (with_seat : M → Option RunSeat → M)
+module _ (M : Type 0) (ReadyAt : SyntaxTree → List ℤ → M → ℕ → List (List ℤ) → Type 0) (tie : M → Tie) (lists : M → SeenLists) (seat : M → Option RunSeat) (with_seat : M → Option RunSeat → M)
     (tied : (x : M) → tie x ≡ tie_of (lists x) (seat x)) (seat_is : (x : M) (s : Option RunSeat) → (seat (with_seat x s) ≡ s) × (lists (with_seat x s) ≡ lists x))
-    (seat_stands : (tree : SyntaxTree) (input : List ℤ) (x : M) (s : Option RunSeat) (i : ℕ) (replies : List (List ℤ)) → Stands tree input x i replies → Stands tree input (with_seat x s) i replies) where
+    (seat_ready : (tree : SyntaxTree) (input : List ℤ) (x : M) (s : Option RunSeat) (i : ℕ) (replies : List (List ℤ)) → ReadyAt tree input x i replies → ReadyAt tree input (with_seat x s) i replies) where
   -- the tie of a payload with a seat
   pub tie_with : (x : M) (r : RunSeat) → tie (with_seat x (Some r)) ≡ record { lists = (tie x).lists; seat = seat_in (Some r) }
   tie_with x r =
@@ -64,7 +64,7 @@ module _ (M : Type 0) (Stands : SyntaxTree → List ℤ → M → ℕ → List (
     pub is : seat x ≡ Some run
     pub table : run.badge.table_id ≡ z
     pub run_data : InstanceData
-    pub stands : (badge_view run.badge.views).run ≡ Some run_data
+    pub run_is : (badge_view run.badge.views).run ≡ Some run_data
     pub hall : name_of run.badge.table_id (badge_view run.badge.views).constants ≡ h
     pub fields : run_data.fields ≡ f
     pub replies : run_data.replies ≡ seated_replies (tie x)
@@ -88,7 +88,7 @@ module _ (M : Type 0) (Stands : SyntaxTree → List ℤ → M → ℕ → List (
             is = e;
             table = numbers_same r.badge.table_id z hall;
             run_data = d;
-            stands = is;
+            run_is = is;
             hall = ap (λ (y : InstanceSeat). y.hall) same ∙ out.hall;
             fields = ap (λ (y : InstanceSeat). y.fields) same ∙ out.fields;
             replies = ap (λ (y : InstanceSeat). y.replies) same ∙ sym (ap replies_of_seat out.is);
@@ -100,7 +100,7 @@ module _ (M : Type 0) (Stands : SyntaxTree → List ℤ → M → ℕ → List (
       by (Some r) e = by_data r (badge_view r.badge.views).run e refl (there (Some r) e)
 
   pub given_in : (h : HallName) (z : TableId) (c : BookState) (t : FrameToken M) (r : RunSeat) (v : View) → r.badge.table_id ≡ z → r.badge.views ≡ v ∷ [] → v.it.constants ≡ Some (constants_of c)
-      → v.it.run ≡ Some (new_instance c (fields_of t)) → h ≡ name_of z (Some (constants_of c)) → IsGivenBy Stands tie c t → IsGivenToken Stands tie h (record t { payload = with_seat t.payload (Some r) })
+      → v.it.run ≡ Some (new_instance c (fields_of t)) → h ≡ name_of z (Some (constants_of c)) → IsGivenBy ReadyAt tie c t → IsGivenToken ReadyAt tie h (record t { payload = with_seat t.payload (Some r) })
   given_in h z c t r v table views constants run name given =
       let x : M = with_seat t.payload (Some r) in
       let s : InstanceSeat = record { hall = name_of z (Some (constants_of c)); seat = r.badge.id; fields = fields_of t; replies = replies_at c t.iteration; entries = [] } in
@@ -119,8 +119,8 @@ module _ (M : Type 0) (Stands : SyntaxTree → List ℤ → M → ℕ → List (
           knows = subst (λ l. AreSeen l t.marks) (sym lists_now) given.knows;
           belongs = subst (λ (n : HallName). AreSeenLists (tie x).lists n.lists.down n.lists.right) (sym name) (subst (λ l. AreSeenLists l c.lists.down c.lists.right) (sym lists_now) given.payload.belongs);
         };
-        stands = subst (λ l. Stands h.tree h.input x t.iteration l) (sym (ap replies_of_seat seat_now))
-            (subst (λ (n : HallName). Stands n.tree n.input x t.iteration (replies_at c t.iteration)) (sym name) (seat_stands (tree_of c.program) c.input t.payload (Some r) t.iteration (replies_at c t.iteration) given.payload.stands));
+        ready = subst (λ l. ReadyAt h.tree h.input x t.iteration l) (sym (ap replies_of_seat seat_now))
+            (subst (λ (n : HallName). ReadyAt n.tree n.input x t.iteration (replies_at c t.iteration)) (sym name) (seat_ready (tree_of c.program) c.input t.payload (Some r) t.iteration (replies_at c t.iteration) given.payload.ready));
         fresh = ap entries_of_seat seat_now;
       }
 

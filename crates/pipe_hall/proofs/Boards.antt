@@ -199,8 +199,8 @@ module _ (M : Type 0) where
                   (λ old. still_held id k y (r.held k y old)) (among_cons (k, y) (i, value_at b shard i) v.it.held m);
             })
             (λ j d ne e. (let r = o.right j d e in record { constants = r.constants; seen = r.seen; met = r.met; run = r.run; held = λ k y m. still_held j k y (r.held k y m) }));
-        stands = λ k d e. (
-            let h = o.stands k d e in
+        each_seat = λ k d e. (
+            let h = o.each_seat k d e in
             dite (ℕ_discrete (o.number k) id)
             (λ (same : o.number k ≡ id). (
               new_view,
@@ -237,8 +237,8 @@ module _ (M : Type 0) where
                   held = λ k y m. r.held k y (subst (λ hs. Among (k, y) hs) wh m);
                 }))
                 (λ j u ne e. right_words s.words (set s.words i n) b shard seats o.number o.holder j u.it same (o.right j u e));
-            stands = λ k d e. (
-                let h = o.stands k d e in
+            each_seat = λ k d e. (
+                let h = o.each_seat k d e in
                 dite (ℕ_discrete (o.number k) id)
                 (λ (q : o.number k ≡ id). (
                   w,
@@ -303,7 +303,7 @@ module _ (M : Type 0) where
                   let far : k ≢ i = λ q. ne (sym h.1 ∙ (ap o.holder q ∙ mine.1)) in
                   (h.0, h.1, word_else s.words (place i) (place k) 0 (places_apart k i far) ∙ h.2, h.3 ∙ sym (others k far)));
             }));
-        stands = st;
+        each_seat = st;
       }
 
     -- ---- kind 6: splits
@@ -314,7 +314,7 @@ module _ (M : Type 0) where
 
       pub split_instance : (d : InstanceData) → v.it.run ≡ Some d → (seats d.fields.iteration ≡ Some d) → ((k : ℕ) (e : InstanceData) → seats k ≡ Some e → e.fields.iteration ≡ k)
           → Board (split_with (view_of (without_run v.it)) (view_of (run_seat v.it))) b shard seats
-      split_instance d stands here named =
+      split_instance d run_is here named =
           let left : View = view_of (without_run v.it) in
           let right : View = view_of (run_seat v.it) in
           let number' = with_at o.number d.fields.iteration (length s.views) in
@@ -323,7 +323,7 @@ module _ (M : Type 0) where
           -- the run of another seat is another iteration's
           let apart : (j : ℕ) (u : View) (e : InstanceData) → j ≢ id → get_elem? s.views j ≡ some u → u.it.run ≡ Some e → e.fields.iteration ≢ d.fields.iteration = λ j u e ne q run same. (
           let a = ((o.right j u q).run e run).1 in
-          let c = (r.run d stands).1 in
+          let c = (r.run d run_is).1 in
           ne (sym a ∙ (ap o.number same ∙ c))) in
           record {
             number = number';
@@ -344,21 +344,21 @@ module _ (M : Type 0) where
                   held = λ k x m. absurd (none_among (k, x) m);
                   run = λ e q. (
                       let a = r.run e q in
-                      let f : Some d ≡ Some e = sym stands ∙ q in
+                      let f : Some d ≡ Some e = sym run_is ∙ q in
                       let g : d ≡ e = cc in
                       (a.0, ap (λ (z : InstanceData). number' z.fields.iteration) (sym g) ∙ (with_here o.number d.fields.iteration (length s.views) ∙ (sym last ∙ sym t.0))));
                 }))
                 (at_end (set s.views id left) right u j e);
-            stands = λ k e q. dite (ℕ_discrete k d.fields.iteration)
+            each_seat = λ k e q. dite (ℕ_discrete k d.fields.iteration)
                 (λ same. (
                 let f : Some d ≡ Some e = sym here ∙ (ap seats (sym same) ∙ q) in
                 let g : d ≡ e = cc in
-                (right, ap (λ n. get_elem? (set s.views id left ++ right ∷ []) n) (ap number' same ∙ (with_here o.number d.fields.iteration (length s.views))) ∙ at_last (set s.views id left) right (length s.views) last, stands ∙ ap (λ (z : InstanceData). Some z) g)))
+                (right, ap (λ n. get_elem? (set s.views id left ++ right ∷ []) n) (ap number' same ∙ (with_here o.number d.fields.iteration (length s.views))) ∙ at_last (set s.views id left) right (length s.views) last, run_is ∙ ap (λ (z : InstanceData). Some z) g)))
                 (λ ne. (
-                let h = o.stands k e q in
+                let h = o.each_seat k e q in
                 let far : o.number k ≢ id = λ z. (
                 let p : h.0 ≡ v = same_at s.views id h.0 v (subst (λ n. get_elem? s.views n ≡ some h.0) z h.1) at in
-                let f : Some d ≡ Some e = sym stands ∙ (sym (ap (λ (u : View). u.it.run) p) ∙ h.2) in
+                let f : Some d ≡ Some e = sym run_is ∙ (sym (ap (λ (u : View). u.it.run) p) ∙ h.2) in
                 let g : d ≡ e = cc in
                 ne (sym (named k e q) ∙ ap (λ (z : InstanceData). z.fields.iteration) (sym g))) in
                 (h.0, ap (λ n. get_elem? (set s.views id left ++ right ∷ []) n) (with_else o.number d.fields.iteration (length s.views) k ne) ∙ at_longer (set s.views id left) (right ∷ []) (o.number k) h.0 (set_else s.views id (o.number k) left far ∙ h.1), h.2)));
@@ -379,7 +379,7 @@ module _ (M : Type 0) where
                 (λ (t : (j ≡ length (set s.views id v)) × (right ≡ u)). subst (λ (w : View). IsRightView s.words b shard seats o.number o.holder j w.it) t.1
                 (record { constants = r.constants; seen = r.seen; met = r.met; run = λ e q. absurd (let z : None ≡ Some e = q in cc); held = λ k x m. absurd (none_among (k, x) m) }))
                 (at_end (set s.views id v) right u j e);
-            stands = λ k e q. (let h = o.stands k e q in (h.0, at_longer (set s.views id v) (right ∷ []) (o.number k) h.0 (subst (λ vs. get_elem? vs (o.number k) ≡ some h.0) (sym same) h.1), h.2));
+            each_seat = λ k e q. (let h = o.each_seat k e q in (h.0, at_longer (set s.views id v) (right ∷ []) (o.number k) h.0 (subst (λ vs. get_elem? vs (o.number k) ≡ some h.0) (sym same) h.1), h.2));
           }
 
     -- ---- kind 7: joins
@@ -408,14 +408,14 @@ module _ (M : Type 0) where
 
       pub join_run_board : v.it.run ≡ None → (d : InstanceData) → w.it.run ≡ Some d → ((k : ℕ) (e : InstanceData) → seats k ≡ Some e → e.fields.iteration ≡ k)
           → Board (join_with (view_of (with_run v.it w.it))) b shard seats
-      join_run_board idle d stands named =
+      join_run_board idle d run_is named =
           let both : View = view_of (with_run v.it w.it) in
           let number' = with_at o.number d.fields.iteration id in
           let r = o.right id v at in
           let rw = o.right other w there in
           let far : (j : ℕ) (u : View) (e : InstanceData) → j ≢ other → get_elem? s.views j ≡ some u → u.it.run ≡ Some e → e.fields.iteration ≢ d.fields.iteration = λ j u e ne q run same. (
           let a = ((o.right j u q).run e run).1 in
-          let c = (rw.run d stands).1 in
+          let c = (rw.run d run_is).1 in
           ne (sym a ∙ (ap o.number same ∙ c))) in
           record {
             number = number';
@@ -430,22 +430,22 @@ module _ (M : Type 0) where
                   met = r.met;
                   held = r.held;
                   run = λ e q. (
-                      let f : Some d ≡ Some e = sym stands ∙ q in
+                      let f : Some d ≡ Some e = sym run_is ∙ q in
                       let g : d ≡ e = cc in
                       ((rw.run e q).0, ap (λ (z : InstanceData). number' z.fields.iteration) (sym g) ∙ with_here o.number d.fields.iteration id));
                 })
                 (spent_right number' other)
                 (λ j u ne no q. (let p = o.right j u q in record { constants = p.constants; seen = p.seen; met = p.met; held = p.held; run = λ e run. (let a = p.run e run in (a.0, with_else o.number d.fields.iteration id e.fields.iteration (far j u e no q run) ∙ a.1)) }));
-            stands = λ k e q. dite (ℕ_discrete k d.fields.iteration)
+            each_seat = λ k e q. dite (ℕ_discrete k d.fields.iteration)
                 (λ same. (
-                let f : Some d ≡ Some e = sym (rw.run d stands).0 ∙ (ap seats (sym same) ∙ q) in
+                let f : Some d ≡ Some e = sym (rw.run d run_is).0 ∙ (ap seats (sym same) ∙ q) in
                 let g : d ≡ e = cc in
-                (both, ap (λ n. get_elem? (set (set s.views id both) other (view_of nothing_known)) n) (ap number' same ∙ with_here o.number d.fields.iteration id) ∙ both_there both, stands ∙ ap (λ (z : InstanceData). Some z) g)))
+                (both, ap (λ n. get_elem? (set (set s.views id both) other (view_of nothing_known)) n) (ap number' same ∙ with_here o.number d.fields.iteration id) ∙ both_there both, run_is ∙ ap (λ (z : InstanceData). Some z) g)))
                 (λ ne. (
-                let h = o.stands k e q in
+                let h = o.each_seat k e q in
                 let no_other : o.number k ≢ other = λ z. (
                 let p : h.0 ≡ w = same_at s.views other h.0 w (subst (λ n. get_elem? s.views n ≡ some h.0) z h.1) there in
-                let f : Some d ≡ Some e = sym stands ∙ (sym (ap (λ (u : View). u.it.run) p) ∙ h.2) in
+                let f : Some d ≡ Some e = sym run_is ∙ (sym (ap (λ (u : View). u.it.run) p) ∙ h.2) in
                 let g : d ≡ e = cc in
                 ne (sym (named k e q) ∙ ap (λ (z : InstanceData). z.fields.iteration) (sym g))) in
                 let no_id : o.number k ≢ id = λ z. (
@@ -474,8 +474,8 @@ module _ (M : Type 0) where
                 (record { constants = r.constants; seen = r.seen; met = q'.seen; held = r.held; run = r.run })
                 (spent_right o.number other)
                 (λ j u ne no q. o.right j u q);
-            stands = λ k e q. (
-                let h = o.stands k e q in
+            each_seat = λ k e q. (
+                let h = o.each_seat k e q in
                 let no_other : o.number k ≢ other = λ z. (
                 let p : h.0 ≡ w = same_at s.views other h.0 w (subst (λ n. get_elem? s.views n ≡ some h.0) z h.1) there in
                 let f : None ≡ Some e = sym idle ∙ (sym (ap (λ (u : View). u.it.run) p) ∙ h.2) in

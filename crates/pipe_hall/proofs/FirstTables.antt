@@ -111,7 +111,7 @@ module _ (p : Program) (input : List ℤ) (limit : ℕ) (lists : ListIdentities)
       homes = length-map values some ∙ full;
       places = λ i l. record { home = λ z. mapped values (place i) (slot_of (value_at b shard i)) (home i l); away = λ ne. absurd (ne (free (place i))) };
       right = λ j v at. first_right j v at;
-      stands = λ i d e. absurd (let z : None ≡ Some d = e in cc);
+      each_seat = λ i d e. absurd (let z : None ≡ Some d = e in cc);
     }
       where
         first_right : (j : ℕ) (v : View) → get_elem? (first_view start ∷ []) j ≡ some v → IsRightView words b shard nobody (λ i. 0) (λ i. 0) j v.it

@@ -72,25 +72,25 @@ pub record RunBadge (views : List View) : Type 0 where
   pub constants : HallConstants
   pub knows : view.it.constants ≡ Some constants
   pub run : InstanceData
-  pub stands : view.it.run ≡ Some run
+  pub run_is : view.it.run ≡ Some run
   pub held : view.it.held ≡ []
 
 record RunView (o : Option HallConstants) (r : Option InstanceData) (held : List (ℕ × SlotValue)) : Type 0 where
   pub constants : HallConstants
   pub knows : o ≡ Some constants
   pub run : InstanceData
-  pub stands : r ≡ Some run
+  pub run_is : r ≡ Some run
   pub empty : held ≡ []
 
 run_view : (o : Option HallConstants) (r : Option InstanceData) (held : List (ℕ × SlotValue)) → is_instance_view o r held ≡ true → RunView o r held
 run_view None r held e = absurd (let z : false ≡ true = e in cc)
 run_view (Some a) None held e = absurd (let z : false ≡ true = e in cc)
-run_view (Some a) (Some d) [] e = record { constants = a; knows = refl; run = d; stands = refl; empty = refl }
+run_view (Some a) (Some d) [] e = record { constants = a; knows = refl; run = d; run_is = refl; empty = refl }
 run_view (Some a) (Some d) (x ∷ xs) e = absurd (let z : false ≡ true = e in cc)
 
 pub instance_badge : (views : List View) → is_instance_badge views ≡ true → RunBadge views
 instance_badge [] e = absurd (let z : false ≡ true = e in cc)
-instance_badge (v ∷ []) e = let q = run_view v.it.constants v.it.run v.it.held e in record { view = v; is = refl; constants = q.constants; knows = q.knows; run = q.run; stands = q.stands; held = q.empty }
+instance_badge (v ∷ []) e = let q = run_view v.it.constants v.it.run v.it.held e in record { view = v; is = refl; constants = q.constants; knows = q.knows; run = q.run; run_is = q.run_is; held = q.empty }
 instance_badge (v ∷ (w ∷ vs)) e = absurd (let z : false ≡ true = e in cc)
 
 pub is_badge : (v : View) (a : HallConstants) (d : InstanceData) → v.it.constants ≡ Some a → v.it.run ≡ Some d → v.it.held ≡ [] → is_instance_badge (v ∷ []) ≡ true

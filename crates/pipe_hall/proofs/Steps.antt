@@ -175,7 +175,7 @@ module _ (M : Type 0) (start : HallStart) where
             (w, ap (λ n. get_elem? (set s.views id w) n) (ap number' z ∙ with_here h.board.number i id) ∙ set_here s.views id w (at_within s.views id v at), g)))
             (λ ne. (
             let old : h.seats k ≡ Some d = sym (with_else h.seats i given k ne) ∙ e in
-            let p = h.board.stands k d old in
+            let p = h.board.each_seat k d old in
             let far : h.board.number k ≢ id = λ z. (
             let same : p.0 ≡ v = same_at s.views id p.0 v (subst (λ n. get_elem? s.views n ≡ some p.0) z p.1) at in
             let r : back ≡ Some d = sym run ∙ (sym (ap (λ (u : View). u.it.run) same) ∙ p.2) in
@@ -290,7 +290,7 @@ module _ (M : Type 0) (start : HallStart) where
             (λ d e. r.run d e)
             (λ j u d ne q e. (h.board.right j u q).run d e)
             (λ j d e. (
-            let p = h.board.stands j d e in
+            let p = h.board.each_seat j d e in
             dite (ℕ_discrete (h.board.number j) id)
             (λ z. (
               w,
@@ -357,7 +357,7 @@ module _ (M : Type 0) (start : HallStart) where
       (w, ap (λ n. get_elem? (set s.views id w) n) (ap h.board.number z ∙ (r.run d run).1) ∙ set_here s.views id w (at_within s.views id v at), run' ∙ o)))
       (λ ne. (
       let old : h.seats j ≡ Some f = sym (with_else h.seats i (Some d') j ne) ∙ p in
-      let t = h.board.stands j f old in
+      let t = h.board.each_seat j f old in
       let far : h.board.number j ≢ id = λ z. (
       let same : t.0 ≡ v = same_at s.views id t.0 v (subst (λ n. get_elem? s.views n ≡ some t.0) z t.1) at in
       let o : Some d ≡ Some f = sym run ∙ (sym (ap (λ (u : View). u.it.run) same) ∙ t.2) in

@@ -67,7 +67,7 @@ pub record Board {M : Type 0} (s : State (Slot M) View) (b : BookState) (shard :
   pub homes : length s.homes ≡ width
   pub places : (i : ℕ) → i < 17 → IsPlaced s.words s.homes (place i) (value_at b shard i)
   pub right : (j : ℕ) (v : View) → get_elem? s.views j ≡ some v → IsRightView s.words b shard seats number holder j v.it
-  pub stands : (i : ℕ) (d : InstanceData) → seats i ≡ Some d → (v : View) × (get_elem? s.views (number i) ≡ some v) × (v.it.run ≡ Some d)
+  pub each_seat : (i : ℕ) (d : InstanceData) → seats i ≡ Some d → (v : View) × (get_elem? s.views (number i) ≡ some v) × (v.it.run ≡ Some d)
 
 -- the rule, for a hall that was opened with these constants, after these accesses
 pub record IsHall {M : Type 0} (start : HallStart) (s : State (Slot M) View) : Type 0 where

@@ -13,7 +13,7 @@ pub record RunsAs {S : Type 0} (m : Me S View) (f : TokenFields) : Type 0 where
   pub constants : HallConstants
   pub knows : m.0.it.constants ≡ Some constants
   pub run_data : InstanceData
-  pub stands : m.0.it.run ≡ Some run_data
+  pub run_is : m.0.it.run ≡ Some run_data
   pub fields : run_data.fields ≡ f
   pub held : m.0.it.held ≡ []
   pub slots : m.1 ≡ []

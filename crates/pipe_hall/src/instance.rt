@@ -123,7 +123,7 @@ fn access_of<R: Wait, M: Carrier>(
     ensures trace { TraceAfter cell.0 write trace.old trace.new result }
     ensures fields { fields_of token.new ≡ record (fields_of token.old) { now = now_after token.old.now result } }
     ensures whole { (tree : SyntaxTree) → M.whole tree token.old.payload → M.whole tree token.new.payload }
-    ensures stands { (tree : SyntaxTree) (input : List ℤ) (i : ℕ) (before : List (List ℤ)) → M.stands tree input token.old.payload i before → M.stands tree input token.new.payload i before }
+    ensures ready { (tree : SyntaxTree) (input : List ℤ) (i : ℕ) (before : List (List ℤ)) → M.ready_at tree input token.old.payload i before → M.ready_at tree input token.new.payload i before }
     ensures tie { M.tie token.new.payload ≡ tie_after (M.tie token.old.payload) result }
 {
     let RunSeat { badge } = take_seat_of(&mut token.payload);
@@ -167,7 +167,7 @@ pub(crate) fn access_at<R: Wait, M: Carrier>(
     ensures out { IsSeated (hall_of seat.old.table_id seat.old.me) (fields_of token.new) (M.tie token.new.payload) }
     ensures instance { IsSameInstance (fields_of token.old) (fields_of token.new) (M.tie token.old.payload) (M.tie token.new.payload) }
     ensures whole { (tree : SyntaxTree) → M.whole tree token.old.payload → M.whole tree token.new.payload }
-    ensures stands { (tree : SyntaxTree) (input : List ℤ) (i : ℕ) (before : List (List ℤ)) → M.stands tree input token.old.payload i before → M.stands tree input token.new.payload i before }
+    ensures ready { (tree : SyntaxTree) (input : List ℤ) (i : ℕ) (before : List (List ℤ)) → M.ready_at tree input token.old.payload i before → M.ready_at tree input token.new.payload i before }
     ensures replies { seated_replies (M.tie token.new.payload) ≡ seated_replies (M.tie token.old.payload) }
     ensures access { AccessReturns cell.0 write trace.old trace.new result }
     ensures trace { trace.new ≡ seated_entries (M.tie token.new.payload) }

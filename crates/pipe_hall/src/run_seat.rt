@@ -10,5 +10,5 @@ use atomic_table::Badge;
 #[derive(Drop)]
 pub struct RunSeat {
     pub(crate) badge: Badge<View>,
-    pub ghost stands: { is_instance_badge badge.views ≡ true },
+    pub ghost of_instance: { is_instance_badge badge.views ≡ true },
 }

@@ -88,13 +88,13 @@ impl<'a, M: Carrier> Hall<M> for HallSeat<'a, M> {
         requires trace { trace ≡ seated_entries (M.tie token.payload) }
         requires whole { M.whole (hall_name self.old.hall).tree token.payload }
         requires performs { IsPerformed (pipeline_of (hall_name self.old.hall).tree (hall_name self.old.hall).input) token.iteration (seated_replies (M.tie token.payload)) trace end }
-        requires stands { NamesNextStage end → M.stands (hall_name self.old.hall).tree (hall_name self.old.hall).input token.payload token.iteration (seated_replies (M.tie token.payload) ++ replies_of trace ∷ []) }
+        requires ready { NamesNextStage end → M.ready_at (hall_name self.old.hall).tree (hall_name self.old.hall).input token.payload token.iteration (seated_replies (M.tie token.payload) ++ replies_of trace ∷ []) }
         requires stopped { end ≡ StageEnd.Stopped → (state_after self.old.seen).stopped ≡ true }
         ensures named { hall_name self.new.hall ≡ hall_name self.old.hall }
         ensures sees { Sees self.old.seen self.new.seen (advance_events token.iteration end result) (λ s. AdvanceReturns s token.iteration token.index end result) }
         ensures tokens { Exchanges (tokens_next result) 1 self.old.tokens self.new.tokens }
         ensures seen_runs { ControlRun (hall_name self.new.hall).limit self.new.seen (state_after self.new.seen) }
-        ensures token { IfGo result (IsGivenToken M.stands M.tie (hall_name self.old.hall)) }
+        ensures token { IfGo result (IsGivenToken M.ready_at M.tie (hall_name self.old.hall)) }
         ensures runs { IfGo result (λ t. IsTokenOf self.new.seen (fields_of t)) }
     {
         let hall = self.hall;
@@ -114,7 +114,7 @@ impl<'a, M: Carrier> Hall<M> for HallSeat<'a, M> {
     fn leave_ready<R: Wait>(&mut self, rt: &R, token: FrameToken<M>)
         requires out { IsSeated (hall_name self.old.hall) (fields_of token) (M.tie token.payload) }
         requires fresh { seated_entries (M.tie token.payload) ≡ [] }
-        requires stands { M.stands (hall_name self.old.hall).tree (hall_name self.old.hall).input token.payload token.iteration (seated_replies (M.tie token.payload)) }
+        requires ready { M.ready_at (hall_name self.old.hall).tree (hall_name self.old.hall).input token.payload token.iteration (seated_replies (M.tie token.payload)) }
         ensures named { hall_name self.new.hall ≡ hall_name self.old.hall }
         ensures sees { Sees self.old.seen self.new.seen [] (λ s. Unit {0}) }
         ensures tokens { Exchanges 0 1 self.old.tokens self.new.tokens }

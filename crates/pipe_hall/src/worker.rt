@@ -93,11 +93,11 @@ fn return_token<M: Carrier>(
     requires own { seat.old.table_id ≡ hall.now.table.shared.table_id }
     requires call { (b : BookState) × (back : Option InstanceData) × HoldsBook seat.old.me b back × IsBookCall b back book (Some (new_instance book (fields_of token))) }
     requires constants { seat.old.me.0.it.constants ≡ Some (constants_of book) }
-    requires token { IsGivenBy M.stands M.tie book token }
+    requires token { IsGivenBy M.ready_at M.tie book token }
     ensures own { seat.new.table_id ≡ seat.old.table_id }
     ensures given { seat.new.me ≡ (view_of (without_run (after_book seat.old.me.0.it book None)), []) }
     ensures same { (r : RunSeat) × (result ≡ record token { payload = M.with_seat token.payload (Some r) }) }
-    ensures token { IsGivenToken M.stands M.tie (hall_of seat.old.table_id seat.old.me) result }
+    ensures token { IsGivenToken M.ready_at M.tie (hall_of seat.old.table_id seat.old.me) result }
     ensures runs { IsTokenOf (events_of book.log) (fields_of result) }
 {
     hall.return_book_and_token(seat, book, token)
@@ -116,7 +116,7 @@ pub(crate) fn begin_at<R: Wait, M: Carrier>(
     ensures sees { Sees seat.old.me.0.it.seen seat.new.me.0.it.seen (begin_events result) (λ s. BeginReturns (hall_of seat.old.table_id seat.old.me).limit s result) }
     ensures tokens { Exchanges (tokens_begun result) 0 seat.old.me.0.it.tokens seat.new.me.0.it.tokens }
     ensures runs { IfStarted result (λ t. IsTokenOf seat.new.me.0.it.seen (fields_of t)) }
-    ensures token { IfStarted result (IsGivenToken M.stands M.tie (hall_of seat.old.table_id seat.old.me)) }
+    ensures token { IfStarted result (IsGivenToken M.ready_at M.tie (hall_of seat.old.table_id seat.old.me)) }
 {
     let mut book = take_book(rt, hall, seat);
     let lent = book.get_mut();
@@ -145,7 +145,7 @@ pub(crate) fn check_right_at<R: Wait, M: Carrier>(
     ensures sees { Sees seat.old.me.0.it.seen seat.new.me.0.it.seen (enter_events result) (λ s. EnterReturns s (iteration + 1) result) }
     ensures tokens { Exchanges (tokens_entered result) 0 seat.old.me.0.it.tokens seat.new.me.0.it.tokens }
     ensures runs { IfSome result (λ t. IsTokenOf seat.new.me.0.it.seen (fields_of t)) }
-    ensures token { IfSome result (IsGivenToken M.stands M.tie (hall_of seat.old.table_id seat.old.me)) }
+    ensures token { IfSome result (IsGivenToken M.ready_at M.tie (hall_of seat.old.table_id seat.old.me)) }
 {
     let mut book = take_book(rt, hall, seat);
     let lent = book.get_mut();
@@ -173,7 +173,7 @@ pub(crate) fn rescue_at<R: Wait, M: Carrier>(
     ensures sees { RescueSees (hall_of seat.old.table_id seat.old.me).limit seat.old.me.0.it.seen seat.new.me.0.it.seen result }
     ensures tokens { Exchanges (tokens_rescued result) 0 seat.old.me.0.it.tokens seat.new.me.0.it.tokens }
     ensures runs { IfToken result (λ t. IsTokenOf seat.new.me.0.it.seen (fields_of t)) }
-    ensures token { IfToken result (IsGivenToken M.stands M.tie (hall_of seat.old.table_id seat.old.me)) }
+    ensures token { IfToken result (IsGivenToken M.ready_at M.tie (hall_of seat.old.table_id seat.old.me)) }
 {
     let mut book = take_book(rt, hall, seat);
     let lent = book.get_mut();
@@ -199,7 +199,7 @@ pub(crate) fn leave_ready_at<R: Wait, M: Carrier>(
     requires idle { IsIdle seat.old.me }
     requires out { IsSeated (hall_of seat.old.table_id seat.old.me) (fields_of token) (M.tie token.payload) }
     requires fresh { seated_entries (M.tie token.payload) ≡ [] }
-    requires stands { M.stands (hall_of seat.old.table_id seat.old.me).tree (hall_of seat.old.table_id seat.old.me).input token.payload token.iteration (seated_replies (M.tie token.payload)) }
+    requires ready { M.ready_at (hall_of seat.old.table_id seat.old.me).tree (hall_of seat.old.table_id seat.old.me).input token.payload token.iteration (seated_replies (M.tie token.payload)) }
     ensures own { seat.new.table_id ≡ seat.old.table_id }
     ensures idle { StaysIdle seat.old.me seat.new.me }
     ensures sees { Sees seat.old.me.0.it.seen seat.new.me.0.it.seen [] (λ s. Unit {0}) }
@@ -227,14 +227,14 @@ pub(crate) fn advance_at<R: Wait, M: Carrier>(
     requires trace { trace ≡ seated_entries (M.tie token.payload) }
     requires whole { M.whole (hall_of seat.old.table_id seat.old.me).tree token.payload }
     requires performs { IsPerformed (pipeline_of (hall_of seat.old.table_id seat.old.me).tree (hall_of seat.old.table_id seat.old.me).input) token.iteration (seated_replies (M.tie token.payload)) trace end }
-    requires stands { NamesNextStage end → M.stands (hall_of seat.old.table_id seat.old.me).tree (hall_of seat.old.table_id seat.old.me).input token.payload token.iteration (seated_replies (M.tie token.payload) ++ replies_of trace ∷ []) }
+    requires ready { NamesNextStage end → M.ready_at (hall_of seat.old.table_id seat.old.me).tree (hall_of seat.old.table_id seat.old.me).input token.payload token.iteration (seated_replies (M.tie token.payload) ++ replies_of trace ∷ []) }
     requires stopped { end ≡ StageEnd.Stopped → (state_after seat.old.me.0.it.seen).stopped ≡ true }
     ensures own { seat.new.table_id ≡ seat.old.table_id }
     ensures idle { StaysIdle seat.old.me seat.new.me }
     ensures sees { Sees seat.old.me.0.it.seen seat.new.me.0.it.seen (advance_events token.iteration end result) (λ s. AdvanceReturns s token.iteration token.index end result) }
     ensures tokens { Exchanges (tokens_next result) 1 seat.old.me.0.it.tokens seat.new.me.0.it.tokens }
     ensures runs { IfGo result (λ t. IsTokenOf seat.new.me.0.it.seen (fields_of t)) }
-    ensures token { IfGo result (IsGivenToken M.stands M.tie (hall_of seat.old.table_id seat.old.me)) }
+    ensures token { IfGo result (IsGivenToken M.ready_at M.tie (hall_of seat.old.table_id seat.old.me)) }
 {
     let mut book = take_back(rt, hall, seat, &mut token);
     let lent = book.get_mut();

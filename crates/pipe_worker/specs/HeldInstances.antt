@@ -33,13 +33,13 @@ abbrev pub StopsSeen : Bool → List Event → Type 0
 StopsSeen stopped seen = stopped ≡ true → (state_after seen).stopped ≡ true
 
 -- the token of an instance that has made these accesses and has this end may advance
-pub record MayAdvance {M : Type 0} (Whole : SyntaxTree → M → Type 0) (Stands : SyntaxTree → List ℤ → M → ℕ → List (List ℤ) → Type 0)
+pub record MayAdvance {M : Type 0} (Whole : SyntaxTree → M → Type 0) (ReadyAt : SyntaxTree → List ℤ → M → ℕ → List (List ℤ) → Type 0)
     (tie : M → Tie) (h : HallName) (seen : List Event) (token : FrameToken M) (trace : List Entry) (end : StageEnd) : Type 0 where
   pub out : IsSeated h (fields_of token) (tie token.payload)
   pub entries : trace ≡ seated_entries (tie token.payload)
   pub whole : Whole h.tree token.payload
   pub performs : IsPerformed (pipeline_of h.tree h.input) token.iteration (seated_replies (tie token.payload)) trace end
-  pub stands : NamesNextStage end → Stands h.tree h.input token.payload token.iteration (seated_replies (tie token.payload) ++ replies_of trace ∷ [])
+  pub ready : NamesNextStage end → ReadyAt h.tree h.input token.payload token.iteration (seated_replies (tie token.payload) ++ replies_of trace ∷ [])
   pub stopped : end ≡ Stopped → (state_after seen).stopped ≡ true
 
 -- no hall

@@ -28,10 +28,10 @@ HasMachine None P = ⊥
 HasMachine (Some m) P = P m
 
 -- a machine at the beginning of an instance can run its program
-pub stands_whole : (code : FlatCode) (tree : SyntaxTree) (input : List ℤ) (m : Option MachineState) (i : ℕ) (replies : List (List ℤ))
+pub ready_whole : (code : FlatCode) (tree : SyntaxTree) (input : List ℤ) (m : Option MachineState) (i : ℕ) (replies : List (List ℤ))
     → HasMachine m (λ x. IsAtInstance code tree input x i replies) → HasMachine m (CanRun code tree)
-stands_whole code tree input None i replies h = h
-stands_whole code tree input (Some m) i replies h = h.can
+ready_whole code tree input None i replies h = h
+ready_whole code tree input (Some m) i replies h = h.can
 
 -- machines for code `own` run the hall's program with this code and input
 pub record CanDrive (own : FlatCode) (h : HallName) (code : FlatCode) (input : List ℤ) : Type 0 where

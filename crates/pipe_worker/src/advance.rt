@@ -30,10 +30,10 @@ pub fn run_and_advance<R: Wait, M: Runs + Drop, H: Hall<M>>(
     token: FrameToken<M>,
 ) -> (Next<M>, StageEnd)
     requires drives { CanDrive M.code (H.named hall.old) code.now input.now }
-    requires given { IsGivenToken M.stands M.tie (H.named hall.old) token }
+    requires given { IsGivenToken M.ready_at M.tie (H.named hall.old) token }
     ensures named { H.named hall.new ≡ H.named hall.old }
     ensures tokens { Exchanges (tokens_next result.0) 1 (H.tokens hall.old) (H.tokens hall.new) }
-    ensures token { IfGo result.0 (IsGivenToken M.stands M.tie (H.named hall.old)) }
+    ensures token { IfGo result.0 (IsGivenToken M.ready_at M.tie (H.named hall.old)) }
 {
     let lent = LentHall { hall };
     let (lent, token, trace, end) = run_instance::<R, M, H, Brand>(

@@ -58,13 +58,13 @@ pub fn run_instance<'a, R: Wait, M: Runs + Drop, H: Hall<M>, J: RunningInstance>
     requires named { H.named lent.hall.now ≡ J.named }
     requires counts { H.tokens lent.hall.now ≡ J.counts }
     requires drives { CanDrive M.code J.named code.now input.now }
-    requires given { IsGivenToken M.stands M.tie J.named token }
+    requires given { IsGivenToken M.ready_at M.tie J.named token }
     requires iteration { token.iteration ≡ J.iteration }
     requires replies { seated_replies (M.tie token.payload) ≡ J.replies }
     ensures reference { result.0.hall.ghost_name ≡ lent.entry.hall.ghost_name }
     ensures named { H.named result.0.hall.now ≡ J.named }
     ensures tokens { Exchanges 0 0 J.counts (H.tokens result.0.hall.now) }
-    ensures advances { MayAdvance M.whole M.stands M.tie J.named (H.seen result.0.hall.now) result.1 result.2 result.3 }
+    ensures advances { MayAdvance M.whole M.ready_at M.tie J.named (H.seen result.0.hall.now) result.1 result.2 result.3 }
 {
     let mut machine = token.payload.take_machine();
     let mut memory = InstanceMemory::<R, M, H, J>::new(alloc, rt, lent, token);

@@ -18,10 +18,10 @@ pub trait WorkTest<M: Stands + Drop>: TaskTest<Task<M>> {
     ghost named: { HallName };
 
     /// A task in a deque is one of the hall.
-    ghost takes: { (t : Task M) → Self.meets t → IsTask (IsGivenToken M.stands M.tie named) t };
+    ghost takes: { (t : Task M) → Self.meets t → IsTask (IsGivenToken M.ready_at M.tie named) t };
 
     /// Each task of the hall may be in a deque.
-    ghost gives: { (t : Task M) → IsTask (IsGivenToken M.stands M.tie named) t → Self.meets t };
+    ghost gives: { (t : Task M) → IsTask (IsGivenToken M.ready_at M.tie named) t → Self.meets t };
 
     /// How many tokens a task with this number has.
     ghost weight: { ℕ → ℕ };

@@ -102,7 +102,7 @@ impl<M: Runs + Drop, Q: WorkTest<M>> Worker<M, Q> {
     // Keeps a token as a task, or leaves it to others if the deque refuses it.
     fn keep<R: Wait, H: Hall<M>>(&mut self, rt: &R, hall: &mut H, token: FrameToken<M>)
         requires named { H.named hall.old ≡ Q.named }
-        requires given { IsGivenToken M.stands M.tie Q.named token }
+        requires given { IsGivenToken M.ready_at M.tie Q.named token }
         ensures named { H.named hall.new ≡ Q.named }
         ensures tokens { KeepsTokens Q.weight 1 0 (H.tokens hall.old) (ends_of self.old) (H.tokens hall.new) (ends_of self.new) }
         ensures worker { IsSameWorker self.old self.new }
@@ -165,7 +165,7 @@ impl<M: Runs + Drop, Q: WorkTest<M>> Worker<M, Q> {
     )
         requires named { H.named hall.old ≡ Q.named }
         requires drives { CanDrive M.code Q.named code.now input.now }
-        requires given { IsGivenToken M.stands M.tie Q.named token }
+        requires given { IsGivenToken M.ready_at M.tie Q.named token }
         ensures named { H.named hall.new ≡ Q.named }
         ensures tokens { KeepsTokens Q.weight 1 0 (H.tokens hall.old) (ends_of self.old) (H.tokens hall.new) (ends_of self.new) }
         ensures worker { IsSameWorker self.old self.new }

@@ -70,11 +70,11 @@ impl<B: PlayedCode> Stands for Runner<B> {
 
     ghost whole = { λ tree x. CanRun B.code B.cells tree x.machine };
 
-    ghost stands = { λ tree input x i replies. IsAtInstance B.code B.cells tree input x.machine i replies };
+    ghost ready_at = { λ tree input x i replies. IsAtInstance B.code B.cells tree input x.machine i replies };
 
     ghost tie = { λ x. no_tie };
 
-    ghost stands_whole = { λ tree input x i replies h. h.whole };
+    ghost ready_whole = { λ tree input x i replies h. h.whole };
 }
 
 impl<B: PlayedCode, L: ListWriter + Drop> Payload<L> for Runner<B> {

@@ -71,7 +71,7 @@ impl<B: PlayedCode> RunningIteration<B> {
         requires code { code.now ≡ B.code }
         requires cells { cells.now.shard.cells ≡ B.cells }
         requires few { cells.now.shard.cells ≤ 4294967296 }
-        requires stands { (tree : SyntaxTree) × ((replies : List (List ℤ)) × IsAtInstance B.code B.cells tree input.now token.payload.machine token.iteration replies) }
+        requires at_instance { (tree : SyntaxTree) × ((replies : List (List ℤ)) × IsAtInstance B.code B.cells tree input.now token.payload.machine token.iteration replies) }
         ensures instance { (tree : SyntaxTree) (replies : List (List ℤ)) → IsAtInstance B.code B.cells tree input.now token.payload.machine token.iteration replies
             → IsRunningIteration B.code B.cells tree input.now replies result }
         ensures fields { result.token ≡ fields_of token }

@@ -45,9 +45,9 @@ out_row (f ∷ fs) (r ∷ rows) (suc i) h out =
     let q = out_row fs rows i h.1 out in
     record { frame = q.frame; is = q.is; runs = q.runs }
 
-pub out_tokens_run : {M : Type 0} (Whole : SyntaxTree → M → Type 0) (Stands : SyntaxTree → List ℤ → M → ℕ → List (List ℤ) → Type 0) (tie : M → Tie) (b : Tables M)
-    → IsBook Whole Stands tie b → (state_of (book_state b)).stopped ≡ false → (i : ℕ) → IsOut (book_state b) i → IsRunning (state_of (book_state b)) i
-out_tokens_run Whole Stands tie b h going i out =
+pub out_tokens_run : {M : Type 0} (Whole : SyntaxTree → M → Type 0) (ReadyAt : SyntaxTree → List ℤ → M → ℕ → List (List ℤ) → Type 0) (tie : M → Tie) (b : Tables M)
+    → IsBook Whole ReadyAt tie b → (state_of (book_state b)).stopped ≡ false → (i : ℕ) → IsOut (book_state b) i → IsRunning (state_of (book_state b)) i
+out_tokens_run Whole ReadyAt tie b h going i out =
     let rows = subst (λ s. AreRows (not s) (state_of (book_state b)).frames b.rows) going h.rows.each in
     let q = out_row (state_of (book_state b)).frames b.rows i rows out in
     record { frame = q.frame; is = q.is; runs = q.runs }

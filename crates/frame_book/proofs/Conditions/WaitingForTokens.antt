@@ -102,9 +102,9 @@ out_by {M} b i rows runs ready =
     by_token (Some t) e = absurd (ready (record { fields = fields_of t; kept = e; runs = runs }))
 
 -- if no iteration can go on and none may begin, and the run is not over, a token is out
-pub a_token_is_out : {M : Type 0} (Whole : SyntaxTree → M → Type 0) (Stands : SyntaxTree → List ℤ → M → ℕ → List (List ℤ) → Type 0) (tie : M → Tie) (b : Tables M)
-    → IsBook Whole Stands tie b → (state_of (book_state b)).stopped ≡ false → ((i : ℕ) → CanGoOn (IsReady (book_state b)) (state_of (book_state b)) i → ⊥)
+pub a_token_is_out : {M : Type 0} (Whole : SyntaxTree → M → Type 0) (ReadyAt : SyntaxTree → List ℤ → M → ℕ → List (List ℤ) → Type 0) (tie : M → Tie) (b : Tables M)
+    → IsBook Whole ReadyAt tie b → (state_of (book_state b)).stopped ≡ false → ((i : ℕ) → CanGoOn (IsReady (book_state b)) (state_of (book_state b)) i → ⊥)
     → (MayBegin b.limit (state_of (book_state b)) (length (state_of (book_state b)).frames) → ⊥) → (IsFinished (state_of (book_state b)) → ⊥) → (i : ℕ) × IsOut (book_state b) i
-a_token_is_out Whole Stands tie b h going none begins over =
+a_token_is_out Whole ReadyAt tie b h going none begins over =
     let found = one_runs b.limit (state_of (book_state b)) b.closed h.closed h.logged.sound.sound h.some going (λ i m. none i (inr m)) begins over in
     (found.0, out_by b found.0 h.rows.each found.1 (λ r. none found.0 (inl r)))

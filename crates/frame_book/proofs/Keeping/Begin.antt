@@ -130,8 +130,8 @@ joined_head : (columns : List (List Node)) (n : ℕ) → 0 ≡ left_joined colum
 joined_head columns zero = refl
 joined_head columns (suc n) = refl
 
-module _ {M : Type 0} (Whole : SyntaxTree → M → Type 0) (Stands : SyntaxTree → List ℤ → M → ℕ → List (List ℤ) → Type 0) (tie : M → Tie)
-    (b : Tables M) (h : IsBook Whole Stands tie b) (going : b.stopped ≡ false) (unclosed : b.closed ≡ false) (ended : LastEndedFirstInstance (state_after (events_of b.ledger.log)).frames)
+module _ {M : Type 0} (Whole : SyntaxTree → M → Type 0) (ReadyAt : SyntaxTree → List ℤ → M → ℕ → List (List ℤ) → Type 0) (tie : M → Tie)
+    (b : Tables M) (h : IsBook Whole ReadyAt tie b) (going : b.stopped ≡ false) (unclosed : b.closed ≡ false) (ended : LastEndedFirstInstance (state_after (events_of b.ledger.log)).frames)
     (home : List M) (m : M) (taken : b.pool.home ≡ home ++ m ∷ []) where
   abbrev pub c : State
   c = state_after (events_of b.ledger.log)
@@ -270,11 +270,11 @@ pub nil_of_length : {X : Type 0} → (xs : List X) → length xs ≡ 0 → xs �
 nil_of_length [] e = refl
 nil_of_length (x ∷ xs) e = absurd (omega (arith, e))
 
-module _ {M : Type 0} (Whole : SyntaxTree → M → Type 0) (Stands : SyntaxTree → List ℤ → M → ℕ → List (List ℤ) → Type 0) (tie : M → Tie)
-    (b : Tables M) (h : IsBook Whole Stands tie b) (going : b.stopped ≡ false) (unclosed : b.closed ≡ false) (ended : LastEndedFirstInstance (state_after (events_of b.ledger.log)).frames)
+module _ {M : Type 0} (Whole : SyntaxTree → M → Type 0) (ReadyAt : SyntaxTree → List ℤ → M → ℕ → List (List ℤ) → Type 0) (tie : M → Tie)
+    (b : Tables M) (h : IsBook Whole ReadyAt tie b) (going : b.stopped ≡ false) (unclosed : b.closed ≡ false) (ended : LastEndedFirstInstance (state_after (events_of b.ledger.log)).frames)
     (home : List M) (m : M) (taken : b.pool.home ≡ home ++ m ∷ []) (spare : List (IterationRow M)) (r : IterationRow M) (popped : b.spare ≡ spare ++ r ∷ []) where
   abbrev pub q_marks : Marks
-  q_marks = marks Whole Stands tie b h going unclosed ended home m taken
+  q_marks = marks Whole ReadyAt tie b h going unclosed ended home m taken
 
   abbrev pub y : IterationRow M
   y = with_instance (pos 0) q_marks r
@@ -303,7 +303,7 @@ module _ {M : Type 0} (Whole : SyntaxTree → M → Type 0) (Stands : SyntaxTree
     rows = b.rows ++ y ∷ [];
     spare = spare;
     pool = record { home = home; size = b.pool.size };
-    orders = orders Whole Stands tie b h going unclosed ended home m taken;
+    orders = orders Whole ReadyAt tie b h going unclosed ended home m taken;
     ledger = record { log = log; room = b.ledger.room };
   }
 
@@ -352,7 +352,7 @@ module _ {M : Type 0} (Whole : SyntaxTree → M → Type 0) (Stands : SyntaxTree
   places_are = map-append token_state_of b.rows (y ∷ []) ∙ ap (λ o. map token_state_of b.rows ++ Rattle.frame_book.specs.Tables.token_state_by o Running ∷ []) token_none
 
   grown : Grew s.frames fs (starts_of (events_of b.ledger.log)) (at (length b.rows) 0)
-  grown = grew Whole Stands tie b h going unclosed ended home m taken
+  grown = grew Whole ReadyAt tie b h going unclosed ended home m taken
 
   at_new : get_or (map (λ (z : IterationRow M). z.marks) (b.rows ++ y ∷ [])) (length b.rows) [] ≡ q_marks ∷ []
   at_new = ap (λ l. get_or l (length b.rows) []) (map-append (λ (z : IterationRow M). z.marks) b.rows (y ∷ []))
@@ -363,7 +363,7 @@ module _ {M : Type 0} (Whole : SyntaxTree → M → Type 0) (Stands : SyntaxTree
       let here : frame_at fs (length b.rows) ≡ Some fresh_frame = ap (frame_at fs) (sym same) ∙ frame_at_last s.frames fresh_frame in
       let w : length (nodes_at (columns_of_frames fs) (length b.rows)) ≡ 1 = ap length (nodes_at_frame fs (length b.rows) fresh_frame here) in
       let z : k ≡ 0 = omega (arith, l, w) in
-      ap (λ ms. get_or ms k no_marks) at_new ∙ (ap (λ i. get_or (q_marks ∷ []) i no_marks) z ∙ (marks_are Whole Stands tie b h going unclosed ended home m taken ∙ ap (instance_marks (columns_of_frames fs) news (length b.rows)) (sym z)))
+      ap (λ ms. get_or ms k no_marks) at_new ∙ (ap (λ i. get_or (q_marks ∷ []) i no_marks) z ∙ (marks_are Whole ReadyAt tie b h going unclosed ended home m taken ∙ ap (instance_marks (columns_of_frames fs) news (length b.rows)) (sym z)))
 
   marks_of_old : (j k : ℕ) → j ≢ length b.rows → k < length (nodes_at (columns_of_frames fs) j) → get_or (get_or (map (λ (z : IterationRow M). z.marks) (b.rows ++ y ∷ [])) j []) k no_marks ≡ instance_marks (columns_of_frames fs) news j k
   marks_of_old j k o l =
@@ -408,22 +408,22 @@ module _ {M : Type 0} (Whole : SyntaxTree → M → Type 0) (Stands : SyntaxTree
     ];
   }
 
-  tokens_keep : (j : ℕ) (f : Frame) (t : FrameToken M) → frame_at fs j ≡ Some f → token_at (b.rows ++ y ∷ []) j ≡ Some t → IsKeptToken (Stands (tree_of b.program) b.input) tie (identities_of_orders b.orders) (traces ++ [] ∷ []) news (next_state s e) j f t
+  tokens_keep : (j : ℕ) (f : Frame) (t : FrameToken M) → frame_at fs j ≡ Some f → token_at (b.rows ++ y ∷ []) j ≡ Some t → IsKeptToken (ReadyAt (tree_of b.program) b.input) tie (identities_of_orders b.orders) (traces ++ [] ∷ []) news (next_state s e) j f t
   tokens_keep j f t is q =
       let w : token_at b.rows j ≡ Some t = sym (token_at_push b.rows y j token_none) ∙ q in
       elim (frame_at_begun s.frames j f is) [
         | inl new ↦ (let z = new.0 in let x : None ≡ Some t = sym (token_at_past b.rows j (omega (arith, z, same))) ∙ w in absurd (cc))
-        | inr old ↦ kept_grows s.frames fs (starts_of (events_of b.ledger.log)) (at (length b.rows) 0) h.logged.sound grown (Stands (tree_of b.program) b.input) tie (identities_of_orders b.orders) traces (traces ++ [] ∷ []) s (next_state s e) j f t refl refl old.1
+        | inr old ↦ kept_grows s.frames fs (starts_of (events_of b.ledger.log)) (at (length b.rows) 0) h.logged.sound grown (ReadyAt (tree_of b.program) b.input) tie (identities_of_orders b.orders) traces (traces ++ [] ∷ []) s (next_state s e) j f t refl refl old.1
             (get_or_empty traces j) (passed_push s.frames j f old.1) (h.tokens.tokens (sym h.stopped ∙ going) j f t old.1 w)
       ]
 
-  pub begin_keeps : IsBook Whole Stands tie with_begin
+  pub begin_keeps : IsBook Whole ReadyAt tie with_begin
   unfolding p
   begin_keeps =
       let long = length_with b.ledger.log 0 e in
-      let may' = may Whole Stands tie b h going unclosed ended home m taken in
+      let may' = may Whole ReadyAt tie b h going unclosed ended home m taken in
       let running' : s.stopped ≡ false = sym h.stopped ∙ going in
-      after_event Whole Stands tie with_begin b.ledger.log 0 e news refl refl record {
+      after_event Whole ReadyAt tie with_begin b.ledger.log 0 e news refl refl record {
         sized = sized_pop b.rows spare r y refl p b.orders.down.capacity b.orders.right.capacity b.ledger.room (subst (λ l. Rattle.frame_book.specs.Rooms.IsSized p b.rows l b.orders.down.capacity b.orders.right.capacity b.ledger.room) popped h.sized);
         logged = record {
           run = ControlRunThen h.logged.run e refl running' may';
@@ -451,12 +451,12 @@ module _ {M : Type 0} (Whole : SyntaxTree → M → Type 0) (Stands : SyntaxTree
         actions = subst (λ ts. HasActions p log ts (next_state s e)) (sym traces_are) actions_keep;
         counted = λ j u. counted_same j ∙ ap (λ ts. length (get_or ts j [])) (sym traces_are);
         tokens = record {
-          tokens = λ go j f t is q. subst (λ ts. IsKeptToken (Stands (tree_of b.program) b.input) tie (identities_of_orders b.orders) ts news (next_state s e) j f t) (sym traces_are) (tokens_keep j f t is q);
+          tokens = λ go j f t is q. subst (λ ts. IsKeptToken (ReadyAt (tree_of b.program) b.input) tie (identities_of_orders b.orders) ts news (next_state s e) j f t) (sym traces_are) (tokens_keep j f t is q);
           nows = λ j t q. (let a = h.tokens.nows j t (sym (token_at_push b.rows y j token_none) ∙ q) in omega (arith, a, long));
-          at_home = stay_home Whole Stands tie b h going unclosed ended home m taken;
+          at_home = stay_home Whole ReadyAt tie b h going unclosed ended home m taken;
         };
-        down = down_grows s.frames fs (starts_of (events_of b.ledger.log)) (at (length b.rows) 0) h.logged.sound grown b.orders.down.log _ h.down (down_is Whole Stands tie b h going unclosed ended home m taken);
-        right = right_grows s.frames fs (starts_of (events_of b.ledger.log)) (at (length b.rows) 0) h.logged.sound grown b.orders.right.log _ h.right (right_is Whole Stands tie b h going unclosed ended home m taken);
+        down = down_grows s.frames fs (starts_of (events_of b.ledger.log)) (at (length b.rows) 0) h.logged.sound grown b.orders.down.log _ h.down (down_is Whole ReadyAt tie b h going unclosed ended home m taken);
+        right = right_grows s.frames fs (starts_of (events_of b.ledger.log)) (at (length b.rows) 0) h.logged.sound grown b.orders.right.log _ h.right (right_is Whole ReadyAt tie b h going unclosed ended home m taken);
         stopped = h.stopped;
         closed = (let q = closed_push s.frames in ((λ x. q.0 (h.closed.0 x)), (λ x. h.closed.1 (q.1 x))));
         alive = (let a = alive_push s.frames in let z = h.alive in let w = ap length taken ∙ length_push home m in omega (arith, a, z, w));
@@ -473,25 +473,25 @@ module _ {M : Type 0} (Whole : SyntaxTree → M → Type 0) (Stands : SyntaxTree
   begin_view = rw (traces_are, places_are) refl
 
   -- the token
-  pub begin_given : (m' : M) → Stands (tree_of b.program) b.input m' (length b.rows) [] → tie m' ≡ record { lists = seen_whole (tie m).lists with_begin.orders; seat = (tie m).seat }
-      → IsGivenBy Stands tie (book_state with_begin) (record { iteration = length b.rows; index = 0; now = 1 + max (last_ticket b.ledger.log) 0; joined = 0; folded = None; marks = q_marks; payload = m' })
-  begin_given m' stands tied =
+  pub begin_given : (m' : M) → ReadyAt (tree_of b.program) b.input m' (length b.rows) [] → tie m' ≡ record { lists = seen_whole (tie m).lists with_begin.orders; seat = (tie m).seat }
+      → IsGivenBy ReadyAt tie (book_state with_begin) (record { iteration = length b.rows; index = 0; now = 1 + max (last_ticket b.ledger.log) 0; joined = 0; folded = None; marks = q_marks; payload = m' })
+  begin_given m' ready tied =
       let t : FrameToken M = record { iteration = length b.rows; index = 0; now = 1 + max (last_ticket b.ledger.log) 0; joined = 0; folded = None; marks = q_marks; payload = m' } in
       let long = length_with b.ledger.log 0 e in
       let last = h.last in
-      let at_place = placed Whole Stands tie b h going unclosed ended home m taken in
-      let ld = length-append b.orders.down.log (down_at Whole Stands tie b h going unclosed ended home m taken ∷ (1 + length b.orders.down.log) ∷ []) in
-      let lr = length-append b.orders.right.log (right_at Whole Stands tie b h going unclosed ended home m taken ∷ (1 + length b.orders.right.log) ∷ []) in
-      let dl = down_length Whole Stands tie b h going unclosed ended home m taken in
-      let rl = right_length Whole Stands tie b h going unclosed ended home m taken in
-      let was = was_home Whole Stands tie b h going unclosed ended home m taken in
+      let at_place = placed Whole ReadyAt tie b h going unclosed ended home m taken in
+      let ld = length-append b.orders.down.log (down_at Whole ReadyAt tie b h going unclosed ended home m taken ∷ (1 + length b.orders.down.log) ∷ []) in
+      let lr = length-append b.orders.right.log (right_at Whole ReadyAt tie b h going unclosed ended home m taken ∷ (1 + length b.orders.right.log) ∷ []) in
+      let dl = down_length Whole ReadyAt tie b h going unclosed ended home m taken in
+      let rl = right_length Whole ReadyAt tie b h going unclosed ended home m taken in
+      let was = was_home Whole ReadyAt tie b h going unclosed ended home m taken in
       record {
         out = record {
           out = ap (λ ps. get_or ps (length b.rows) Rattle.frame_book.specs.BookStates.Spent) places_are ∙ get_or_push (map token_state_of b.rows) Out Rattle.frame_book.specs.BookStates.Spent (length b.rows) (length-map b.rows token_state_of);
           token = token_at_events (events_of log) (next_state s e) news (fields_of t) (ap state_after (events_of_with b.ledger.log 0 e) ∙ state_after-push (events_of b.ledger.log) e) (ap starts_of (events_of_with b.ledger.log 0 e) ∙ starts_of-push (events_of b.ledger.log) e) record {
             running = record { frame = fresh_frame; is = ap (frame_at fs) (sym same) ∙ frame_at_last s.frames fresh_frame; runs = refl };
             index = refl;
-            marks = marks_are Whole Stands tie b h going unclosed ended home m taken;
+            marks = marks_are Whole ReadyAt tie b h going unclosed ended home m taken;
             joined = joined_head (columns_of_frames fs) (length b.rows);
             folded = λ k x. absurd x;
           };
@@ -499,8 +499,8 @@ module _ {M : Type 0} (Whole : SyntaxTree → M → Type 0) (Stands : SyntaxTree
         };
         payload = record {
           belongs = subst (λ z. BelongsTo z (identities_of_orders b.orders)) (sym tied) (names_seen (tie m).lists with_begin.orders (identities_of_orders b.orders) was.belongs);
-          stands = subst (λ ts. Stands (tree_of b.program) b.input m' (length b.rows) (map replies_of ts)) (sym (ap (λ ts. get_or ts (length b.rows) []) traces_are ∙ (get_or_push traces [] [] (length b.rows) (length-map b.rows (λ (z : IterationRow M). z.traces))))) stands;
+          ready = subst (λ ts. ReadyAt (tree_of b.program) b.input m' (length b.rows) (map replies_of ts)) (sym (ap (λ ts. get_or ts (length b.rows) []) traces_are ∙ (get_or_push traces [] [] (length b.rows) (length-map b.rows (λ (z : IterationRow M). z.traces))))) ready;
         };
-        knows = subst (λ z. KnowsMarks z q_marks) (sym tied) (knows_new (tie m).lists with_begin.orders (length b.orders.down.log) (down_at Whole Stands tie b h going unclosed ended home m taken) (right_at Whole Stands tie b h going unclosed ended home m taken) (omega (arith, ld)) (omega (arith, lr, dl, rl)) at_place.down at_place.right);
+        knows = subst (λ z. KnowsMarks z q_marks) (sym tied) (knows_new (tie m).lists with_begin.orders (length b.orders.down.log) (down_at Whole ReadyAt tie b h going unclosed ended home m taken) (right_at Whole ReadyAt tie b h going unclosed ended home m taken) (omega (arith, ld)) (omega (arith, lr, dl, rl)) at_place.down at_place.right);
         parts = ap (λ ts. length (map replies_of (get_or ts (length b.rows) []))) traces_are ∙ ap (λ ts. length (map replies_of ts)) (get_or_push traces [] [] (length b.rows) (length-map b.rows (λ (z : IterationRow M). z.traces)));
       }

@@ -58,8 +58,8 @@ use Rattle.frame_book.proofs.StartedInstances.StartMarks.{parent_marks, takes_ri
 use Rattle.frame_book.proofs.StartedInstances.GrownMarks.{down_grows, right_grows, marks_grow, marks_same, kept_grows, names_seen, knows_new, length_entries}
 use Rattle.frame_book.proofs.BookLogs.TokensOfStates.{token_at_events}
 
-module _ {M : Type 0} (Whole : SyntaxTree → M → Type 0) (Stands : SyntaxTree → List ℤ → M → ℕ → List (List ℤ) → Type 0) (tie : M → Tie)
-    (b : Tables M) (h : IsBook Whole Stands tie b) (i : ℕ) (going : (state_after (events_of b.ledger.log)).stopped ≡ false) (may : MayEnter (state_after (events_of b.ledger.log)) i)
+module _ {M : Type 0} (Whole : SyntaxTree → M → Type 0) (ReadyAt : SyntaxTree → List ℤ → M → ℕ → List (List ℤ) → Type 0) (tie : M → Tie)
+    (b : Tables M) (h : IsBook Whole ReadyAt tie b) (i : ℕ) (going : (state_after (events_of b.ledger.log)).stopped ≡ false) (may : MayEnter (state_after (events_of b.ledger.log)) i)
     (r : IterationRow M) (at_row : row_at b.rows i ≡ Some r) where
   abbrev pub c : State
   c = state_after (events_of b.ledger.log)
@@ -237,7 +237,7 @@ module _ {M : Type 0} (Whole : SyntaxTree → M → Type 0) (Stands : SyntaxTree
 
   module _ (t : FrameToken M) (held : r.token ≡ Some t) where
     -- the token as it was kept
-    pub kept : IsKeptToken (Stands (tree_of b.program) b.input) tie (identities_of_orders b.orders) traces starts c i f t
+    pub kept : IsKeptToken (ReadyAt (tree_of b.program) b.input) tie (identities_of_orders b.orders) traces starts c i f t
     kept = h.tokens.tokens going i f t may.is (token_of_row b.rows i r at_row ∙ held)
 
     pub index_is : length (nodes_at (own_columns c) i) ≡ suc t.index
@@ -247,7 +247,7 @@ module _ {M : Type 0} (Whole : SyntaxTree → M → Type 0) (Stands : SyntaxTree
     pub now_below : t.now < 2 ^ 63
     now_below =
         let a = h.tokens.nows i t (token_of_row b.rows i r at_row ∙ held) in
-        let l = Rattle.frame_book.proofs.Keeping.Stop.log_room Whole Stands tie b h (h.stopped ∙ going) in
+        let l = Rattle.frame_book.proofs.Keeping.Stop.log_room Whole ReadyAt tie b h (h.stopped ∙ going) in
         let s = h.sized.log_room in
         let z = h.sized.few in
         omega (arith, a, l, s, z)
@@ -432,18 +432,18 @@ module _ {M : Type 0} (Whole : SyntaxTree → M → Type 0) (Stands : SyntaxTree
         ];
       }
 
-      tokens_keep : (j : ℕ) (g : Frame) (t' : FrameToken M) → frame_at fs j ≡ Some g → token_at (set b.rows i y) j ≡ Some t' → IsKeptToken (Stands (tree_of b.program) b.input) tie (identities_of_orders b.orders) traces news (next_state c e) j g t'
+      tokens_keep : (j : ℕ) (g : Frame) (t' : FrameToken M) → frame_at fs j ≡ Some g → token_at (set b.rows i y) j ≡ Some t' → IsKeptToken (ReadyAt (tree_of b.program) b.input) tie (identities_of_orders b.orders) traces news (next_state c e) j g t'
       tokens_keep j g t' is q = elim (frame_at_moved c.frames i j f u g may.is is) [
         | inl here ↦ (let z : None ≡ Some t' = sym (token_at_set b.rows i y within) ∙ (ap (token_at (set b.rows i y)) (sym here.0) ∙ q) in absurd (cc))
-        | inr there ↦ kept_grows c.frames fs starts (at i (suc t.index)) h.logged.sound grew (Stands (tree_of b.program) b.input) tie (identities_of_orders b.orders) traces traces c (next_state c e) j g t' refl refl there.1 refl
+        | inr there ↦ kept_grows c.frames fs starts (at i (suc t.index)) h.logged.sound grew (ReadyAt (tree_of b.program) b.input) tie (identities_of_orders b.orders) traces traces c (next_state c e) j g t' refl refl there.1 refl
             (λ m l. left_passed_moved c.frames i f u may.is move j m l) (h.tokens.tokens going j g t' there.1 (sym (token_at_other b.rows i j y there.0) ∙ q))
       ]
 
-      pub enter_keeps : IsBook Whole Stands tie with_enter
+      pub enter_keeps : IsBook Whole ReadyAt tie with_enter
       enter_keeps =
           let long = length_with b.ledger.log t.now e in
           let now = h.tokens.nows i t (token_of_row b.rows i r at_row ∙ held) in
-          after_event Whole Stands tie with_enter b.ledger.log t.now e news refl (ap (λ k. starts ++ at i k ∷ []) index_is) record {
+          after_event Whole ReadyAt tie with_enter b.ledger.log t.now e news refl (ap (λ k. starts ++ at i k ∷ []) index_is) record {
             sized = sized_set (pipeline_of (tree_of b.program) b.input) b.rows b.spare i r y b.orders.down.capacity b.orders.right.capacity b.ledger.room at_row refl h.sized;
             logged = record {
               run = ControlRunThen h.logged.run e refl going may;
@@ -470,7 +470,7 @@ module _ {M : Type 0} (Whole : SyntaxTree → M → Type 0) (Stands : SyntaxTree
             actions = subst (λ ts. HasActions (pipeline_of (tree_of b.program) b.input) log ts (next_state c e)) (sym traces_are) actions_keep;
             counted = λ j q. ap length (ends_same j) ∙ (h.counted j (inl going) ∙ ap (λ ts. length (get_or ts j [])) (sym traces_are));
             tokens = record {
-              tokens = λ go j g t' is q. subst (λ ts. IsKeptToken (Stands (tree_of b.program) b.input) tie (identities_of_orders b.orders) ts news (next_state c e) j g t') (sym traces_are) (tokens_keep j g t' is q);
+              tokens = λ go j g t' is q. subst (λ ts. IsKeptToken (ReadyAt (tree_of b.program) b.input) tie (identities_of_orders b.orders) ts news (next_state c e) j g t') (sym traces_are) (tokens_keep j g t' is q);
               nows = λ j t' q. elim (cases_eq j i) [
                 | inl z ↦ (let x : None ≡ Some t' = sym (token_at_set b.rows i y within) ∙ (ap (token_at (set b.rows i y)) (sym z) ∙ q) in absurd (cc))
                 | inr m ↦ (let a = h.tokens.nows j t' (sym (token_at_other b.rows i j y m) ∙ q) in omega (arith, a, long))
@@ -503,10 +503,10 @@ module _ {M : Type 0} (Whole : SyntaxTree → M → Type 0) (Stands : SyntaxTree
       folded_was = ap kept_folded (sym place_was)
 
       -- the token
-      pub enter_given : (m' : M) → ((replies : List (List ℤ)) → Stands (tree_of b.program) b.input t.payload i replies → Stands (tree_of b.program) b.input m' i replies)
+      pub enter_given : (m' : M) → ((replies : List (List ℤ)) → ReadyAt (tree_of b.program) b.input t.payload i replies → ReadyAt (tree_of b.program) b.input m' i replies)
           → tie m' ≡ record { lists = seen_whole (tie t.payload).lists with_enter.orders; seat = (tie t.payload).seat }
-          → IsGivenBy Stands tie (book_state with_enter) (record { iteration = t.iteration; index = t.index + 1; now = 1 + max (last_ticket b.ledger.log) t.now; joined = unwrap_or left t.joined; folded = t.folded; marks = marks; payload = m' })
-      enter_given m' stands tied =
+          → IsGivenBy ReadyAt tie (book_state with_enter) (record { iteration = t.iteration; index = t.index + 1; now = 1 + max (last_ticket b.ledger.log) t.now; joined = unwrap_or left t.joined; folded = t.folded; marks = marks; payload = m' })
+      enter_given m' ready tied =
           let one : t.index + 1 ≡ suc t.index = omega arith in
           let long = length_with b.ledger.log t.now e in
           let last = h.last in
@@ -515,8 +515,8 @@ module _ {M : Type 0} (Whole : SyntaxTree → M → Type 0) (Stands : SyntaxTree
           let lr = length-append b.orders.right.log (right_at ∷ (1 + length b.orders.right.log) ∷ []) in
           let wide = length-map b.rows token_state_of in
           let w = within in
-          subst (λ d. IsGivenBy Stands tie (book_state with_enter) (record { iteration = d; index = t.index + 1; now = 1 + max (last_ticket b.ledger.log) t.now; joined = unwrap_or left t.joined; folded = t.folded; marks = marks; payload = m' })) (sym kept.iteration)
-          (subst (λ n. IsGivenBy Stands tie (book_state with_enter) (record { iteration = i; index = n; now = 1 + max (last_ticket b.ledger.log) t.now; joined = unwrap_or left t.joined; folded = t.folded; marks = marks; payload = m' })) (sym one) (record {
+          subst (λ d. IsGivenBy ReadyAt tie (book_state with_enter) (record { iteration = d; index = t.index + 1; now = 1 + max (last_ticket b.ledger.log) t.now; joined = unwrap_or left t.joined; folded = t.folded; marks = marks; payload = m' })) (sym kept.iteration)
+          (subst (λ n. IsGivenBy ReadyAt tie (book_state with_enter) (record { iteration = i; index = n; now = 1 + max (last_ticket b.ledger.log) t.now; joined = unwrap_or left t.joined; folded = t.folded; marks = marks; payload = m' })) (sym one) (record {
             out = record {
               out = ap (λ ps. get_or ps i Spent) (map-set token_state_of b.rows i y) ∙ get_or-set_same (map token_state_of b.rows) i Out Spent (omega (arith, w, wide));
               token = token_at_events (events_of log) (next_state c e) news _ (ap state_after (events_of_with b.ledger.log t.now e) ∙ state_after-push (events_of b.ledger.log) e) (ap starts_of (events_of_with b.ledger.log t.now e) ∙ (starts_of-push (events_of b.ledger.log) e ∙ ap (λ k. starts ++ at i k ∷ []) index_is)) record {
@@ -530,7 +530,7 @@ module _ {M : Type 0} (Whole : SyntaxTree → M → Type 0) (Stands : SyntaxTree
             };
             payload = record {
               belongs = subst (λ z. BelongsTo z (identities_of_orders b.orders)) (sym tied) (names_seen (tie t.payload).lists with_enter.orders (identities_of_orders b.orders) kept.belongs);
-              stands = subst (λ ts. Stands (tree_of b.program) b.input m' i (map replies_of (get_or ts i []))) (sym traces_are) (stands (map replies_of (get_or traces i [])) kept.stands);
+              ready = subst (λ ts. ReadyAt (tree_of b.program) b.input m' i (map replies_of (get_or ts i []))) (sym traces_are) (ready (map replies_of (get_or traces i [])) kept.ready);
             };
             knows = subst (λ z. KnowsMarks z marks) (sym tied) (knows_new (tie t.payload).lists with_enter.orders (length b.orders.down.log) down_at right_at (omega (arith, ld)) (omega (arith, lr, down_length, right_length)) placed.down placed.right);
             parts = (

@@ -119,9 +119,9 @@ closed_ended fs i f u was now e a w n = (
     go false true p r q = record { iteration = i; frame = u f; is = frame_at_updated fs i f u e; closes = n.0 r }
     go false false p r q = absurd (let z : false ≡ true = q in cc)
 
-module _ {M : Type 0} (Whole : SyntaxTree → M → Type 0) (Stands : SyntaxTree → List ℤ → M → ℕ → List (List ℤ) → Type 0) (tie : M → Tie)
+module _ {M : Type 0} (Whole : SyntaxTree → M → Type 0) (ReadyAt : SyntaxTree → List ℤ → M → ℕ → List (List ℤ) → Type 0) (tie : M → Tie)
     (b : Tables M) (t : FrameToken M) (r : IterationRow M) (x : ColumnEnd) (shut : Bool) (trace : List Entry)
-    (h : IsBook Whole Stands tie b) (at : row_at b.rows t.iteration ≡ Some r) (going : (state_after (events_of b.ledger.log)).stopped ≡ false)
+    (h : IsBook Whole ReadyAt tie b) (at : row_at b.rows t.iteration ≡ Some r) (going : (state_after (events_of b.ledger.log)).stopped ≡ false)
     (out : IsOutOf (book_state b) (fields_of t))
     (performs : Performs ((pipeline_in (book_state b)).behaviour t.iteration) (actions_at (book_state b) t.iteration ++ (accessed trace ++ Ended x ∷ [])))
     (whole : Whole (tree_of b.program) t.payload) (names : BelongsTo (tie t.payload) (identities_of_orders b.orders)) (shuts : IsTrue shut ↔ (closes_at_once x ≡ true) × (t.index ≡ 0)) where
@@ -244,8 +244,8 @@ module _ {M : Type 0} (Whole : SyntaxTree → M → Type 0) (Stands : SyntaxTree
   }
 
   -- another token that is kept
-  other_keeps : (j : ℕ) (g : Frame) (t' : FrameToken M) → j ≢ t.iteration → IsKeptToken (Stands (tree_of b.program) b.input) tie (identities_of_orders b.orders) traces (starts_of (events_of b.ledger.log)) c j g t'
-      → IsKeptToken (Stands (tree_of b.program) b.input) tie (identities_of_orders b.orders) (set traces t.iteration (get_or traces t.iteration [] ++ trace ∷ [])) (starts_of (events_of b.ledger.log)) (next_state c (Finish t.iteration x)) j g t'
+  other_keeps : (j : ℕ) (g : Frame) (t' : FrameToken M) → j ≢ t.iteration → IsKeptToken (ReadyAt (tree_of b.program) b.input) tie (identities_of_orders b.orders) traces (starts_of (events_of b.ledger.log)) c j g t'
+      → IsKeptToken (ReadyAt (tree_of b.program) b.input) tie (identities_of_orders b.orders) (set traces t.iteration (get_or traces t.iteration [] ++ trace ∷ [])) (starts_of (events_of b.ledger.log)) (next_state c (Finish t.iteration x)) j g t'
   other_keeps j g t' m q = record {
     iteration = q.iteration;
     index = q.index;
@@ -254,13 +254,13 @@ module _ {M : Type 0} (Whole : SyntaxTree → M → Type 0) (Stands : SyntaxTree
     marks = λ e. q.marks e ∙ ap (λ cols. instance_marks cols (starts_of (events_of b.ledger.log)) j t'.index) (sym columns_stay);
     knows = q.knows;
     belongs = q.belongs;
-    stands = subst (Stands (tree_of b.program) b.input t'.payload j) (sym (ap (map replies_of) (get_or-set_other traces t.iteration j (get_or traces t.iteration [] ++ trace ∷ []) [] m))) q.stands;
+    ready = subst (ReadyAt (tree_of b.program) b.input t'.payload j) (sym (ap (map replies_of) (get_or-set_other traces t.iteration j (get_or traces t.iteration [] ++ trace ∷ []) [] m))) q.ready;
   }
 
   shuts_it : IsTrue shut ↔ ClosesLoop (Completed x) f.nodes
   shuts_it = let w = out.token.index in ((λ y. (let q = shuts.0 y in let z = q.1 in (q.0, omega (arith, w, z)))), (λ y. (let z = y.1 in shuts.1 (y.0, omega (arith, w, z)))))
 
-  pub finish_keeps : IsBook Whole Stands tie with_finish
+  pub finish_keeps : IsBook Whole ReadyAt tie with_finish
   finish_keeps =
       let log = b.ledger.log in
       let i = t.iteration in
@@ -269,7 +269,7 @@ module _ {M : Type 0} (Whole : SyntaxTree → M → Type 0) (Stands : SyntaxTree
       let long = length_with log t.now e in
       let last = h.last in
       let l = row_at_within b.rows i r at in
-      after_event Whole Stands tie with_finish log t.now e starts refl (append-nil starts) record {
+      after_event Whole ReadyAt tie with_finish log t.now e starts refl (append-nil starts) record {
         sized = sized_set _ b.rows b.spare i r row _ _ _ at refl h.sized;
         logged = record {
           run = ControlRunThen h.logged.run e refl going may;
@@ -289,7 +289,7 @@ module _ {M : Type 0} (Whole : SyntaxTree → M → Type 0) (Stands : SyntaxTree
         actions = subst (λ ts. HasActions p (with_events log t.now (e ∷ [])) ts (next_state c e)) (sym traces_are) actions_keep;
         counted = λ j q. subst (λ ts. length (Rattle.pipe_model.specs.Runs.TicketLogs.end_actions j (with_events log t.now (e ∷ []))) ≡ length (get_or ts j [])) (sym traces_are) (counted_keep j q);
         tokens = record {
-          tokens = λ go j g t' is q. subst (λ ts. IsKeptToken (Stands (tree_of b.program) b.input) tie (identities_of_orders b.orders) ts starts (next_state c e) j g t') (sym traces_are) (token_keeps j g t' is q);
+          tokens = λ go j g t' is q. subst (λ ts. IsKeptToken (ReadyAt (tree_of b.program) b.input) tie (identities_of_orders b.orders) ts starts (next_state c e) j g t') (sym traces_are) (token_keeps j g t' is q);
           nows = λ j t' q. elim (cases_eq j i) [
             | inl s ↦ (let a : None ≡ Some t' = sym none ∙ (sym (token_at_set b.rows i row l) ∙ (ap (token_at (set b.rows i row)) (sym s) ∙ q)) in absurd (cc))
             | inr m ↦ (let a = h.tokens.nows j t' (sym (token_at_other b.rows i j row m) ∙ q) in omega (arith, a, long))
@@ -310,7 +310,7 @@ module _ {M : Type 0} (Whole : SyntaxTree → M → Type 0) (Stands : SyntaxTree
       }
     where
       token_keeps : (j : ℕ) (g : Frame) (t' : FrameToken M) → frame_at (next_state c (Finish t.iteration x)).frames j ≡ Some g → token_at (set b.rows t.iteration row) j ≡ Some t'
-          → IsKeptToken (Stands (tree_of b.program) b.input) tie (identities_of_orders b.orders) (set traces t.iteration (get_or traces t.iteration [] ++ trace ∷ [])) (starts_of (events_of b.ledger.log)) (next_state c (Finish t.iteration x)) j g t'
+          → IsKeptToken (ReadyAt (tree_of b.program) b.input) tie (identities_of_orders b.orders) (set traces t.iteration (get_or traces t.iteration [] ++ trace ∷ [])) (starts_of (events_of b.ledger.log)) (next_state c (Finish t.iteration x)) j g t'
       token_keeps j g t' is q = elim (frame_at_moved c.frames t.iteration j f u g out.token.running.is is) [
         | inl here ↦ (let a : None ≡ Some t' = sym none ∙ (sym (token_at_set b.rows t.iteration row (row_at_within b.rows t.iteration r at)) ∙ (ap (token_at (set b.rows t.iteration row)) (sym here.0) ∙ q)) in absurd (cc))
         | inr there ↦ other_keeps j g t' there.0 (h.tokens.tokens going j g t' there.1 (sym (token_at_other b.rows t.iteration j row there.0) ∙ q))

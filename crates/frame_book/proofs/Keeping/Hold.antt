@@ -52,9 +52,9 @@ end_accessed (Accessed a ∷ xs) tr = end_accessed xs tr
 end_accessed (Staged j m ∷ xs) tr = end_accessed xs tr
 end_accessed (Ended f ∷ xs) tr = refl
 
-module _ {M : Type 0} (Whole : SyntaxTree → M → Type 0) (Stands : SyntaxTree → List ℤ → M → ℕ → List (List ℤ) → Type 0) (tie : M → Tie)
+module _ {M : Type 0} (Whole : SyntaxTree → M → Type 0) (ReadyAt : SyntaxTree → List ℤ → M → ℕ → List (List ℤ) → Type 0) (tie : M → Tie)
     (b : Tables M) (t : FrameToken M) (r : IterationRow M) (trace : List Entry)
-    (h : IsBook Whole Stands tie b) (at : row_at b.rows t.iteration ≡ Some r) (halted : (state_after (events_of b.ledger.log)).stopped ≡ true)
+    (h : IsBook Whole ReadyAt tie b) (at : row_at b.rows t.iteration ≡ Some r) (halted : (state_after (events_of b.ledger.log)).stopped ≡ true)
     (out : IsOutOf (book_state b) (fields_of t))
     (performs : Performs ((pipeline_in (book_state b)).behaviour t.iteration) (actions_at (book_state b) t.iteration ++ accessed trace)) where
   abbrev pub c : State
@@ -122,7 +122,7 @@ module _ {M : Type 0} (Whole : SyntaxTree → M → Type 0) (Stands : SyntaxTree
       let fits = row_matches.fits in
       omega (arith, old, fits)
 
-  pub hold_keeps : IsBook Whole Stands tie tables_held
+  pub hold_keeps : IsBook Whole ReadyAt tie tables_held
   hold_keeps = record {
     sized = sized_set _ b.rows b.spare t.iteration r row _ _ _ at refl h.sized;
     logged = h.logged;

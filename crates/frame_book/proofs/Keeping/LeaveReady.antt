@@ -55,14 +55,14 @@ sized_set p rs spare i r y down right log e q h =
       log_room = (let a = h.log_room in omega (arith, a, t));
     }
 
-module _ {M : Type 0} (Whole : SyntaxTree → M → Type 0) (Stands : SyntaxTree → List ℤ → M → ℕ → List (List ℤ) → Type 0) (tie : M → Tie) where
+module _ {M : Type 0} (Whole : SyntaxTree → M → Type 0) (ReadyAt : SyntaxTree → List ℤ → M → ℕ → List (List ℤ) → Type 0) (tie : M → Tie) where
   -- the tables with a token left ready
   abbrev pub with_ready : Tables M → FrameToken M → IterationRow M → Tables M
   with_ready b t r = record b { rows = set b.rows t.iteration (record r { token = Some t }) }
 
-  pub ready_keeps : (b : Tables M) (t : FrameToken M) (r : IterationRow M) → IsBook Whole Stands tie b → row_at b.rows t.iteration ≡ Some r
-      → IsOutOf (book_state b) (fields_of t) → IsPayloadOf Stands tie (book_state b) t.iteration (replies_at (book_state b) t.iteration) t.payload → KnowsMarks (tie t.payload) t.marks
-      → IsBook Whole Stands tie (with_ready b t r)
+  pub ready_keeps : (b : Tables M) (t : FrameToken M) (r : IterationRow M) → IsBook Whole ReadyAt tie b → row_at b.rows t.iteration ≡ Some r
+      → IsOutOf (book_state b) (fields_of t) → IsPayloadOf ReadyAt tie (book_state b) t.iteration (replies_at (book_state b) t.iteration) t.payload → KnowsMarks (tie t.payload) t.marks
+      → IsBook Whole ReadyAt tie (with_ready b t r)
   ready_keeps b t r h at out pay knows =
       let i = t.iteration in
       let c : State = state_after (events_of b.ledger.log) in
@@ -96,16 +96,16 @@ module _ {M : Type 0} (Whole : SyntaxTree → M → Type 0) (Stands : SyntaxTree
           | inr n ↦ (let z = h.counted j (subst (IsUnheld c.stopped) (token_at_other b.rows i j y n) u) in z ∙ ap (λ ts. length (get_or ts j [])) (sym traces))
         ];
         tokens = record {
-          tokens = λ going j f t' e k. subst (λ ts. IsKeptToken (Stands (tree_of b.program) b.input) tie (identities_of_orders b.orders) ts (starts_of (events_of b.ledger.log)) c j f t') (sym traces) (elim (cases_eq j i) [
+          tokens = λ going j f t' e k. subst (λ ts. IsKeptToken (ReadyAt (tree_of b.program) b.input) tie (identities_of_orders b.orders) ts (starts_of (events_of b.ledger.log)) c j f t') (sym traces) (elim (cases_eq j i) [
             | inl s ↦ (
                 let a : Some t ≡ Some t' = sym (token_at_set b.rows i y within) ∙ (ap (token_at (set b.rows i y)) (sym s) ∙ k) in
                 let z : t ≡ t' = cc in
                 let e' : frame_at c.frames i ≡ Some f = subst (λ n. frame_at c.frames n ≡ Some f) s e in
                 let w : run.frame ≡ f = (let q : Some run.frame ≡ Some f = sym run.is ∙ e' in cc) in
-                subst (λ n. IsKeptToken (Stands (tree_of b.program) b.input) tie (identities_of_orders b.orders) (map (λ (z : IterationRow M). z.traces) b.rows) (starts_of (events_of b.ledger.log)) c n f t') (sym s)
-                (subst (λ x. IsKeptToken (Stands (tree_of b.program) b.input) tie (identities_of_orders b.orders) (map (λ (z : IterationRow M). z.traces) b.rows) (starts_of (events_of b.ledger.log)) c i f x) z
-                (subst (λ x. IsKeptToken (Stands (tree_of b.program) b.input) tie (identities_of_orders b.orders) (map (λ (z : IterationRow M). z.traces) b.rows) (starts_of (events_of b.ledger.log)) c i x t) w
-                (record { iteration = refl; index = out.token.index; joined = out.token.joined; folded = out.token.folded; marks = λ q. out.token.marks; knows = λ q. knows; belongs = pay.belongs; stands = pay.stands }))))
+                subst (λ n. IsKeptToken (ReadyAt (tree_of b.program) b.input) tie (identities_of_orders b.orders) (map (λ (z : IterationRow M). z.traces) b.rows) (starts_of (events_of b.ledger.log)) c n f t') (sym s)
+                (subst (λ x. IsKeptToken (ReadyAt (tree_of b.program) b.input) tie (identities_of_orders b.orders) (map (λ (z : IterationRow M). z.traces) b.rows) (starts_of (events_of b.ledger.log)) c i f x) z
+                (subst (λ x. IsKeptToken (ReadyAt (tree_of b.program) b.input) tie (identities_of_orders b.orders) (map (λ (z : IterationRow M). z.traces) b.rows) (starts_of (events_of b.ledger.log)) c i x t) w
+                (record { iteration = refl; index = out.token.index; joined = out.token.joined; folded = out.token.folded; marks = λ q. out.token.marks; knows = λ q. knows; belongs = pay.belongs; ready = pay.ready }))))
             | inr n ↦ h.tokens.tokens going j f t' e (sym (token_at_other b.rows i j y n) ∙ k)
           ]);
           nows = λ j t' k. elim (cases_eq j i) [

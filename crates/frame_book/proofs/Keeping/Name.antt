@@ -104,12 +104,12 @@ left_passed_moved fs i f u e w (suc j) m l = λ g is. elim (frame_at_moved fs i 
   | inr there ↦ l g there.1
 ]
 
-module _ {M : Type 0} (Whole : SyntaxTree → M → Type 0) (Stands : SyntaxTree → List ℤ → M → ℕ → List (List ℤ) → Type 0) (tie : M → Tie)
+module _ {M : Type 0} (Whole : SyntaxTree → M → Type 0) (ReadyAt : SyntaxTree → List ℤ → M → ℕ → List (List ℤ) → Type 0) (tie : M → Tie)
     (b : Tables M) (t : FrameToken M) (r : IterationRow M) (k : Kind) (n : ℤ) (trace : List Entry)
-    (h : IsBook Whole Stands tie b) (at : row_at b.rows t.iteration ≡ Some r) (going : (state_after (events_of b.ledger.log)).stopped ≡ false)
+    (h : IsBook Whole ReadyAt tie b) (at : row_at b.rows t.iteration ≡ Some r) (going : (state_after (events_of b.ledger.log)).stopped ≡ false)
     (out : IsOutOf (book_state b) (fields_of t))
     (performs : Performs ((pipeline_in (book_state b)).behaviour t.iteration) (actions_at (book_state b) t.iteration ++ (accessed trace ++ Staged k n ∷ [])))
-    (pay : IsPayloadOf Stands tie (book_state b) t.iteration (replies_at (book_state b) t.iteration ++ replies_of trace ∷ []) t.payload) where
+    (pay : IsPayloadOf ReadyAt tie (book_state b) t.iteration (replies_at (book_state b) t.iteration ++ replies_of trace ∷ []) t.payload) where
   -- the state before
   abbrev pub c : State
   c = state_after (events_of b.ledger.log)
@@ -229,7 +229,7 @@ module _ {M : Type 0} (Whole : SyntaxTree → M → Type 0) (Stands : SyntaxTree
   }
 
   -- the token that is kept
-  kept_keeps : IsKeptToken (Stands (tree_of b.program) b.input) tie (identities_of_orders b.orders) (set traces t.iteration (get_or traces t.iteration [] ++ trace ∷ [])) (starts_of (events_of b.ledger.log)) (next_state c (Advance t.iteration k n)) t.iteration (u f) kept
+  kept_keeps : IsKeptToken (ReadyAt (tree_of b.program) b.input) tie (identities_of_orders b.orders) (set traces t.iteration (get_or traces t.iteration [] ++ trace ∷ [])) (starts_of (events_of b.ledger.log)) (next_state c (Advance t.iteration k n)) t.iteration (u f) kept
   kept_keeps = record {
     iteration = refl;
     index = out.token.index;
@@ -238,12 +238,12 @@ module _ {M : Type 0} (Whole : SyntaxTree → M → Type 0) (Stands : SyntaxTree
     marks = λ e. absurd (let q : Pending k n ≡ Running = e in cc);
     knows = λ e. absurd (let q : Pending k n ≡ Running = e in cc);
     belongs = pay.belongs;
-    stands = subst (Stands (tree_of b.program) b.input t.payload t.iteration) (sym (ap (map replies_of) (get_or-set_same traces t.iteration (get_or traces t.iteration [] ++ trace ∷ []) [] within) ∙ map-append replies_of (get_or traces t.iteration []) (trace ∷ []))) pay.stands;
+    ready = subst (ReadyAt (tree_of b.program) b.input t.payload t.iteration) (sym (ap (map replies_of) (get_or-set_same traces t.iteration (get_or traces t.iteration [] ++ trace ∷ []) [] within) ∙ map-append replies_of (get_or traces t.iteration []) (trace ∷ []))) pay.ready;
   }
 
   -- another token that is kept
-  other_keeps : (j : ℕ) (g : Frame) (t' : FrameToken M) → j ≢ t.iteration → IsKeptToken (Stands (tree_of b.program) b.input) tie (identities_of_orders b.orders) traces (starts_of (events_of b.ledger.log)) c j g t'
-      → IsKeptToken (Stands (tree_of b.program) b.input) tie (identities_of_orders b.orders) (set traces t.iteration (get_or traces t.iteration [] ++ trace ∷ [])) (starts_of (events_of b.ledger.log)) (next_state c (Advance t.iteration k n)) j g t'
+  other_keeps : (j : ℕ) (g : Frame) (t' : FrameToken M) → j ≢ t.iteration → IsKeptToken (ReadyAt (tree_of b.program) b.input) tie (identities_of_orders b.orders) traces (starts_of (events_of b.ledger.log)) c j g t'
+      → IsKeptToken (ReadyAt (tree_of b.program) b.input) tie (identities_of_orders b.orders) (set traces t.iteration (get_or traces t.iteration [] ++ trace ∷ [])) (starts_of (events_of b.ledger.log)) (next_state c (Advance t.iteration k n)) j g t'
   other_keeps j g t' m q = record {
     iteration = q.iteration;
     index = q.index;
@@ -252,10 +252,10 @@ module _ {M : Type 0} (Whole : SyntaxTree → M → Type 0) (Stands : SyntaxTree
     marks = λ e. q.marks e ∙ ap (λ cols. instance_marks cols (starts_of (events_of b.ledger.log)) j t'.index) (sym columns_stay);
     knows = q.knows;
     belongs = q.belongs;
-    stands = subst (Stands (tree_of b.program) b.input t'.payload j) (sym (ap (map replies_of) (get_or-set_other traces t.iteration j (get_or traces t.iteration [] ++ trace ∷ []) [] m))) q.stands;
+    ready = subst (ReadyAt (tree_of b.program) b.input t'.payload j) (sym (ap (map replies_of) (get_or-set_other traces t.iteration j (get_or traces t.iteration [] ++ trace ∷ []) [] m))) q.ready;
   }
 
-  pub name_keeps : IsBook Whole Stands tie with_name
+  pub name_keeps : IsBook Whole ReadyAt tie with_name
   name_keeps =
       let log = b.ledger.log in
       let i = t.iteration in
@@ -264,7 +264,7 @@ module _ {M : Type 0} (Whole : SyntaxTree → M → Type 0) (Stands : SyntaxTree
       let long = length_with log t.now e in
       let last = h.last in
       let l = row_at_within b.rows i r at in
-      after_event Whole Stands tie with_name log t.now e starts refl (append-nil starts) record {
+      after_event Whole ReadyAt tie with_name log t.now e starts refl (append-nil starts) record {
         sized = sized_set _ b.rows b.spare i r row _ _ _ at refl h.sized;
         logged = record {
           run = ControlRunThen h.logged.run e refl going may;
@@ -284,7 +284,7 @@ module _ {M : Type 0} (Whole : SyntaxTree → M → Type 0) (Stands : SyntaxTree
         actions = subst (λ ts. HasActions p (with_events log t.now (e ∷ [])) ts (next_state c e)) (sym traces_are) actions_keep;
         counted = λ j q. subst (λ ts. length (Rattle.pipe_model.specs.Runs.TicketLogs.end_actions j (with_events log t.now (e ∷ []))) ≡ length (get_or ts j [])) (sym traces_are) (counted_keep j q);
         tokens = record {
-          tokens = λ go j g t' is q. subst (λ ts. IsKeptToken (Stands (tree_of b.program) b.input) tie (identities_of_orders b.orders) ts starts (next_state c e) j g t') (sym traces_are) (token_keeps j g t' is q);
+          tokens = λ go j g t' is q. subst (λ ts. IsKeptToken (ReadyAt (tree_of b.program) b.input) tie (identities_of_orders b.orders) ts starts (next_state c e) j g t') (sym traces_are) (token_keeps j g t' is q);
           nows = λ j t' q. elim (cases_eq j i) [
             | inl s ↦ (
                 let a : Some kept ≡ Some t' = sym (token_at_set b.rows i row l) ∙ (ap (token_at (set b.rows i row)) (sym s) ∙ q) in
@@ -310,14 +310,14 @@ module _ {M : Type 0} (Whole : SyntaxTree → M → Type 0) (Stands : SyntaxTree
       }
     where
       token_keeps : (j : ℕ) (g : Frame) (t' : FrameToken M) → frame_at (next_state c (Advance t.iteration k n)).frames j ≡ Some g → token_at (set b.rows t.iteration row) j ≡ Some t'
-          → IsKeptToken (Stands (tree_of b.program) b.input) tie (identities_of_orders b.orders) (set traces t.iteration (get_or traces t.iteration [] ++ trace ∷ [])) (starts_of (events_of b.ledger.log)) (next_state c (Advance t.iteration k n)) j g t'
+          → IsKeptToken (ReadyAt (tree_of b.program) b.input) tie (identities_of_orders b.orders) (set traces t.iteration (get_or traces t.iteration [] ++ trace ∷ [])) (starts_of (events_of b.ledger.log)) (next_state c (Advance t.iteration k n)) j g t'
       token_keeps j g t' is q = elim (frame_at_moved c.frames t.iteration j f u g out.token.running.is is) [
         | inl here ↦ (
             let a : Some kept ≡ Some t' = sym (token_at_set b.rows t.iteration row (row_at_within b.rows t.iteration r at)) ∙ (ap (token_at (set b.rows t.iteration row)) (sym here.0) ∙ q) in
             let z : kept ≡ t' = cc in
-            subst (λ m. IsKeptToken (Stands (tree_of b.program) b.input) tie (identities_of_orders b.orders) (set traces t.iteration (get_or traces t.iteration [] ++ trace ∷ [])) (starts_of (events_of b.ledger.log)) (next_state c (Advance t.iteration k n)) m g t') (sym here.0)
-            (subst (λ x. IsKeptToken (Stands (tree_of b.program) b.input) tie (identities_of_orders b.orders) (set traces t.iteration (get_or traces t.iteration [] ++ trace ∷ [])) (starts_of (events_of b.ledger.log)) (next_state c (Advance t.iteration k n)) t.iteration x t') (sym here.1)
-            (subst (λ x. IsKeptToken (Stands (tree_of b.program) b.input) tie (identities_of_orders b.orders) (set traces t.iteration (get_or traces t.iteration [] ++ trace ∷ [])) (starts_of (events_of b.ledger.log)) (next_state c (Advance t.iteration k n)) t.iteration (u f) x) z kept_keeps)))
+            subst (λ m. IsKeptToken (ReadyAt (tree_of b.program) b.input) tie (identities_of_orders b.orders) (set traces t.iteration (get_or traces t.iteration [] ++ trace ∷ [])) (starts_of (events_of b.ledger.log)) (next_state c (Advance t.iteration k n)) m g t') (sym here.0)
+            (subst (λ x. IsKeptToken (ReadyAt (tree_of b.program) b.input) tie (identities_of_orders b.orders) (set traces t.iteration (get_or traces t.iteration [] ++ trace ∷ [])) (starts_of (events_of b.ledger.log)) (next_state c (Advance t.iteration k n)) t.iteration x t') (sym here.1)
+            (subst (λ x. IsKeptToken (ReadyAt (tree_of b.program) b.input) tie (identities_of_orders b.orders) (set traces t.iteration (get_or traces t.iteration [] ++ trace ∷ [])) (starts_of (events_of b.ledger.log)) (next_state c (Advance t.iteration k n)) t.iteration (u f) x) z kept_keeps)))
         | inr there ↦ other_keeps j g t' there.0 (h.tokens.tokens going j g t' there.1 (sym (token_at_other b.rows t.iteration j row there.0) ∙ q))
       ]
 

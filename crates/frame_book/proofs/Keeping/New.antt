@@ -60,7 +60,7 @@ total_same : {X : Type 0} → (m : X → ℕ) (n : ℕ) (x : X) → total m (rep
 total_same m zero x = omega arith
 total_same m (suc n) x = let h = total_same m n x in let e : suc n * m x ≡ m x + n * m x = grind arith in omega (arith, h, e)
 
-module _ {M : Type 0} (Whole : SyntaxTree → M → Type 0) (Stands : SyntaxTree → List ℤ → M → ℕ → List (List ℤ) → Type 0) (tie : M → Tie)
+module _ {M : Type 0} (Whole : SyntaxTree → M → Type 0) (ReadyAt : SyntaxTree → List ℤ → M → ℕ → List (List ℤ) → Type 0) (tie : M → Tie)
     (program : Program) (input : List ℤ) (limit : ℕ) (planned : IsPlannedProgram (tree_of program) input) (some : 0 < limit) (home : List M) (many : length home ≡ limit)
     (o : OrderPair) (whole : All (λ m. Whole (tree_of program) m × BelongsTo (tie m) (identities_of_orders o)) home) (down : o.down.log ≡ []) (right : o.right.log ≡ [])
     (down_room : 2 * most_instances (tree_of program) < o.down.capacity) (right_room : 2 * most_instances (tree_of program) < o.right.capacity) (room : ℕ) (wide : natural program.limits.iterations + 1 ≤ room) where
@@ -103,7 +103,7 @@ module _ {M : Type 0} (Whole : SyntaxTree → M → Type 0) (Stands : SyntaxTree
       let e : total (λ (r : IterationRow M). r.room) (reverse spare) ≡ most_instances (tree_of program) = a ∙ (b ∙ (let z : total (λ (r : IterationRow M). r.room) (empty_row {M = M} 1 ∷ []) ≡ 1 = refl in ap₂ (λ p q. p + q) d z)) in
       omega (arith, e)
 
-  pub new_keeps : IsBook Whole Stands tie tables
+  pub new_keeps : IsBook Whole ReadyAt tie tables
   new_keeps =
       let t = rooms_in in
       let few = planned.few in

@@ -15,8 +15,8 @@ use Rattle.frame_book.proofs.Actions.RepliesLeft.{performs_next}
 use Rattle.frame_book.proofs.Iterations.FrameRows.{token_of_row}
 use Rattle.frame_book.proofs.Keeping.LeaveReady.{out_row}
 
-module _ {M : Type 0} (Whole : SyntaxTree → M → Type 0) (Stands : SyntaxTree → List ℤ → M → ℕ → List (List ℤ) → Type 0) (tie : M → Tie)
-    (b : Tables M) (t : FrameToken M) (r : IterationRow M) (h : IsBook Whole Stands tie b) (at : row_at b.rows t.iteration ≡ Some r)
+module _ {M : Type 0} (Whole : SyntaxTree → M → Type 0) (ReadyAt : SyntaxTree → List ℤ → M → ℕ → List (List ℤ) → Type 0) (tie : M → Tie)
+    (b : Tables M) (t : FrameToken M) (r : IterationRow M) (h : IsBook Whole ReadyAt tie b) (at : row_at b.rows t.iteration ≡ Some r)
     (out : IsOutOf (book_state b) (fields_of t)) where
   going : trace_end (actions_in b.ledger.log (book_state b).traces t.iteration) ≡ None
   going = (h.actions.matches t.iteration out.token.running.frame out.token.running.is).end ∙ ap end_of_status out.token.running.runs

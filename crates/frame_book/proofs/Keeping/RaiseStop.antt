@@ -100,15 +100,15 @@ rise_raised log least h = λ i j d l w.
     let q = h i j d l w' in
     omega (arith, a, b, q)
 
-module _ {M : Type 0} (Whole : SyntaxTree → M → Type 0) (Stands : SyntaxTree → List ℤ → M → ℕ → List (List ℤ) → Type 0) (tie : M → Tie)
-    (b : Tables M) (h : IsBook Whole Stands tie b) (least : ℕ) (bound : least ≤ 2 ^ 62 + length b.ledger.log) (some : 0 < length b.ledger.log) where
+module _ {M : Type 0} (Whole : SyntaxTree → M → Type 0) (ReadyAt : SyntaxTree → List ℤ → M → ℕ → List (List ℤ) → Type 0) (tie : M → Tie)
+    (b : Tables M) (h : IsBook Whole ReadyAt tie b) (least : ℕ) (bound : least ≤ 2 ^ 62 + length b.ledger.log) (some : 0 < length b.ledger.log) where
   abbrev pub with_raise : Tables M
   with_raise = record b { ledger = record { log = with_last_raised b.ledger.log least; room = b.ledger.room } }
 
-  pub raise_keeps : IsBook Whole Stands tie with_raise
+  pub raise_keeps : IsBook Whole ReadyAt tie with_raise
   raise_keeps =
       let n = length_raised b.ledger.log least in
-      at_events Whole Stands tie with_raise (events_of b.ledger.log) (starts_of (events_of b.ledger.log)) (state_after (events_of b.ledger.log)) (events_raised b.ledger.log least) refl refl record {
+      at_events Whole ReadyAt tie with_raise (events_of b.ledger.log) (starts_of (events_of b.ledger.log)) (state_after (events_of b.ledger.log)) (events_raised b.ledger.log least) refl refl record {
         sized = h.sized;
         logged = h.logged;
         rows = h.rows;

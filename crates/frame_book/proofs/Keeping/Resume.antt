@@ -82,8 +82,8 @@ resumes_by_entering v i f k n e s =
     let z : Enter i ∷ [] ≡ resume_events (frame_at (state_of v).frames i) i = sym (ap (λ o. resume_events o i) e ∙ ap (λ w. pending_events w i) s) in
     ap (λ es. record v { log = with_events v.log (Rattle.frame_book.specs.CallEffects.kept_now (Rattle.frame_book.specs.BookStates.item_or Spent v.tokens i)) es; tokens = set v.tokens i Out }) z
 
-module _ {M : Type 0} (Whole : SyntaxTree → M → Type 0) (Stands : SyntaxTree → List ℤ → M → ℕ → List (List ℤ) → Type 0) (tie : M → Tie)
-    (b : Tables M) (h : IsBook Whole Stands tie b) (i : ℕ) (going : (state_after (events_of b.ledger.log)).stopped ≡ false)
+module _ {M : Type 0} (Whole : SyntaxTree → M → Type 0) (ReadyAt : SyntaxTree → List ℤ → M → ℕ → List (List ℤ) → Type 0) (tie : M → Tie)
+    (b : Tables M) (h : IsBook Whole ReadyAt tie b) (i : ℕ) (going : (state_after (events_of b.ledger.log)).stopped ≡ false)
     (r : IterationRow M) (at_row : row_at b.rows i ≡ Some r) (f : Frame) (is : frame_at (state_after (events_of b.ledger.log)).frames i ≡ Some f) (runs : f.status ≡ Running) (t : FrameToken M) (held : r.token ≡ Some t) where
   abbrev pub c : State
   c = state_after (events_of b.ledger.log)
@@ -107,10 +107,10 @@ module _ {M : Type 0} (Whole : SyntaxTree → M → Type 0) (Stands : SyntaxTree
   traces_are : map (λ (z : IterationRow M). z.traces) (set b.rows i r0) ≡ traces
   traces_are = map_set_same (λ z. z.traces) b.rows i r r0 at_row refl
 
-  pub kept : IsKeptToken (Stands (tree_of b.program) b.input) tie (identities_of_orders b.orders) traces (starts_of (events_of b.ledger.log)) c i f t
+  pub kept : IsKeptToken (ReadyAt (tree_of b.program) b.input) tie (identities_of_orders b.orders) traces (starts_of (events_of b.ledger.log)) c i f t
   kept = h.tokens.tokens going i f t is (token_of_row b.rows i r at_row ∙ held)
 
-  pub resume_keeps : IsBook Whole Stands tie with_resume
+  pub resume_keeps : IsBook Whole ReadyAt tie with_resume
   resume_keeps = record {
     sized = sized_set (pipeline_of (tree_of b.program) b.input) b.rows b.spare i r r0 b.orders.down.capacity b.orders.right.capacity b.ledger.room at_row refl h.sized;
     logged = h.logged;
@@ -129,7 +129,7 @@ module _ {M : Type 0} (Whole : SyntaxTree → M → Type 0) (Stands : SyntaxTree
     actions = subst (λ ts. HasActions (pipeline_of (tree_of b.program) b.input) b.ledger.log ts c) (sym traces_are) h.actions;
     counted = λ j u. h.counted j (inl going) ∙ ap (λ ts. length (get_or ts j [])) (sym traces_are);
     tokens = record {
-      tokens = λ go j g t' e q. subst (λ ts. IsKeptToken (Stands (tree_of b.program) b.input) tie (identities_of_orders b.orders) ts (starts_of (events_of b.ledger.log)) c j g t') (sym traces_are) (elim (cases_eq j i) [
+      tokens = λ go j g t' e q. subst (λ ts. IsKeptToken (ReadyAt (tree_of b.program) b.input) tie (identities_of_orders b.orders) ts (starts_of (events_of b.ledger.log)) c j g t') (sym traces_are) (elim (cases_eq j i) [
         | inl s ↦ (let z : None ≡ Some t' = sym (token_at_set b.rows i r0 (row_at_within b.rows i r at_row)) ∙ (ap (token_at (set b.rows i r0)) (sym s) ∙ q) in absurd (cc))
         | inr m ↦ h.tokens.tokens go j g t' e (sym (token_at_other b.rows i j r0 m) ∙ q)
       ]);
@@ -164,17 +164,17 @@ module _ {M : Type 0} (Whole : SyntaxTree → M → Type 0) (Stands : SyntaxTree
       rw (traces_are, places_are, log) refl
 
   -- the token
-  pub resume_given : IsGivenBy Stands tie (book_state with_resume) t
+  pub resume_given : IsGivenBy ReadyAt tie (book_state with_resume) t
   resume_given =
       let wide = length-map b.rows token_state_of in
       let w = row_at_within b.rows i r at_row in
-      subst (λ k. IsGivenBy Stands tie (book_state with_resume) (record t { iteration = k })) (sym kept.iteration) (record {
+      subst (λ k. IsGivenBy ReadyAt tie (book_state with_resume) (record t { iteration = k })) (sym kept.iteration) (record {
         out = record {
           out = ap (λ ps. get_or ps i Spent) places_are ∙ get_or-set_same (map token_state_of b.rows) i Out Spent (omega (arith, w, wide));
           token = record { running = record { frame = f; is = is; runs = runs }; index = kept.index; marks = kept.marks runs; joined = kept.joined; folded = kept.folded };
           now = h.tokens.nows i t (token_of_row b.rows i r at_row ∙ held);
         };
-        payload = record { belongs = kept.belongs; stands = subst (λ ts. Stands (tree_of b.program) b.input t.payload i (map replies_of (get_or ts i []))) (sym traces_are) kept.stands };
+        payload = record { belongs = kept.belongs; ready = subst (λ ts. ReadyAt (tree_of b.program) b.input t.payload i (map replies_of (get_or ts i []))) (sym traces_are) kept.ready };
         knows = kept.knows runs;
         parts = (
             let same = ap (λ ts. length (map replies_of (get_or ts i []))) traces_are in

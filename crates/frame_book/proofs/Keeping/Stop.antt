@@ -45,13 +45,13 @@ actions_stopped p log now traces c h = record {
   matches = λ i f e. subst (MatchesFrame f) (sym (actions-stop log now traces i)) (h.matches i f e);
 }
 
-module _ {M : Type 0} (Whole : SyntaxTree → M → Type 0) (Stands : SyntaxTree → List ℤ → M → ℕ → List (List ℤ) → Type 0) (tie : M → Tie) where
+module _ {M : Type 0} (Whole : SyntaxTree → M → Type 0) (ReadyAt : SyntaxTree → List ℤ → M → ℕ → List (List ℤ) → Type 0) (tie : M → Tie) where
   -- the tables after a stop
   abbrev pub with_stop : Tables M → Tables M
   with_stop b = record b { ledger = record { log = with_events b.ledger.log 0 (Stop ∷ []); room = b.ledger.room }; stopped = true }
 
   -- there is room for entries
-  pub log_room : (b : Tables M) → IsBook Whole Stands tie b → b.stopped ≡ false → length b.ledger.log < b.ledger.room
+  pub log_room : (b : Tables M) → IsBook Whole ReadyAt tie b → b.stopped ≡ false → length b.ledger.log < b.ledger.room
   log_room b h going =
       let es = events_of b.ledger.log in
       let wide : length es ≡ length b.ledger.log = length-map b.ledger.log (λ (x : BookEntry). x.event) in
@@ -63,7 +63,7 @@ module _ {M : Type 0} (Whole : SyntaxTree → M → Type 0) (Stands : SyntaxTree
       omega (arith, wide, fit, started, entries, zero, room)
 
   -- tickets do not wrap
-  pub last_below : (b : Tables M) → IsBook Whole Stands tie b → b.stopped ≡ false → last_ticket b.ledger.log < 2 ^ 63
+  pub last_below : (b : Tables M) → IsBook Whole ReadyAt tie b → b.stopped ≡ false → last_ticket b.ledger.log < 2 ^ 63
   last_below b h going =
       let room = log_room b h going in
       let size = h.sized.log_room in
@@ -74,7 +74,7 @@ module _ {M : Type 0} (Whole : SyntaxTree → M → Type 0) (Stands : SyntaxTree
   free : {X : Type 0} {token : Option X} {t : Bool} → t ≡ false → IsUnheld true token → IsUnheld t token
   free e u = inl e
 
-  pub stop_keeps : (b : Tables M) → IsBook Whole Stands tie b → b.stopped ≡ false → IsBook Whole Stands tie (with_stop b)
+  pub stop_keeps : (b : Tables M) → IsBook Whole ReadyAt tie b → b.stopped ≡ false → IsBook Whole ReadyAt tie (with_stop b)
   stop_keeps b h going =
       let log = b.ledger.log in
       let c : State = state_after (events_of log) in
@@ -82,7 +82,7 @@ module _ {M : Type 0} (Whole : SyntaxTree → M → Type 0) (Stands : SyntaxTree
       let alive : c.stopped ≡ false = sym h.stopped ∙ going in
       let long = length_with log 0 Stop in
       let last = h.last in
-      after_event Whole Stands tie (with_stop b) log 0 Stop (starts_of es) refl (append-nil (starts_of es)) record {
+      after_event Whole ReadyAt tie (with_stop b) log 0 Stop (starts_of es) refl (append-nil (starts_of es)) record {
         sized = h.sized;
         logged = record {
           run = ControlRunThen h.logged.run Stop refl alive tt;

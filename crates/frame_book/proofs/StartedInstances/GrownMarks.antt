@@ -81,11 +81,11 @@ module _ (fs fs' : List Frame) (starts : List NodeId) (x : NodeId) (h : IsStartS
   left_joined_same (suc i) k l = g.joins i k l
 
   -- another token that is kept
-  pub kept_grows : {M : Type 0} (Stands : M → ℕ → List (List ℤ) → Type 0) (tie : M → Tie) (lists : ListIdentities) (traces traces' : List (List (List Entry))) (c c' : State) (i : ℕ) (f : Frame) (t : FrameToken M)
+  pub kept_grows : {M : Type 0} (ReadyAt : M → ℕ → List (List ℤ) → Type 0) (tie : M → Tie) (lists : ListIdentities) (traces traces' : List (List (List Entry))) (c c' : State) (i : ℕ) (f : Frame) (t : FrameToken M)
       → c.frames ≡ fs → c'.frames ≡ fs' → frame_at fs i ≡ Some f → get_or traces' i [] ≡ get_or traces i []
       → ((m : ℤ) → LeftHasPassed fs i m → LeftHasPassed fs' i m)
-      → IsKeptToken Stands tie lists traces starts c i f t → IsKeptToken Stands tie lists traces' (starts ++ x ∷ []) c' i f t
-  kept_grows Stands tie lists traces traces' c c' i f t a a' is same passes q =
+      → IsKeptToken ReadyAt tie lists traces starts c i f t → IsKeptToken ReadyAt tie lists traces' (starts ++ x ∷ []) c' i f t
+  kept_grows ReadyAt tie lists traces traces' c c' i f t a a' is same passes q =
       let cols : own_columns c ≡ columns_of_frames fs = ap columns_of_frames a in
       let cols' : own_columns c' ≡ columns_of_frames fs' = ap columns_of_frames a' in
       let l : t.index < length (nodes_at (columns_of_frames fs) i) = (let w = q.index in let z = ap length (nodes_at_frame fs i f is) in omega (arith, w, z)) in
@@ -97,5 +97,5 @@ module _ (fs fs' : List Frame) (starts : List NodeId) (x : NodeId) (h : IsStartS
         marks = λ e. q.marks e ∙ (ap (λ z. instance_marks z starts i t.index) cols ∙ (sym (marks_same i t.index l) ∙ sym (ap (λ z. instance_marks z (starts ++ x ∷ []) i t.index) cols')));
         knows = q.knows;
         belongs = q.belongs;
-        stands = subst (λ ts. Stands t.payload i (map replies_of ts)) (sym same) q.stands;
+        ready = subst (λ ts. ReadyAt t.payload i (map replies_of ts)) (sym same) q.ready;
       }

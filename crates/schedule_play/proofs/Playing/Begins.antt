@@ -189,7 +189,7 @@ pub begun_made : {M : Type 0} (code : FlatCode) (cells : ℕ) (v : PlayState) (h
       running = v.running ++ Some k ∷ [];
       events = v.events ++ Begin token.iteration ∷ [];
     })
-begun_made code cells v h e next token answer out machine stands k fields empty input same instance schedule scheduled limited =
+begun_made code cells v h e next token answer out machine ready k fields empty input same instance schedule scheduled limited =
     let s = run_state v in
     let i = token.iteration in
     let tree = tree_of v.book.program in
@@ -197,7 +197,7 @@ begun_made code cells v h e next token answer out machine stands k fields empty 
     let may : MayBegin v.book.limit s i = ((agrees code cells v h).allow (Begin i)).1 answer.2 in
     let is : e ≡ Begin i = begin_event v.book.limit s e next ∙ ap Begin (sym may.number) in
     let number : v.schedule.begun ≡ i = h.schedule.begun ∙ sym may.number in
-    let there : IsRunningIteration code cells tree input replies k = instance tree replies (subst (λ l. IsAtInstance code cells tree l machine i replies) (sym same) stands) in (
+    let there : IsRunningIteration code cells tree input replies k = instance tree replies (subst (λ l. IsAtInstance code cells tree l machine i replies) (sym same) ready) in (
       is,
       begun_on code cells v h i (next ∙ ap Some is) k (ap (λ (x : TokenFields). x.iteration) fields)
           (subst (IsOutOf (after_begin v.book (results.Started token))) (sym fields) out) (subst (λ l. IsRunningIteration code cells tree l replies k) same there) empty

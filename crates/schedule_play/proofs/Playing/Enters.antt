@@ -161,12 +161,12 @@ pub entered_made : (code : FlatCode) (cells : ℕ) (v : PlayState) (h : IsPlay c
     → (schedule : ScheduleState) → ((s : State) → IsScheduleOf s v.schedule → MayEnter s i → IsScheduleOf (next_state s (Enter i)) schedule)
     → schedule.limit ≡ v.schedule.limit
     → IsPlay code cells (record v { book = with_entered v.book t.iteration; schedule = schedule; running = set v.running i (Some k); events = v.events ++ Enter i ∷ [] })
-entered_made code cells v h i next t iteration out machine stands k fields empty input same instance schedule scheduled limited =
+entered_made code cells v h i next t iteration out machine ready k fields empty input same instance schedule scheduled limited =
     let allowed = (allowed_events_are_next (pipeline_played v) v.book.limit v.events (run_state v) (Enter i) h.run h.proper h.going (λ q. absurd (cc))).1 (inl (i, next)) in
     let may : MayEnter (run_state v) i = allowed.control in
     let tree = tree_of v.book.program in
     let there : IsRunningIteration code cells tree input (replies_at v.book t.iteration) k =
-    instance tree (replies_at v.book t.iteration) (subst (λ l. IsAtInstance code cells tree l machine t.iteration (replies_at v.book t.iteration)) (sym same) stands) in
+    instance tree (replies_at v.book t.iteration) (subst (λ l. IsAtInstance code cells tree l machine t.iteration (replies_at v.book t.iteration)) (sym same) ready) in
     let here : IsRunningIteration code cells tree v.book.input (replies_at v.book i) k =
     subst (λ l. IsRunningIteration code cells tree l (replies_at v.book i) k) same (subst (λ j. IsRunningIteration code cells tree input (replies_at v.book j) k) iteration there) in
     let gone : IsOutOf (with_entered v.book i) k.token =

@@ -40,7 +40,7 @@ return_shard-requires-clause-made g c =
     let i = 1 + c.args.cell.0 % 16 in
     let e = c.access-done.ensures in
     let m1 = c.take_shard-shard.new.seat.me in
-    let run_is : m1.0.it.run ≡ Some r.run_data = ap (λ (k : ViewAndSlots g.row.M.Denot). k.0.it.run) t ∙ r.stands in (
+    let run_is : m1.0.it.run ≡ Some r.run_data = ap (λ (k : ViewAndSlots g.row.M.Denot). k.0.it.run) t ∙ r.run_is in (
       x,
       ap (λ (k : ViewAndSlots g.row.M.Denot). k.1) t ∙ ap (λ cs. (place i, slots.Out) ∷ cs) r.slots,
       ap (λ (k : ViewAndSlots g.row.M.Denot). k.0.it.held) t ∙ ap (λ hs. (i, TheShard x) ∷ hs) r.held,

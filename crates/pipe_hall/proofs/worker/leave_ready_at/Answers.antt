@@ -23,19 +23,19 @@ leave_ready-requires-clause-payload g c =
     let n = name_of c.args.seat.now.table_id c.args.seat.now.me.0.it.constants in
     let name = name_is c.args.seat.now.table_id c.args.seat.now.me c.take_back-book.new.seat.me b (Some t.0) t.1 in
     let lists = ap (λ x. (g.M.Stands.tie x).lists) payload
-    ∙ lists_with g.row.M.Denot g.M.Stands.stands g.M.Stands.tie g.M.Carrier.lists g.M.Carrier.seat g.M.Carrier.with_seat g.met.M.Carrier.tied g.met.M.Carrier.seat_is g.met.M.Carrier.seat_stands p None in
+    ∙ lists_with g.row.M.Denot g.M.Stands.ready_at g.M.Stands.tie g.M.Carrier.lists g.M.Carrier.seat g.M.Carrier.with_seat g.met.M.Carrier.tied g.met.M.Carrier.seat_is g.met.M.Carrier.seat_ready p None in
     record {
       belongs = subst (λ l. AreSeenLists l b.lists.down b.lists.right) (sym lists)
           (subst (λ (x : HallName). AreSeenLists (g.M.Stands.tie p).lists x.lists.down x.lists.right) name c.requires.out.belongs);
-      stands = subst (λ (k : FrameToken g.row.M.Denot). g.M.Stands.stands (tree_of b.program) b.input k.payload k.iteration (replies_at b k.iteration)) (sym c.take_back-book.ensures.token)
-          (g.met.M.Carrier.seat_stands (tree_of b.program) b.input p None i (replies_at b i)
-          (subst (λ (x : HallName). g.M.Stands.stands x.tree x.input p i (replies_at b i)) name (subst (λ l. g.M.Stands.stands n.tree n.input p i l) t.2.replies c.requires.stands)));
+      ready = subst (λ (k : FrameToken g.row.M.Denot). g.M.Stands.ready_at (tree_of b.program) b.input k.payload k.iteration (replies_at b k.iteration)) (sym c.take_back-book.ensures.token)
+          (g.met.M.Carrier.seat_ready (tree_of b.program) b.input p None i (replies_at b i)
+          (subst (λ (x : HallName). g.M.Stands.ready_at x.tree x.input p i (replies_at b i)) name (subst (λ l. g.M.Stands.ready_at n.tree n.input p i l) t.2.replies c.requires.ready)));
     }
 
 pub leave_ready-requires-clause-knows : goal.leave_ready-requires-clause-knows
 leave_ready-requires-clause-knows g c =
     let p = c.args.token.payload in
-    let lists = lists_with g.row.M.Denot g.M.Stands.stands g.M.Stands.tie g.M.Carrier.lists g.M.Carrier.seat g.M.Carrier.with_seat g.met.M.Carrier.tied g.met.M.Carrier.seat_is g.met.M.Carrier.seat_stands p None in
+    let lists = lists_with g.row.M.Denot g.M.Stands.ready_at g.M.Stands.tie g.M.Carrier.lists g.M.Carrier.seat g.M.Carrier.with_seat g.met.M.Carrier.tied g.met.M.Carrier.seat_is g.met.M.Carrier.seat_ready p None in
     subst (λ (k : FrameToken g.row.M.Denot). AreSeen (g.M.Stands.tie k.payload).lists k.marks) (sym c.take_back-book.ensures.token)
     (subst (λ l. AreSeen l c.args.token.marks) (sym lists) c.requires.out.knows)
 

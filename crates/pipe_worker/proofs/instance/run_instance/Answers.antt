@@ -29,10 +29,10 @@ returns-clause-advances g c =
     let first = c.new-memory.result in
     let last = c.run_stage_by-end.new.memory in
     let d = (pipeline_of tree input).behaviour i in
-    let stands = subst (λ (r : List (List ℤ)). g.M.Stands.stands tree input old.payload i r) c.requires.replies
-    (subst (λ (n : ℕ). g.M.Stands.stands tree input old.payload n (seated_replies (g.M.Stands.tie old.payload))) c.requires.iteration c.requires.given.stands) in
+    let ready = subst (λ (r : List (List ℤ)). g.M.Stands.ready_at tree input old.payload i r) c.requires.replies
+    (subst (λ (n : ℕ). g.M.Stands.ready_at tree input old.payload n (seated_replies (g.M.Stands.tie old.payload))) c.requires.iteration c.requires.given.ready) in
     let at = subst (λ h. HasMachine h (λ m. IsAtInstance code tree input m i given)) c.take_machine-machine.ensures.machine
-    (g.met.M.Runs.stands_by tree input old.payload i given stands) in
+    (g.met.M.Runs.machine_ready tree input old.payload i given ready) in
     let before = subst (λ (x : List ℤ). StandsFor c.args.code.now (cells_of tree) x fresh.run (after_instances d given)) (sym c.requires.drives.input_is)
     (subst (λ (x : FlatCode). StandsFor x (cells_of tree) input fresh.run (after_instances d given)) (sym c.requires.drives.code_is) at.stands) in
     let ran = c.run_stage_by-end.ensures.ran (after_instances d given) before in
@@ -54,7 +54,7 @@ returns-clause-advances g c =
       whole = g.met.M.Runs.by_machine tree payload (subst (λ h. HasMachine h (CanRun code tree)) (sym is_there) can);
       performs = subst (λ (r : List (List ℤ)). IsPerformed (pipeline_of tree input) token.iteration r trace end) (sym replies)
           (subst (λ (n : ℕ). IsPerformed (pipeline_of tree input) n given trace end) (sym held.iteration_is) ended.performs);
-      stands = λ names. g.met.M.Runs.by_stands tree input payload token.iteration (after ++ replies_of trace ∷ [])
+      ready = λ names. g.met.M.Runs.ready_by_machine tree input payload token.iteration (after ++ replies_of trace ∷ [])
           (subst (λ h. HasMachine h (λ m. IsAtInstance code tree input m token.iteration (after ++ replies_of trace ∷ []))) (sym is_there)
           (subst (λ (r : List (List ℤ)). IsAtInstance code tree input machine token.iteration (r ++ replies_of trace ∷ [])) (sym replies)
           (subst (λ (n : ℕ). IsAtInstance code tree input machine n (given ++ replies_of trace ∷ [])) (sym held.iteration_is)

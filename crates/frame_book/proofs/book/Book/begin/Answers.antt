@@ -48,7 +48,7 @@ overflow_cast-iteration g c =
     let s = state_of (book_state (tables_of c.self.inside)) in
     let rows = subst (AreRows (not s.stopped) s.frames) (sym c.as_slice.ensures.value) c.self.invariant.0.rows.each in
     let ended = (c.last_has_ended_first.ensures (not s.stopped) s.frames rows).0 c.if-not-last_has_ended_first.false in
-    let l = few g.M.Stands.whole g.M.Stands.stands g.M.Stands.tie (tables_of c.self.inside) c.self.invariant.0 c.if-self.false c.if-self-2.false ended c.take.new.self.home c.in-Some.payload c.in-Some.ensures.some in
+    let l = few g.M.Stands.whole g.M.Stands.ready_at g.M.Stands.tie (tables_of c.self.inside) c.self.invariant.0 c.if-self.false c.if-self-2.false ended c.take.new.self.home c.in-Some.payload c.in-Some.ensures.some in
     let e : c.len-iteration.result ≡ length c.self.inside.rows.items = grind (arith, common_steps) in
     let w : c.len-iteration.result < 2 ^ 32 = omega (arith, l, e) in
     grind (arith, common_steps)
@@ -58,35 +58,35 @@ start_head-marks-requires-clause-there g c =
     let s = state_of (book_state (tables_of c.self.inside)) in
     let rows = subst (AreRows (not s.stopped) s.frames) (sym c.as_slice.ensures.value) c.self.invariant.0.rows.each in
     let ended = (c.last_has_ended_first.ensures (not s.stopped) s.frames rows).0 c.if-not-last_has_ended_first.false in
-    rw c.as_slice-2.ensures.value (there g.M.Stands.whole g.M.Stands.stands g.M.Stands.tie (tables_of c.self.inside) c.self.invariant.0 c.if-self.false c.if-self-2.false ended c.take.new.self.home c.in-Some.payload c.in-Some.ensures.some)
+    rw c.as_slice-2.ensures.value (there g.M.Stands.whole g.M.Stands.ready_at g.M.Stands.tie (tables_of c.self.inside) c.self.invariant.0 c.if-self.false c.if-self-2.false ended c.take.new.self.home c.in-Some.payload c.in-Some.ensures.some)
 
 pub start_head-marks-requires-clause-inserted : goal.start_head-marks-requires-clause-inserted
 start_head-marks-requires-clause-inserted g c =
     let s = state_of (book_state (tables_of c.self.inside)) in
     let rows = subst (AreRows (not s.stopped) s.frames) (sym c.as_slice.ensures.value) c.self.invariant.0.rows.each in
     let ended = (c.last_has_ended_first.ensures (not s.stopped) s.frames rows).0 c.if-not-last_has_ended_first.false in
-    rw c.as_slice-2.ensures.value (placed g.M.Stands.whole g.M.Stands.stands g.M.Stands.tie (tables_of c.self.inside) c.self.invariant.0 c.if-self.false c.if-self-2.false ended c.take.new.self.home c.in-Some.payload c.in-Some.ensures.some)
+    rw c.as_slice-2.ensures.value (placed g.M.Stands.whole g.M.Stands.ready_at g.M.Stands.tie (tables_of c.self.inside) c.self.invariant.0 c.if-self.false c.if-self-2.false ended c.take.new.self.home c.in-Some.payload c.in-Some.ensures.some)
 
 pub start_head-marks-requires-clause-room : goal.start_head-marks-requires-clause-room
 start_head-marks-requires-clause-room g c =
     let s = state_of (book_state (tables_of c.self.inside)) in
     let rows = subst (AreRows (not s.stopped) s.frames) (sym c.as_slice.ensures.value) c.self.invariant.0.rows.each in
     let ended = (c.last_has_ended_first.ensures (not s.stopped) s.frames rows).0 c.if-not-last_has_ended_first.false in
-    room g.M.Stands.whole g.M.Stands.stands g.M.Stands.tie (tables_of c.self.inside) c.self.invariant.0 c.if-self.false c.if-self-2.false ended c.take.new.self.home c.in-Some.payload c.in-Some.ensures.some
+    room g.M.Stands.whole g.M.Stands.ready_at g.M.Stands.tie (tables_of c.self.inside) c.self.invariant.0 c.if-self.false c.if-self-2.false ended c.take.new.self.home c.in-Some.payload c.in-Some.ensures.some
 
 pub start_head-marks-requires-clause-belongs : goal.start_head-marks-requires-clause-belongs
 start_head-marks-requires-clause-belongs g c =
     let s = state_of (book_state (tables_of c.self.inside)) in
     let rows = subst (AreRows (not s.stopped) s.frames) (sym c.as_slice.ensures.value) c.self.invariant.0.rows.each in
     let ended = (c.last_has_ended_first.ensures (not s.stopped) s.frames rows).0 c.if-not-last_has_ended_first.false in
-    let was = was_home g.M.Stands.whole g.M.Stands.stands g.M.Stands.tie (tables_of c.self.inside) c.self.invariant.0 c.if-self.false c.if-self-2.false ended c.take.new.self.home c.in-Some.payload c.in-Some.ensures.some in
+    let was = was_home g.M.Stands.whole g.M.Stands.ready_at g.M.Stands.tie (tables_of c.self.inside) c.self.invariant.0 c.if-self.false c.if-self-2.false ended c.take.new.self.home c.in-Some.payload c.in-Some.ensures.some in
     rw c.begin.ensures.tie was.belongs
 
 pub stamp-now-requires-clause-room : goal.stamp-now-requires-clause-room
-stamp-now-requires-clause-room g c = log_room g.M.Stands.whole g.M.Stands.stands g.M.Stands.tie (tables_of c.self.inside) c.self.invariant.0 c.if-self.false
+stamp-now-requires-clause-room g c = log_room g.M.Stands.whole g.M.Stands.ready_at g.M.Stands.tie (tables_of c.self.inside) c.self.invariant.0 c.if-self.false
 
 pub stamp-now-requires-clause-last : goal.stamp-now-requires-clause-last
-stamp-now-requires-clause-last g c = last_below g.M.Stands.whole g.M.Stands.stands g.M.Stands.tie (tables_of c.self.inside) c.self.invariant.0 c.if-self.false
+stamp-now-requires-clause-last g c = last_below g.M.Stands.whole g.M.Stands.ready_at g.M.Stands.tie (tables_of c.self.inside) c.self.invariant.0 c.if-self.false
 
 pub unreachable-requires : goal.unreachable-requires
 unreachable-requires g c =
@@ -95,21 +95,21 @@ unreachable-requires g c =
     let ended = (c.last_has_ended_first.ensures (not s.stopped) s.frames rows).0 c.if-not-last_has_ended_first.false in
     let z = c.in_default-pop.ensures.cases.0 in
     let q : length c.self.inside.spare.items ≡ 0 = grind (arith, common_steps) in
-    spare_some g.M.Stands.whole g.M.Stands.stands g.M.Stands.tie (tables_of c.self.inside) c.self.invariant.0 c.if-self.false c.if-self-2.false ended c.take.new.self.home c.in-Some.payload c.in-Some.ensures.some q
+    spare_some g.M.Stands.whole g.M.Stands.ready_at g.M.Stands.tie (tables_of c.self.inside) c.self.invariant.0 c.if-self.false c.if-self-2.false ended c.take.new.self.home c.in-Some.payload c.in-Some.ensures.some q
 
 pub enter-requires-clause-numbers : goal.enter-requires-clause-numbers
 enter-requires-clause-numbers g c =
     let s = state_of (book_state (tables_of c.self.inside)) in
     let rows = subst (AreRows (not s.stopped) s.frames) (sym c.as_slice.ensures.value) c.self.invariant.0.rows.each in
     let ended = (c.last_has_ended_first.ensures (not s.stopped) s.frames rows).0 c.if-not-last_has_ended_first.false in
-    (row_room g.M.Stands.whole g.M.Stands.stands g.M.Stands.tie (tables_of c.self.inside) c.self.invariant.0 c.if-self.false c.if-self-2.false ended c.take.new.self.home c.in-Some.payload c.in-Some.ensures.some c.pop.new.self.items c.in-Some-pop.row c.in-Some-pop.ensures.items).0
+    (row_room g.M.Stands.whole g.M.Stands.ready_at g.M.Stands.tie (tables_of c.self.inside) c.self.invariant.0 c.if-self.false c.if-self-2.false ended c.take.new.self.home c.in-Some.payload c.in-Some.ensures.some c.pop.new.self.items c.in-Some-pop.row c.in-Some-pop.ensures.items).0
 
 pub enter-requires-clause-marks : goal.enter-requires-clause-marks
 enter-requires-clause-marks g c =
     let s = state_of (book_state (tables_of c.self.inside)) in
     let rows = subst (AreRows (not s.stopped) s.frames) (sym c.as_slice.ensures.value) c.self.invariant.0.rows.each in
     let ended = (c.last_has_ended_first.ensures (not s.stopped) s.frames rows).0 c.if-not-last_has_ended_first.false in
-    (row_room g.M.Stands.whole g.M.Stands.stands g.M.Stands.tie (tables_of c.self.inside) c.self.invariant.0 c.if-self.false c.if-self-2.false ended c.take.new.self.home c.in-Some.payload c.in-Some.ensures.some c.pop.new.self.items c.in-Some-pop.row c.in-Some-pop.ensures.items).1
+    (row_room g.M.Stands.whole g.M.Stands.ready_at g.M.Stands.tie (tables_of c.self.inside) c.self.invariant.0 c.if-self.false c.if-self-2.false ended c.take.new.self.home c.in-Some.payload c.in-Some.ensures.some c.pop.new.self.items c.in-Some-pop.row c.in-Some-pop.ensures.items).1
 
 pub push_reserved-requires : goal.push_reserved-requires
 push_reserved-requires g c =
@@ -137,7 +137,7 @@ invariant_of-self-2 g c =
     let cap : vec_capacity c.push_reserved.new.self ≡ vec_capacity c.self.inside.rows = c.push_reserved.ensures.capacity in
     let listed = subst (λ spare. HasAliveList c.self.inside.rows.items spare c.self.inside.alive.items (vec_capacity c.self.inside.alive)) c.in-Some-pop.ensures.items c.self.invariant.1 in
     rw (c.push_reserved.ensures.items, cap, c.push_reserved-2.ensures.items, c.push_reserved-2.ensures.capacity, c.enter.ensures, c.start_head-marks.ensures.marks, c.start_head-marks.ensures.lists, c.as_slice-2.ensures.value, c.stamp-now.ensures.log, c.take.ensures.size, n)
-    (begin_keeps g.M.Stands.whole g.M.Stands.stands g.M.Stands.tie (tables_of c.self.inside) c.self.invariant.0 c.if-self.false c.if-self-2.false ended c.take.new.self.home c.in-Some.payload c.in-Some.ensures.some c.pop.new.self.items c.in-Some-pop.row c.in-Some-pop.ensures.items, alive_push c.self.inside.rows.items c.pop.new.self.items c.in-Some-pop.row _ _ _ listed)
+    (begin_keeps g.M.Stands.whole g.M.Stands.ready_at g.M.Stands.tie (tables_of c.self.inside) c.self.invariant.0 c.if-self.false c.if-self-2.false ended c.take.new.self.home c.in-Some.payload c.in-Some.ensures.some c.pop.new.self.items c.in-Some-pop.row c.in-Some-pop.ensures.items, alive_push c.self.inside.rows.items c.pop.new.self.items c.in-Some-pop.row _ _ _ listed)
 
 pub returns-clause-answer : goal.returns-clause-answer
 returns-clause-answer g c =
@@ -146,7 +146,7 @@ returns-clause-answer g c =
     let ended = (c.last_has_ended_first.ensures (not s.stopped) s.frames rows).0 c.if-not-last_has_ended_first.false in
     let n : c.len-iteration.result ≡ length c.self.inside.rows.items = grind (arith, common_steps) in
     let cap : vec_capacity c.push_reserved.new.self ≡ vec_capacity c.self.inside.rows = c.push_reserved.ensures.capacity in
-    subst (λ (v : BookState). ((state_of v).stopped ≡ false) × (IsClosed (state_of v).frames → ⊥) × MayBegin v.limit (state_of v) c.len-iteration.result × ◌≡◌ {A = ℕ} 0 0) c.self.view_is (sym c.self.invariant.0.stopped ∙ c.if-self.false, (λ q. (let e : true ≡ false = sym (c.self.invariant.0.closed.1 q) ∙ c.if-self-2.false in absurd (cc))), rw n (may g.M.Stands.whole g.M.Stands.stands g.M.Stands.tie (tables_of c.self.inside) c.self.invariant.0 c.if-self.false c.if-self-2.false ended c.take.new.self.home c.in-Some.payload c.in-Some.ensures.some), refl)
+    subst (λ (v : BookState). ((state_of v).stopped ≡ false) × (IsClosed (state_of v).frames → ⊥) × MayBegin v.limit (state_of v) c.len-iteration.result × ◌≡◌ {A = ℕ} 0 0) c.self.view_is (sym c.self.invariant.0.stopped ∙ c.if-self.false, (λ q. (let e : true ≡ false = sym (c.self.invariant.0.closed.1 q) ∙ c.if-self-2.false in absurd (cc))), rw n (may g.M.Stands.whole g.M.Stands.ready_at g.M.Stands.tie (tables_of c.self.inside) c.self.invariant.0 c.if-self.false c.if-self-2.false ended c.take.new.self.home c.in-Some.payload c.in-Some.ensures.some), refl)
 
 pub returns-clause-book : goal.returns-clause-book
 returns-clause-book g c =
@@ -154,7 +154,7 @@ returns-clause-book g c =
     let rows = subst (AreRows (not s.stopped) s.frames) (sym c.as_slice.ensures.value) c.self.invariant.0.rows.each in
     let ended = (c.last_has_ended_first.ensures (not s.stopped) s.frames rows).0 c.if-not-last_has_ended_first.false in
     let n : c.len-iteration.result ≡ length c.self.inside.rows.items = grind (arith, common_steps) in
-    rw (c.push_reserved.ensures.items, c.enter.ensures, c.start_head-marks.ensures.marks, c.start_head-marks.ensures.lists, c.as_slice-2.ensures.value, c.stamp-now.ensures.log, n, ← c.self.view_is) (begin_view g.M.Stands.whole g.M.Stands.stands g.M.Stands.tie (tables_of c.self.inside) c.self.invariant.0 c.if-self.false c.if-self-2.false ended c.take.new.self.home c.in-Some.payload c.in-Some.ensures.some c.pop.new.self.items c.in-Some-pop.row c.in-Some-pop.ensures.items)
+    rw (c.push_reserved.ensures.items, c.enter.ensures, c.start_head-marks.ensures.marks, c.start_head-marks.ensures.lists, c.as_slice-2.ensures.value, c.stamp-now.ensures.log, n, ← c.self.view_is) (begin_view g.M.Stands.whole g.M.Stands.ready_at g.M.Stands.tie (tables_of c.self.inside) c.self.invariant.0 c.if-self.false c.if-self-2.false ended c.take.new.self.home c.in-Some.payload c.in-Some.ensures.some c.pop.new.self.items c.in-Some-pop.row c.in-Some-pop.ensures.items)
 
 pub returns-clause-token : goal.returns-clause-token
 returns-clause-token g c =
@@ -162,10 +162,10 @@ returns-clause-token g c =
     let rows = subst (AreRows (not s.stopped) s.frames) (sym c.as_slice.ensures.value) c.self.invariant.0.rows.each in
     let ended = (c.last_has_ended_first.ensures (not s.stopped) s.frames rows).0 c.if-not-last_has_ended_first.false in
     let n : c.len-iteration.result ≡ length c.self.inside.rows.items = grind (arith, common_steps) in
-    let was = was_home g.M.Stands.whole g.M.Stands.stands g.M.Stands.tie (tables_of c.self.inside) c.self.invariant.0 c.if-self.false c.if-self-2.false ended c.take.new.self.home c.in-Some.payload c.in-Some.ensures.some in
+    let was = was_home g.M.Stands.whole g.M.Stands.ready_at g.M.Stands.tie (tables_of c.self.inside) c.self.invariant.0 c.if-self.false c.if-self-2.false ended c.take.new.self.home c.in-Some.payload c.in-Some.ensures.some in
     let orders_are = c.start_head-marks.ensures.lists ∙ ap (λ rs. with_start c.self.inside.orders (down_taken None (head_marks rs)) (right_taken None (head_marks rs))) c.as_slice-2.ensures.value in
-    rw (c.push_reserved.ensures.items, c.enter.ensures, c.start_head-marks.ensures.marks, c.start_head-marks.ensures.lists, c.as_slice-2.ensures.value, c.stamp-now.ensures.log, n, c.stamp-now.ensures.ticket, c.new.ensures) (begin_given g.M.Stands.whole g.M.Stands.stands g.M.Stands.tie (tables_of c.self.inside) c.self.invariant.0 c.if-self.false c.if-self-2.false ended c.take.new.self.home c.in-Some.payload c.in-Some.ensures.some c.pop.new.self.items c.in-Some-pop.row c.in-Some-pop.ensures.items c.start_head-marks.new.payload
-    (c.start_head-marks.ensures.stands (tree_of c.self.inside.program) c.self.inside.input (length c.self.inside.rows.items) [] (subst (λ k. g.M.Stands.stands (tree_of c.self.inside.program) c.self.inside.input c.begin.new.self k []) n (c.begin.ensures.stands (tree_of c.self.inside.program) c.self.inside.input was.whole)))
+    rw (c.push_reserved.ensures.items, c.enter.ensures, c.start_head-marks.ensures.marks, c.start_head-marks.ensures.lists, c.as_slice-2.ensures.value, c.stamp-now.ensures.log, n, c.stamp-now.ensures.ticket, c.new.ensures) (begin_given g.M.Stands.whole g.M.Stands.ready_at g.M.Stands.tie (tables_of c.self.inside) c.self.invariant.0 c.if-self.false c.if-self-2.false ended c.take.new.self.home c.in-Some.payload c.in-Some.ensures.some c.pop.new.self.items c.in-Some-pop.row c.in-Some-pop.ensures.items c.start_head-marks.new.payload
+    (c.start_head-marks.ensures.ready (tree_of c.self.inside.program) c.self.inside.input (length c.self.inside.rows.items) [] (subst (λ k. g.M.Stands.ready_at (tree_of c.self.inside.program) c.self.inside.input c.begin.new.self k []) n (c.begin.ensures.ready (tree_of c.self.inside.program) c.self.inside.input was.whole)))
     (c.start_head-marks.ensures.tie ∙ ap₂ (λ x o. record { lists = seen_whole x.lists o; seat = x.seat }) c.begin.ensures.tie orders_are))
 
 pub returns-clause-now : goal.returns-clause-now

@@ -51,7 +51,7 @@ overflow_add-self g c =
     let log : length c.self-2.inside.ledger.log ≡ length c.self.inside.ledger.log + 1 = ap (λ (v : BookState). length v.log) seen ∙ (length_with c.args.self.now.log t.now (Advance i c.args.kind n) ∙ sym (ap (λ (v : BookState). length v.log + 1) c.self.view_is)) in
     let one : c.count_of.result ≤ 1 = (let e = c.count_of.ensures in let s = count_small c.needs_left-read.result in omega (arith, e, s)) in
     let few = c.self.invariant.0.reads in
-    let room = log_room g.M.Stands.whole g.M.Stands.stands g.M.Stands.tie (tables_of c.self.inside) c.self.invariant.0 (c.self.invariant.0.stopped ∙ subst (λ v. (state_of v).stopped ≡ false) (sym c.self.view_is) going) in
+    let room = log_room g.M.Stands.whole g.M.Stands.ready_at g.M.Stands.tie (tables_of c.self.inside) c.self.invariant.0 (c.self.invariant.0.stopped ∙ subst (λ v. (state_of v).stopped ≡ false) (sym c.self.view_is) going) in
     let size = c.self.invariant.0.sized.log_room in
     let small = c.self.invariant.0.sized.few in
     let w : c.self-2.inside.reads + c.count_of.result < 2 ^ 64 = omega (arith, reads, one, few, room, size, small) in

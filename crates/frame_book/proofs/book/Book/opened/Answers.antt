@@ -91,7 +91,7 @@ invariant_of-result-2 g c =
     let wide : vec_capacity c.in_ok-with_capacity-2.field-0 ≡ nat_abs (to_z w64 (of_z w64 i)) + 1 = c.in_ok-with_capacity-2.ensures.exact in
     let long = length-replicate (natural i) (empty_row {M = g.row.M.Denot} (natural s)) in
     rw (c.in_ok-with_capacity.ensures.items, c.in_ok-with_capacity-2.ensures.items, spare, c.new-2.ensures, c.in_ok-new-3.ensures, room, c.orders.view_is) (
-      new_keeps g.M.Stands.whole g.M.Stands.stands g.M.Stands.tie c.args.program c.input.inside.items.items c.args.throttle (subst (IsPlannedProgram (tree_of c.args.program)) (sym c.input.view_is) c.requires.planned) c.requires.throttle c.args.payloads.items c.requires.payloads
+      new_keeps g.M.Stands.whole g.M.Stands.ready_at g.M.Stands.tie c.args.program c.input.inside.items.items c.args.throttle (subst (IsPlannedProgram (tree_of c.args.program)) (sym c.input.view_is) c.requires.planned) c.requires.throttle c.args.payloads.items c.requires.payloads
           c.args.orders c.requires.whole c.requires.started.0 c.requires.started.1 c.requires.room.0 c.requires.room.1 (vec_capacity c.in_ok-with_capacity.field-0) (omega (arith, cap, ni)),
       alive_none _ _ (omega (arith, wide, ni, long)),
     )

@@ -74,4 +74,4 @@ returns-clause-nothing g c =
     let b = tables_of c.self.inside in
     let answer = subst (λ (x : BookState). RescueReturns {M = g.row.M.Denot} x.limit (state_of x) (IsReady x) rescue.Nothing) (sym c.self.view_is) (returns-clause-answer g c) in
     subst (λ (x : BookState). (i : ℕ) × IsOut x i) c.self.view_is
-    (a_token_is_out g.M.Stands.whole g.M.Stands.stands g.M.Stands.tie b c.self.invariant.0 answer.0 answer.1 answer.2 answer.3)
+    (a_token_is_out g.M.Stands.whole g.M.Stands.ready_at g.M.Stands.tie b c.self.invariant.0 answer.0 answer.1 answer.2 answer.3)

@@ -64,7 +64,7 @@ invariant_of-self g c =
     let status : r.status ≡ it.0.status = sym (ap (λ (z : IterationRow _). z.status) same) ∙ q.matches.status in
     let runs : it.0.status ≡ Running = sym status ∙ (sym c.status.ensures ∙ c.in-Running.is) in
     let held : r.token ≡ Some c.in-Some.token = sym c.take_token.ensures.token ∙ c.in-Some.is in
-    rw c.take_token.ensures.row (resume_keeps g.M.Stands.whole g.M.Stands.stands g.M.Stands.tie (tables_of c.self.inside) c.self.invariant.0 c.args.iteration going r at it.0 it.1 runs c.in-Some.token held, alive_set c.self.inside.rows.items _ i r _ _ _ at (ap is_completed (status ∙ runs)) c.self.invariant.1)
+    rw c.take_token.ensures.row (resume_keeps g.M.Stands.whole g.M.Stands.ready_at g.M.Stands.tie (tables_of c.self.inside) c.self.invariant.0 c.args.iteration going r at it.0 it.1 runs c.in-Some.token held, alive_set c.self.inside.rows.items _ i r _ _ _ at (ap is_completed (status ∙ runs)) c.self.invariant.1)
 
 pub enter_named-requires-clause-may : goal.enter_named-requires-clause-may
 enter_named-requires-clause-may g c =
@@ -115,7 +115,7 @@ returns-in-Some-clause-iteration g c =
     let status : r.status ≡ it.0.status = sym (ap (λ (z : IterationRow _). z.status) same) ∙ q.matches.status in
     let runs : it.0.status ≡ Running = sym status ∙ (sym c.status.ensures ∙ c.in-Running.is) in
     let held : r.token ≡ Some c.in-Some.token = sym c.take_token.ensures.token ∙ c.in-Some.is in
-    (kept g.M.Stands.whole g.M.Stands.stands g.M.Stands.tie (tables_of c.self.inside) c.self.invariant.0 c.args.iteration going r at it.0 it.1 runs c.in-Some.token held).iteration
+    (kept g.M.Stands.whole g.M.Stands.ready_at g.M.Stands.tie (tables_of c.self.inside) c.self.invariant.0 c.args.iteration going r at it.0 it.1 runs c.in-Some.token held).iteration
 
 pub returns-in-Some-clause-book : goal.returns-in-Some-clause-book
 returns-in-Some-clause-book g c =
@@ -133,7 +133,7 @@ returns-in-Some-clause-book g c =
     let status : r.status ≡ it.0.status = sym (ap (λ (z : IterationRow _). z.status) same) ∙ q.matches.status in
     let runs : it.0.status ≡ Running = sym status ∙ (sym c.status.ensures ∙ c.in-Running.is) in
     let held : r.token ≡ Some c.in-Some.token = sym c.take_token.ensures.token ∙ c.in-Some.is in
-    rw (c.take_token.ensures.row, ← c.self.view_is) (resume_view g.M.Stands.whole g.M.Stands.stands g.M.Stands.tie (tables_of c.self.inside) c.self.invariant.0 c.args.iteration going r at it.0 it.1 runs c.in-Some.token held)
+    rw (c.take_token.ensures.row, ← c.self.view_is) (resume_view g.M.Stands.whole g.M.Stands.ready_at g.M.Stands.tie (tables_of c.self.inside) c.self.invariant.0 c.args.iteration going r at it.0 it.1 runs c.in-Some.token held)
 
 pub returns-in-Some-clause-token : goal.returns-in-Some-clause-token
 returns-in-Some-clause-token g c =
@@ -151,7 +151,7 @@ returns-in-Some-clause-token g c =
     let status : r.status ≡ it.0.status = sym (ap (λ (z : IterationRow _). z.status) same) ∙ q.matches.status in
     let runs : it.0.status ≡ Running = sym status ∙ (sym c.status.ensures ∙ c.in-Running.is) in
     let held : r.token ≡ Some c.in-Some.token = sym c.take_token.ensures.token ∙ c.in-Some.is in
-    rw c.take_token.ensures.row (resume_given g.M.Stands.whole g.M.Stands.stands g.M.Stands.tie (tables_of c.self.inside) c.self.invariant.0 c.args.iteration going r at it.0 it.1 runs c.in-Some.token held)
+    rw c.take_token.ensures.row (resume_given g.M.Stands.whole g.M.Stands.ready_at g.M.Stands.tie (tables_of c.self.inside) c.self.invariant.0 c.args.iteration going r at it.0 it.1 runs c.in-Some.token held)
 
 pub returns-in-Pending-clause-book : goal.returns-in-Pending-clause-book
 returns-in-Pending-clause-book g c =
@@ -186,7 +186,7 @@ returns-in-Some-clause-now g c =
     let status : r.status ≡ it.0.status = sym (ap (λ (z : IterationRow _). z.status) same) ∙ q.matches.status in
     let runs : it.0.status ≡ Running = sym status ∙ (sym c.status.ensures ∙ c.in-Running.is) in
     let held : r.token ≡ Some c.in-Some.token = sym c.take_token.ensures.token ∙ c.in-Some.is in
-    rw (c.take_token.ensures.row, ← c.self.view_is) (resume_beside g.M.Stands.whole g.M.Stands.stands g.M.Stands.tie (tables_of c.self.inside) c.self.invariant.0 c.args.iteration going r at it.0 it.1 runs c.in-Some.token held)
+    rw (c.take_token.ensures.row, ← c.self.view_is) (resume_beside g.M.Stands.whole g.M.Stands.ready_at g.M.Stands.tie (tables_of c.self.inside) c.self.invariant.0 c.args.iteration going r at it.0 it.1 runs c.in-Some.token held)
 
 pub returns-in-Pending-clause-now : goal.returns-in-Pending-clause-now
 returns-in-Pending-clause-now g c =
@@ -223,7 +223,7 @@ returns-in-Some-clause-folded g c =
     let status : r.status ≡ it.0.status = sym (ap (λ (z : IterationRow _). z.status) same) ∙ q.matches.status in
     let runs : it.0.status ≡ Running = sym status ∙ (sym c.status.ensures ∙ c.in-Running.is) in
     let held : r.token ≡ Some c.in-Some.token = sym c.take_token.ensures.token ∙ c.in-Some.is in
-    rw (← c.self.view_is) (resume_folded g.M.Stands.whole g.M.Stands.stands g.M.Stands.tie (tables_of c.self.inside) c.self.invariant.0 c.args.iteration going r at it.0 it.1 runs c.in-Some.token held)
+    rw (← c.self.view_is) (resume_folded g.M.Stands.whole g.M.Stands.ready_at g.M.Stands.tie (tables_of c.self.inside) c.self.invariant.0 c.args.iteration going r at it.0 it.1 runs c.in-Some.token held)
 
 pub returns-in-Pending-clause-folded : goal.returns-in-Pending-clause-folded
 returns-in-Pending-clause-folded g c =

@@ -8,8 +8,8 @@ use Rattle.pipe_engine.proofs.carried.CarriedPayloadOmWriter.begin.Goals as goal
 all_cells : (tree : SyntaxTree) → cell_total tree.cells + 2 ≤ cells_of tree
 all_cells tree = let n = values_length tree.cells in omega (arith, n)
 
-pub returns-in-Some-clause-stands : goal.returns-in-Some-clause-stands
-returns-in-Some-clause-stands g c = λ tree input whole.
+pub returns-in-Some-clause-ready : goal.returns-in-Some-clause-ready
+returns-in-Some-clause-ready g c = λ tree input whole.
     let code = g.B.RunCode.code in
     let can = subst (CanRun code tree) (sym c.get_mut.ensures.value) (subst (λ m. HasMachine m (CanRun code tree)) c.in-Some.is whole) in
     record {

@@ -37,7 +37,7 @@ invariant_of-put_seat g c =
     let t = c.return_beside.ensures.given c.args.token c.args.book (ap (λ (k : FrameToken g.row.M.Denot). slots.Token k) c.of-witness.ensures) (ap (λ (k : ViewAndSlots g.row.M.Denot). k.1) m) ∙ ap (λ (k : ViewAndSlots g.row.M.Denot). (view_of (after_book k.0.it c.args.book (Some (new_instance c.args.book (fields_of c.args.token)))), [])) m in
     let v : View = view_of (run_seat (after_book c.args.seat.now.me.0.it c.args.book (Some (new_instance c.args.book (fields_of c.args.token))))) in
     let views : c.into_badge.result.views ≡ v ∷ [] = c.into_badge.ensures.2 ∙ (ap (λ (k : ViewAndSlots g.row.M.Denot). k.0 ∷ []) c.split_seat-run.ensures.4 ∙ ap (λ (k : ViewAndSlots g.row.M.Denot). view_of (run_seat k.0.it) ∷ []) t) in
-    record { stands = ap is_instance_badge views ∙ is_badge v c.requires.constants.0 (new_instance c.args.book (fields_of c.args.token)) c.requires.constants.1 refl refl }
+    record { of_instance = ap is_instance_badge views ∙ is_badge v c.requires.constants.0 (new_instance c.args.book (fields_of c.args.token)) c.requires.constants.1 refl refl }
 
 pub returns-clause-given : goal.returns-clause-given
 returns-clause-given g c =

@@ -7,7 +7,7 @@ use Rattle.pipe_worker.proofs.worker.Worker.run.Given as goal
 abbrev pub invariant-loop : goal.invariant-loop
 invariant-loop g l = record {
   named : g.H.Hall.named l.hall ≡ g.Q.WorkTest.named;
-  given : IsGivenToken g.M.Stands.stands g.M.Stands.tie g.Q.WorkTest.named l.token;
+  given : IsGivenToken g.M.Stands.ready_at g.M.Stands.tie g.Q.WorkTest.named l.token;
   worker : IsSameWorker l.fn.self l.self;
   tokens : KeepsTokens g.Q.WorkTest.weight 1 1 (g.H.Hall.tokens l.fn.hall) (ends_of l.fn.self) (g.H.Hall.tokens l.hall) (ends_of l.self);
 }

@@ -30,7 +30,7 @@ returns-clause-play g c =
     let token = c.in-Some.token in
     let given = subst (λ (b : BookState). IsGivenBy (λ tree numbers x j replies. IsAtInstance code cells tree numbers x.machine j replies) (λ x. no_tie) b token) c.in-Some.ensures.book c.in-Some.ensures.token in
     let ensured = c.new-running.ensures in
-    let made = entered_made code cells w h i next (fields_of token) c.in-Some.ensures.answer.2 given.out token.payload.machine given.payload.stands c.new-running.result
+    let made = entered_made code cells w h i next (fields_of token) c.in-Some.ensures.answer.2 given.out token.payload.machine given.payload.ready c.new-running.result
     ensured.fields ensured.empty c.args.input.now input ensured.instance c.enter-2.new.self c.enter-2.ensures.schedule c.enter-2.ensures.limit in
     rw (c.in-Some.ensures.book, c.in_ok-push.ensures.ok) made
 

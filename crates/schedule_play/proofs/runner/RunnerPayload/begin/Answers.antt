@@ -1,7 +1,7 @@
 use Rattle.schedule_play.proofs.runner.RunnerPayload.begin.Goals as goal
 
-pub returns-clause-stands : goal.returns-clause-stands
-returns-clause-stands g c = λ tree input whole.
+pub returns-clause-ready : goal.returns-clause-ready
+returns-clause-ready g c = λ tree input whole.
     let code = g.B.PlayedCode.code in
     record {
       whole = record { code_of = whole.code_of; made = c.reset.ensures.made code whole.made; served = whole.served };

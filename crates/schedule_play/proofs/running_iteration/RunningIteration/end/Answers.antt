@@ -29,8 +29,8 @@ name_next-requires-clause-performs g c =
     let ends = instance_ends g.B.PlayedCode.code g.B.PlayedCode.cells book.input t run trace c.args.end under_way in
     subst (λ (l : List Entry). IsPerformed (pipeline_in book) i replies l c.args.end) (sym c.from_vec.ensures) ends.performs
 
-pub name_next-requires-clause-stands : goal.name_next-requires-clause-stands
-name_next-requires-clause-stands g c = λ names.
+pub name_next-requires-clause-ready : goal.name_next-requires-clause-ready
+name_next-requires-clause-ready g c = λ names.
     let code = g.B.PlayedCode.code in
     let cells = g.B.PlayedCode.cells in
     let book = c.args.book.now in
