@@ -230,7 +230,7 @@ impl<M: Payload<L>, L: ListWriter + Drop> Book<M, L> {
     /// the first that holds: the run was stopped; the loop is closed; instance 0 of the last iteration
     /// has not ended; as many iterations are alive as the throttling limit allows.
     pub fn begin(&mut self) -> Begun<M>
-        ensures answer { BeginReturns self.old.limit (state_of self.old) result }
+        ensures returned { BeginReturns self.old.limit (state_of self.old) result }
         ensures book { self.new ≡ after_begin self.old result }
         ensures token { IfStarted result (IsGivenBy M.ready_at M.tie self.new) }
         ensures now { IfStarted result (λ t. t.now ≡ last_ticket self.new.log) }
@@ -363,7 +363,7 @@ impl<M: Payload<L>, L: ListWriter + Drop> Book<M, L> {
         requires performs { IsPerformed (pipeline_in self.old) token.iteration (replies_at self.old token.iteration) trace end }
         requires ready { NamesNextStage end → M.ready_at (tree_of self.old.program) self.old.input token.payload token.iteration (replies_at self.old token.iteration ++ replies_of trace ∷ []) }
         requires stopped { end ≡ StageEnd.Stopped → (state_of self.old).stopped ≡ true }
-        ensures answer { AdvanceReturns (state_of self.old) token.iteration token.index end result }
+        ensures returned { AdvanceReturns (state_of self.old) token.iteration token.index end result }
         ensures book { self.new ≡ after_advance self.old (fields_of token) end trace result }
         ensures token { IfGo result (λ t. IsGivenBy M.ready_at M.tie self.new t × (t.folded ≡ folded_after self.old (fields_of token) end)) }
         ensures now { IfGo result (λ t. t.now ≡ last_ticket self.new.log) }
@@ -398,7 +398,7 @@ impl<M: Payload<L>, L: ListWriter + Drop> Book<M, L> {
         requires kind { kind ≢ Kind.Zero }
         requires performs { Performs (left_of self.old token.iteration) (accessed trace ++ Staged kind number ∷ []) }
         requires payload { IsPayloadOf M.ready_at M.tie self.old token.iteration (replies_at self.old token.iteration ++ replies_of trace ∷ []) token.payload }
-        ensures answer { AdvanceReturns (state_of self.old) token.iteration token.index (stage_end kind number) result }
+        ensures returned { AdvanceReturns (state_of self.old) token.iteration token.index (stage_end kind number) result }
         ensures book { self.new ≡ after_advance self.old (fields_of token) (stage_end kind number) trace result }
         ensures token { IfGo result (λ t. IsGivenBy M.ready_at M.tie self.new t × (t.folded ≡ folded_after self.old (fields_of token) (stage_end kind number))) }
         ensures now { IfGo result (λ t. t.now ≡ last_ticket self.new.log) }
@@ -425,7 +425,7 @@ impl<M: Payload<L>, L: ListWriter + Drop> Book<M, L> {
         requires performs { IsPerformed (pipeline_in self.old) token.iteration (replies_at self.old token.iteration) trace end }
         requires ready { NamesNextStage end → M.ready_at (tree_of self.old.program) self.old.input token.payload token.iteration (replies_at self.old token.iteration ++ replies_of trace ∷ []) }
         requires stopped { end ≡ StageEnd.Stopped → (state_of self.old).stopped ≡ true }
-        ensures answer { NameReturns (state_of self.old) end result }
+        ensures returned { NameReturns (state_of self.old) end result }
         ensures book { self.new ≡ after_name_next self.old (fields_of token) end trace result }
     {
         if self.stopped {
@@ -460,7 +460,7 @@ impl<M: Payload<L>, L: ListWriter + Drop> Book<M, L> {
     /// Starts the instance that an iteration has named, if it may start: the event `Enter` and its
     /// token. Returns `None` if the iteration has named none, or must wait, or the run was stopped.
     pub fn enter(&mut self, iteration: u32) -> Option<FrameToken<M>>
-        ensures answer { EnterReturns (state_of self.old) iteration result }
+        ensures returned { EnterReturns (state_of self.old) iteration result }
         ensures book { self.new ≡ after_enter self.old result }
         ensures token { IfSome result (IsGivenBy M.ready_at M.tie self.new) }
         ensures now { IfSome result (λ t. t.now ≡ last_ticket self.new.log) }
@@ -477,7 +477,7 @@ impl<M: Payload<L>, L: ListWriter + Drop> Book<M, L> {
 
     /// Does `enter` for the right neighbour of an iteration.
     pub fn check_right(&mut self, iteration: u32) -> Option<FrameToken<M>>
-        ensures answer { EnterReturns (state_of self.old) (iteration + 1) result }
+        ensures returned { EnterReturns (state_of self.old) (iteration + 1) result }
         ensures book { self.new ≡ after_enter self.old result }
         ensures token { IfSome result (IsGivenBy M.ready_at M.tie self.new) }
         ensures now { IfSome result (λ t. t.now ≡ last_ticket self.new.log) }
@@ -494,7 +494,7 @@ impl<M: Payload<L>, L: ListWriter + Drop> Book<M, L> {
     /// `Enter`; the next iteration may begin; nothing, which it returns only while a token is out. Looks
     /// at the alive iterations in order, and once at each that has ended since the last call.
     pub fn rescue(&mut self) -> Rescue<M>
-        ensures answer { RescueReturns self.old.limit (state_of self.old) (IsReady self.old) result }
+        ensures returned { RescueReturns self.old.limit (state_of self.old) (IsReady self.old) result }
         ensures book { self.new ≡ after_rescue self.old result }
         ensures token { IfToken result (IsGivenBy M.ready_at M.tie self.new) }
         ensures now { IfToken result (λ t. IsGivenBeside (resume_events (frame_at (state_of self.old).frames t.iteration) t.iteration) self.old self.new (fields_of t)) }

@@ -14,10 +14,10 @@ index_refused scope n k x i e refusal p q =
     (fails_first refusal k (marks_of_expression scope i) (marks_of_expression scope e) q)
 
 -- the name and the index pass, and the value decides
-pub value_decides : (scope : Scope) (n k j : ℕ) (x : List ℕ) (i e : Expression) (answer : Result ℕ CheckFault)
+pub value_decides : (scope : Scope) (n k j : ℕ) (x : List ℕ) (i e : Expression) (outcome : Result ℕ CheckFault)
     → PassesMarks (Ok k) n (mark_at scope (Indexed x) ∷ [])
-    → PassesMarks (Ok j) k (marks_of_expression scope i) → PassesMarks answer j (marks_of_expression scope e)
-    → PassesMarks answer n (marks_of_statement scope (AssignElement x i e))
-value_decides scope n k j x i e answer p q r =
-    passes_then answer n k (mark_at scope (Indexed x) ∷ []) (marks_of_expression scope i ++ marks_of_expression scope e) p
-    (passes_then answer k j (marks_of_expression scope i) (marks_of_expression scope e) q r)
+    → PassesMarks (Ok j) k (marks_of_expression scope i) → PassesMarks outcome j (marks_of_expression scope e)
+    → PassesMarks outcome n (marks_of_statement scope (AssignElement x i e))
+value_decides scope n k j x i e outcome p q r =
+    passes_then outcome n k (mark_at scope (Indexed x) ∷ []) (marks_of_expression scope i ++ marks_of_expression scope e) p
+    (passes_then outcome k j (marks_of_expression scope i) (marks_of_expression scope e) q r)

@@ -53,7 +53,7 @@ pub fails_first : (refusal : CheckFault) (n : ℕ) (a b : List Mark) → PassesM
 fails_first refusal n a b h = reports_same_fault refusal (first_fault n a) (first_fault n (a ++ b)) (first_stays n a b) h
 
 -- marks without a fault pass, and then what follows decides
-pub passes_then : (answer : Result ℕ CheckFault) (n k : ℕ) (a b : List Mark) → PassesMarks (Ok k) n a → PassesMarks answer k b → PassesMarks answer n (a ++ b)
+pub passes_then : (outcome : Result ℕ CheckFault) (n k : ℕ) (a b : List Mark) → PassesMarks (Ok k) n a → PassesMarks outcome k b → PassesMarks outcome n (a ++ b)
 passes_then (Ok end) n k a b p q =
     let following : first_fault n (a ++ b) ≡ first_fault k b = first_after n a b p.0 ∙ ap (λ j. first_fault j b) (sym p.1) in
     (following ∙ q.0, omega (arith, p.1, q.1, length-append a b))

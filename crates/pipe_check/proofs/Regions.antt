@@ -25,13 +25,13 @@ last_marks tree = marks_of_statements (opening regions.Last tree.cells) tree.las
 
 -- of all marks these are left, and the first of them has the number k
 pub record AreLeft (k : ℕ) (left all : List Mark) : Type 0 where
-  pub decide : (answer : Result ℕ CheckFault) → PassesMarks answer k left → PassesMarks answer 0 all
+  pub decide : (outcome : Result ℕ CheckFault) → PassesMarks outcome k left → PassesMarks outcome 0 all
   pub fit : Fits k left
 
 -- the first marks pass
 next_region : (k j : ℕ) (a b all : List Mark) → AreLeft k (a ++ b) all → PassesMarks (Ok j) k a → AreLeft j b all
 next_region k j a b all at p = record {
-  decide = λ answer q. at.decide answer (passes_then answer k j a b p q);
+  decide = λ outcome q. at.decide outcome (passes_then outcome k j a b p q);
   fit = fits_then k j a b at.fit p;
 }
 
@@ -49,7 +49,7 @@ cells_length before (d ∷ ds) = let rest = cells_length (before ++ d ∷ []) ds
 
 -- all marks are left at first
 pub at_cells : (tree : SyntaxTree) → IsSpellable tree → AreLeft 0 (marks_of tree) (marks_of tree)
-at_cells tree s = record { decide = λ answer p. p; fit = omega (arith, s.bounded) }
+at_cells tree s = record { decide = λ outcome p. p; fit = omega (arith, s.bounded) }
 
 -- a program has at most 4194304 declarations
 pub few_cells : (tree : SyntaxTree) → IsSpellable tree → length tree.cells ≤ 4194304

@@ -114,16 +114,16 @@ first_refused scope n k e a b whole refusal is p q =
     (passes_then (Err refusal) n k (marks_of_expression scope e) (marks_of_statements scope a ++ marks_of_statements (after_block scope a) b) p blocks)
 
 -- otherwise the second one decides
-pub second_decides : (scope between : Scope) (n k j : ℕ) (e : Expression) (a b : Statements) (whole : Statement) (answer : Result ℕ CheckFault)
+pub second_decides : (scope between : Scope) (n k j : ℕ) (e : Expression) (a b : Statements) (whole : Statement) (outcome : Result ℕ CheckFault)
     → whole ≡ If e a b
     → between ≡ after_block scope a → PassesMarks (Ok k) n (marks_of_expression scope e) → PassesMarks (Ok j) k (marks_of_statements scope a)
-    → PassesMarks answer j (marks_of_statements between b) → PassesMarks answer n (marks_of_statement scope whole)
-second_decides scope between n k j e a b whole answer is scope_after p q r =
-    let second : PassesMarks answer j (marks_of_statements (after_block scope a) b) =
-    subst (λ x. PassesMarks answer j (marks_of_statements x b)) scope_after r in
-    let blocks = passes_then answer k j (marks_of_statements scope a) (marks_of_statements (after_block scope a) b) q second in
-    subst (λ s. PassesMarks answer n (marks_of_statement scope s)) (sym is)
-    (passes_then answer n k (marks_of_expression scope e) (marks_of_statements scope a ++ marks_of_statements (after_block scope a) b) p blocks)
+    → PassesMarks outcome j (marks_of_statements between b) → PassesMarks outcome n (marks_of_statement scope whole)
+second_decides scope between n k j e a b whole outcome is scope_after p q r =
+    let second : PassesMarks outcome j (marks_of_statements (after_block scope a) b) =
+    subst (λ x. PassesMarks outcome j (marks_of_statements x b)) scope_after r in
+    let blocks = passes_then outcome k j (marks_of_statements scope a) (marks_of_statements (after_block scope a) b) q second in
+    subst (λ s. PassesMarks outcome n (marks_of_statement scope s)) (sym is)
+    (passes_then outcome n k (marks_of_expression scope e) (marks_of_statements scope a ++ marks_of_statements (after_block scope a) b) p blocks)
 
 -- the numbers of both blocks are within the bound
 pub first_fits : (scope : Scope) (n k : ℕ) (e : Expression) (a b : Statements) (whole : Statement) → whole ≡ If e a b
@@ -155,12 +155,12 @@ loop_refused scope n e a whole refusal is p =
     (fails_first refusal n (marks_of_expression scope e) (marks_of_statements scope a) p)
 
 -- otherwise the body decides
-pub body_decides : (scope : Scope) (n k : ℕ) (e : Expression) (a : Statements) (whole : Statement) (answer : Result ℕ CheckFault) → whole ≡ While e a
-    → PassesMarks (Ok k) n (marks_of_expression scope e) → PassesMarks answer k (marks_of_statements scope a)
-    → PassesMarks answer n (marks_of_statement scope whole)
-body_decides scope n k e a whole answer is p q =
-    subst (λ s. PassesMarks answer n (marks_of_statement scope s)) (sym is)
-    (passes_then answer n k (marks_of_expression scope e) (marks_of_statements scope a) p q)
+pub body_decides : (scope : Scope) (n k : ℕ) (e : Expression) (a : Statements) (whole : Statement) (outcome : Result ℕ CheckFault) → whole ≡ While e a
+    → PassesMarks (Ok k) n (marks_of_expression scope e) → PassesMarks outcome k (marks_of_statements scope a)
+    → PassesMarks outcome n (marks_of_statement scope whole)
+body_decides scope n k e a whole outcome is p q =
+    subst (λ s. PassesMarks outcome n (marks_of_statement scope s)) (sym is)
+    (passes_then outcome n k (marks_of_expression scope e) (marks_of_statements scope a) p q)
 
 pub body_fits : (scope : Scope) (n k : ℕ) (e : Expression) (a : Statements) (whole : Statement) → whole ≡ While e a
     → Fits n (marks_of_statement scope whole) → PassesMarks (Ok k) n (marks_of_expression scope e) → Fits k (marks_of_statements scope a)

@@ -134,12 +134,12 @@ nothing_found b c rescue.Nothing none e = record { call = unchanged b c e; const
 pub ended_without : {M : Type 0} (b c : BookState) (d : InstanceData) (f : TokenFields) (trace : List Entry) (end : StageEnd) (r : Next M) → ((t : FrameToken M) → r ≡ nexts.Go t → ⊥)
     → d.fields ≡ f → d.entries ≡ trace → AdvanceReturns (state_of b) f.iteration f.index end r → c ≡ after_advance b f end trace r
     → ControlRun c.limit (events_of c.log) (state_of c) → HasRisingTickets c.log → IsBookCall b (Some d) c None
-ended_without b c d f trace end nexts.Stopped none sf st answer e control rise = holds_back b c d f trace end (Kept f) _ sf st refl e
-ended_without b c d f trace end nexts.Ended none sf st answer e control rise =
-    finishes b c d f trace end Spent _ sf st (ends_not_stopped end answer.1) (λ q. (let z : Spent ≡ Out = q in cc)) e control rise
-ended_without b c d f trace end nexts.Suspended none sf st answer e control rise =
-    finishes b c d f trace end _ _ sf st (waits_not_stopped (state_of b) f.iteration end answer.1) (λ q. cc) e control rise
-ended_without b c d f trace end (nexts.Go t) none sf st answer e control rise = absurd (none t refl)
+ended_without b c d f trace end nexts.Stopped none sf st returned e control rise = holds_back b c d f trace end (Kept f) _ sf st refl e
+ended_without b c d f trace end nexts.Ended none sf st returned e control rise =
+    finishes b c d f trace end Spent _ sf st (ends_not_stopped end returned.1) (λ q. (let z : Spent ≡ Out = q in cc)) e control rise
+ended_without b c d f trace end nexts.Suspended none sf st returned e control rise =
+    finishes b c d f trace end _ _ sf st (waits_not_stopped (state_of b) f.iteration end returned.1) (λ q. cc) e control rise
+ended_without b c d f trace end (nexts.Go t) none sf st returned e control rise = absurd (none t refl)
 
 pub advanced : {M : Type 0} (b c : BookState) (f : TokenFields) (trace : List Entry) (end : StageEnd) (r : Next M) → c ≡ after_advance b f end trace r
     → (constants_of c ≡ constants_of b) × (events_of c.log ≡ events_of b.log ++ advance_events f.iteration end r)

@@ -137,7 +137,7 @@ impl<B: PlayedCode> RunningIteration<B> {
         requires ends { self.next ≡ NextAction.End end }
         requires lists { BelongsTo no_tie book.old.lists }
         requires instance { IsRunningIteration B.code B.cells (tree_of book.old.program) book.old.input (replies_at book.old self.token.iteration) self }
-        ensures answer { NameReturns (state_of book.old) end result }
+        ensures returned { NameReturns (state_of book.old) end result }
         ensures book { book.new ≡ after_name_next book.old self.token end self.trace result }
     {
         book.name_next(self.token, end, Trace::from_vec(self.running.trace))

@@ -143,7 +143,7 @@ may_begin code cells v h e next =
 -- the book begins the iteration
 pub begin_possible : {M : Type 0} (code : FlatCode) (cells : ℕ) (v : PlayState) (h : IsPlay code cells v) (e : Event) → next_begin v.book.limit (run_state v) ≡ Some e
     → (r : Begun M) → BeginReturns v.book.limit (state_of v.book) r → ((t : FrameToken M) → r ≡ results.Started t → ⊥) → ⊥
-begin_possible {M} code cells v h e next r answer never = by r answer never
+begin_possible {M} code cells v h e next r returned never = by r returned never
   where
     there : MayBegin v.book.limit (state_of v.book) (length (run_state v).frames)
     there = ((agrees code cells v h).allow (Begin (length (run_state v).frames))).0 (may_begin code cells v h e next)
@@ -157,7 +157,7 @@ begin_possible {M} code cells v h e next r answer never = by r answer never
     by results.Closed closed never = turn.1 closed.1
     by results.NotYet early never = early.2 turn.2
     by results.Throttled full never = let a = full.3 in let b = turn.0 in omega (arith, a, b)
-    by (results.Started t) answer never = never t refl
+    by (results.Started t) returned never = never t refl
 
 -- the schedule has room for the iteration
 pub begin_fits : (code : FlatCode) (cells : ℕ) (v : PlayState) (h : IsPlay code cells v) (e : Event) → next_begin v.book.limit (run_state v) ≡ Some e
@@ -189,12 +189,12 @@ pub begun_made : {M : Type 0} (code : FlatCode) (cells : ℕ) (v : PlayState) (h
       running = v.running ++ Some k ∷ [];
       events = v.events ++ Begin token.iteration ∷ [];
     })
-begun_made code cells v h e next token answer out machine ready k fields empty input same instance schedule scheduled limited =
+begun_made code cells v h e next token returned out machine ready k fields empty input same instance schedule scheduled limited =
     let s = run_state v in
     let i = token.iteration in
     let tree = tree_of v.book.program in
     let replies = replies_at (after_begin v.book (results.Started token)) i in
-    let may : MayBegin v.book.limit s i = ((agrees code cells v h).allow (Begin i)).1 answer.2 in
+    let may : MayBegin v.book.limit s i = ((agrees code cells v h).allow (Begin i)).1 returned.2 in
     let is : e ≡ Begin i = begin_event v.book.limit s e next ∙ ap Begin (sym may.number) in
     let number : v.schedule.begun ≡ i = h.schedule.begun ∙ sym may.number in
     let there : IsRunningIteration code cells tree input replies k = instance tree replies (subst (λ l. IsAtInstance code cells tree l machine i replies) (sym same) ready) in (

@@ -208,29 +208,29 @@ module _ (code : FlatCode) (cells : ℕ) (v : PlayState) (h : IsPlay code cells 
 
   waits_only : (end : StageEnd) (result : Named) → NamesNextStage end → NameReturns (state_of v.book) end result → result ≡ named.Waits
   waits_only end named.Stopped names (stopped) = absurd (let q : true ≡ false = sym stopped ∙ goes_on in cc)
-  waits_only (stage_ends.Wait n) named.Ended names answer = elim answer.1 [ ]
-  waits_only (stage_ends.Continue n) named.Ended names answer = elim answer.1 [ ]
-  waits_only stage_ends.End named.Ended names answer = elim names [ ]
-  waits_only stage_ends.Closed named.Ended names answer = elim names [ ]
-  waits_only (stage_ends.Trap t) named.Ended names answer = elim names [ ]
-  waits_only stage_ends.Stopped named.Ended names answer = elim names [ ]
-  waits_only end named.Waits names answer = refl
+  waits_only (stage_ends.Wait n) named.Ended names returned = elim returned.1 [ ]
+  waits_only (stage_ends.Continue n) named.Ended names returned = elim returned.1 [ ]
+  waits_only stage_ends.End named.Ended names returned = elim names [ ]
+  waits_only stage_ends.Closed named.Ended names returned = elim names [ ]
+  waits_only (stage_ends.Trap t) named.Ended names returned = elim names [ ]
+  waits_only stage_ends.Stopped named.Ended names returned = elim names [ ]
+  waits_only end named.Waits names returned = refl
 
   ends_only : (end : StageEnd) (result : Named) → EndsIteration end → NameReturns (state_of v.book) end result → result ≡ named.Ended
   ends_only end named.Stopped over stopped = absurd (let q : true ≡ false = sym stopped ∙ goes_on in cc)
-  ends_only end named.Ended over answer = refl
-  ends_only (stage_ends.Wait n) named.Waits over answer = elim over [ ]
-  ends_only (stage_ends.Continue n) named.Waits over answer = elim over [ ]
-  ends_only stage_ends.End named.Waits over answer = elim answer.1 [ ]
-  ends_only stage_ends.Closed named.Waits over answer = elim answer.1 [ ]
-  ends_only (stage_ends.Trap t) named.Waits over answer = elim answer.1 [ ]
-  ends_only stage_ends.Stopped named.Waits over answer = elim over [ ]
+  ends_only end named.Ended over returned = refl
+  ends_only (stage_ends.Wait n) named.Waits over returned = elim over [ ]
+  ends_only (stage_ends.Continue n) named.Waits over returned = elim over [ ]
+  ends_only stage_ends.End named.Waits over returned = elim returned.1 [ ]
+  ends_only stage_ends.Closed named.Waits over returned = elim returned.1 [ ]
+  ends_only (stage_ends.Trap t) named.Waits over returned = elim returned.1 [ ]
+  ends_only stage_ends.Stopped named.Waits over returned = elim over [ ]
 
   -- the play goes on with the event of the end
   pub end_on : (result : Named) → NameReturns (state_of v.book) ending result
       → (e : Event) → stage_end_events i ending ≡ e ∷ [] → (schedule : ScheduleState) → IsScheduleOf (next_state s e) schedule → schedule.limit ≡ v.book.limit
       → IsPlay code cells (played result e schedule)
-  end_on result answer e one schedule = by ending refl answer one
+  end_on result returned e one schedule = by ending refl returned one
     where
       goal : Type 0
       goal = IsScheduleOf (next_state s e) schedule → schedule.limit ≡ v.book.limit → IsPlay code cells (played result e schedule)
@@ -238,30 +238,30 @@ module _ (code : FlatCode) (cells : ℕ) (v : PlayState) (h : IsPlay code cells 
       named_by : (kind : Kind) (n : ℤ) (end : StageEnd) → ending ≡ end → NamesNextStage end
           → NameReturns (state_of v.book) end result → stage_end_events i end ≡ Advance i kind n ∷ [] → stage_end_events i end ≡ e ∷ []
           → ((rest : Behaviour) × (behaviour_after_all (left_of v.book i) (accessed k.trace) ≡ Staging kind n rest)) → goal
-      named_by kind n end here names answer mine one leaves =
+      named_by kind n end here names returned mine one leaves =
           let same : Advance i kind n ≡ e = (let q = sym mine ∙ one in cc) in
           subst (λ (y : Event). IsScheduleOf (next_state s y) schedule → schedule.limit ≡ v.book.limit → IsPlay code cells (played result y schedule)) same
-          (names_on kind n leaves.0 result (ap (stage_end_events i) here ∙ mine) (waits_only end result names answer) leaves.1 schedule)
+          (names_on kind n leaves.0 result (ap (stage_end_events i) here ∙ mine) (waits_only end result names returned) leaves.1 schedule)
 
       ended_by : (x : ColumnEnd) (end : StageEnd) → ending ≡ end → EndsIteration end
           → NameReturns (state_of v.book) end result → stage_end_events i end ≡ Finish i x ∷ [] → stage_end_events i end ≡ e ∷ [] → goal
-      ended_by x end here over answer mine one =
+      ended_by x end here over returned mine one =
           let same : Finish i x ≡ e = (let q = sym mine ∙ one in cc) in
           subst (λ (y : Event). IsScheduleOf (next_state s y) schedule → schedule.limit ≡ v.book.limit → IsPlay code cells (played result y schedule)) same
-          (ends_on x result (ap (stage_end_events i) here ∙ mine) (ends_only end result over answer) schedule)
+          (ends_on x result (ap (stage_end_events i) here ∙ mine) (ends_only end result over returned) schedule)
 
       ends_as : (end : StageEnd) → ending ≡ end → EndsAs code cells v.book.input end k.machine.run (behaviour_after_all (left_of v.book i) (accessed k.trace))
       ends_as end here = subst (λ y. EndsAs code cells v.book.input y k.machine.run (behaviour_after_all (left_of v.book i) (accessed k.trace))) here under_way.is_at.1
 
       by : (end : StageEnd) → ending ≡ end → NameReturns (state_of v.book) end result → stage_end_events i end ≡ e ∷ [] → goal
-      by (stage_ends.Wait n) here answer one =
-          let y = ends_as (stage_ends.Wait n) here in named_by kinds.Wait n (stage_ends.Wait n) here tt answer refl one (y.0, y.1)
-      by (stage_ends.Continue n) here answer one =
-          let y = ends_as (stage_ends.Continue n) here in named_by kinds.Continue n (stage_ends.Continue n) here tt answer refl one (y.0, y.1)
-      by stage_ends.End here answer one = ended_by ends.End stage_ends.End here tt answer refl one
-      by stage_ends.Closed here answer one = ended_by ends.Closed stage_ends.Closed here tt answer refl one
-      by (stage_ends.Trap t) here answer one = ended_by (ends.Trapped t) (stage_ends.Trap t) here tt answer refl one
-      by stage_ends.Stopped here answer one = absurd (under_way.is_at.0 here)
+      by (stage_ends.Wait n) here returned one =
+          let y = ends_as (stage_ends.Wait n) here in named_by kinds.Wait n (stage_ends.Wait n) here tt returned refl one (y.0, y.1)
+      by (stage_ends.Continue n) here returned one =
+          let y = ends_as (stage_ends.Continue n) here in named_by kinds.Continue n (stage_ends.Continue n) here tt returned refl one (y.0, y.1)
+      by stage_ends.End here returned one = ended_by ends.End stage_ends.End here tt returned refl one
+      by stage_ends.Closed here returned one = ended_by ends.Closed stage_ends.Closed here tt returned refl one
+      by (stage_ends.Trap t) here returned one = ended_by (ends.Trapped t) (stage_ends.Trap t) here tt returned refl one
+      by stage_ends.Stopped here returned one = absurd (under_way.is_at.0 here)
 
 -- the result of a call of the player: the event is the next one, and the play goes on with it
 pub end_made : (code : FlatCode) (cells : ℕ) (v : PlayState) (h : IsPlay code cells v) (i : ℕ) (r : IsRunning (run_state v) i) (k : RunningIterationState)
@@ -276,12 +276,12 @@ pub end_made : (code : FlatCode) (cells : ℕ) (v : PlayState) (h : IsPlay code 
       running = set v.running i None;
       events = v.events ++ e ∷ [];
     })
-end_made code cells v h i r k kept end at result answer e one schedule scheduled limited =
+end_made code cells v h i r k kept end at result returned e one schedule scheduled limited =
     let next = end_is_next code cells v h i r.frame r.is r.runs k kept end at e one in
     let allowed = allowed_here code cells v h i r.frame r.is r.runs k kept e (no_stop i end e one) next in
     let control = subst (λ l. ControlAllows l (run_state v) e) (sym h.limit) allowed.control in (
       next,
-      end_on code cells v h i r.frame r.is r.runs k kept end at result answer e one schedule (scheduled (run_state v) h.schedule control) (limited ∙ h.limit),
+      end_on code cells v h i r.frame r.is r.runs k kept end at result returned e one schedule (scheduled (run_state v) h.schedule control) (limited ∙ h.limit),
     )
   where
     no_stop : (i : ℕ) (end : StageEnd) (e : Event) → stage_end_events i end ≡ e ∷ [] → e ≢ Stop

@@ -145,9 +145,9 @@ runs_by_slot code cells v h i k some e next =
 -- the book enters the stage
 pub enter_possible : (code : FlatCode) (cells : ℕ) (v : PlayState) (h : IsPlay code cells v) (i : ℕ) → next_event (pipeline_played v) (run_state v) i ≡ Some (Enter i)
     → ((state_of v.book).stopped ≡ true) ⊎ (MayEnter (state_of v.book) i → ⊥) → ⊥
-enter_possible code cells v h i next answer =
+enter_possible code cells v h i next returned =
     let allowed = (allowed_events_are_next (pipeline_played v) v.book.limit v.events (run_state v) (Enter i) h.run h.proper h.going (λ q. absurd (cc))).1 (inl (i, next)) in
-    elim answer [
+    elim returned [
       | inl stopped ↦ (let q : true ≡ false = sym stopped ∙ (sym (same_control code cells v h).stopped ∙ h.going) in absurd (cc))
       | inr never ↦ never (((agrees code cells v h).allow (Enter i)).0 allowed.control)
     ]

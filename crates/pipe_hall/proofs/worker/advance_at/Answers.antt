@@ -31,8 +31,8 @@ return_token-requires-clause-call g c =
       Some t.0,
       t.1.holds,
       goes_on b c.advance-next.new.self t.0 f c.args.trace c.args.end Out _ (t.2.fields ∙ sym same) (t.2.entries ∙ sym c.requires.trace) (fields_of c.in-Go.token)
-          (enters_not_stopped (state_of b) f.iteration c.args.end e.answer.1) refl e.book c.entries.ensures.control (subst HasRisingTickets c.entries.ensures.log c.entries.ensures.rise)
-          e.answer.2 e.token.0.out e.token.0.parts e.now,
+          (enters_not_stopped (state_of b) f.iteration c.args.end e.returned.1) refl e.book c.entries.ensures.control (subst HasRisingTickets c.entries.ensures.log c.entries.ensures.rise)
+          e.returned.2 e.token.0.out e.token.0.parts e.now,
     )
 
 pub return_book-requires : goal.return_book-requires
@@ -48,7 +48,7 @@ return_book-requires g c =
         b,
         Some t.0,
         t.1.holds,
-        ended_without b c.advance-next.new.self t.0 f c.args.trace c.args.end c.advance-next.result c.in_default.not-Go (t.2.fields ∙ sym same) (t.2.entries ∙ sym c.requires.trace) e.answer e.book
+        ended_without b c.advance-next.new.self t.0 f c.args.trace c.args.end c.advance-next.result c.in_default.not-Go (t.2.fields ∙ sym same) (t.2.entries ∙ sym c.requires.trace) e.returned e.book
             c.entries.ensures.control (subst HasRisingTickets c.entries.ensures.log c.entries.ensures.rise),
       );
     }
@@ -75,7 +75,7 @@ returns-in-Go-clause-sees g c =
     (λ q. AdvanceReturns q c.args.token.iteration c.args.token.index c.args.end (nexts.Go x))) (sym s.1)
     (subst (λ (k : TokenFields). Sees m.0.it.seen z.0.it.seen (stage_end_events k.iteration c.args.end ++ Enter k.iteration ∷ []) (λ q. AdvanceReturns q k.iteration k.index c.args.end (nexts.Go u))) same
     (sees g.row.M.Denot m c.take_back-book.new.seat.me b (Some t.0) t.1 z c.advance-next.new.self _ c.return_token.ensures.given es (λ q. AdvanceReturns q f.iteration f.index c.args.end (nexts.Go u))
-    (advanced {M = g.row.M.Denot} b c.advance-next.new.self f c.args.trace c.args.end (nexts.Go c.in-Go.token) e.book).1 e.answer))
+    (advanced {M = g.row.M.Denot} b c.advance-next.new.self f c.args.trace c.args.end (nexts.Go c.in-Go.token) e.book).1 e.returned))
 
 pub returns-in_default : goal.returns-in_default
 returns-in_default g c =
@@ -94,7 +94,7 @@ returns-in_default g c =
       own = c.return_book.ensures.own.0 ∙ c.take_back-book.ensures.own;
       idle = stays_idle g.row.M.Denot m n b (Some t.0) t.1 z x _ c.return_book.ensures.given q.0 c.entries.ensures.control;
       sees = subst (λ (k : TokenFields). Sees m.0.it.seen z.0.it.seen (advance_events k.iteration c.args.end r) (λ s. AdvanceReturns s k.iteration k.index c.args.end r)) same
-          (sees g.row.M.Denot m n b (Some t.0) t.1 z x _ c.return_book.ensures.given (advance_events f.iteration c.args.end r) (λ s. AdvanceReturns s f.iteration f.index c.args.end r) q.1 e.answer);
+          (sees g.row.M.Denot m n b (Some t.0) t.1 z x _ c.return_book.ensures.given (advance_events f.iteration c.args.end r) (λ s. AdvanceReturns s f.iteration f.index c.args.end r) q.1 e.returned);
       tokens = subst (λ k. Exchanges k 1 m.0.it.tokens z.0.it.tokens) (sym (none_next r c.in_default.not-Go)) (token_comes g.row.M.Denot m n z b x t.0 t.1 c.return_book.ensures.given);
       runs = none_goes r _ c.in_default.not-Go;
       token = none_goes r _ c.in_default.not-Go;

@@ -48,7 +48,7 @@ returns-in_default g c =
       own = c.return_book.ensures.own.0 ∙ c.take_book-book.ensures.own;
       idle = stays_idle g.row.M.Denot m n b None h z x _ c.return_book.ensures.given q.constants c.entries.ensures.control;
       sees = sees g.row.M.Denot m n b None h z x _ c.return_book.ensures.given (begin_events r) (λ s. BeginReturns _ s r) q.adds
-          (subst (λ (k : HallName). BeginReturns k.limit (state_of b) r) (sym (name_is c.args.seat.now.table_id m n b None h)) c.begin-begun.ensures.answer);
+          (subst (λ (k : HallName). BeginReturns k.limit (state_of b) r) (sym (name_is c.args.seat.now.table_id m n b None h)) c.begin-begun.ensures.returned);
       tokens = subst (λ k. Exchanges k 0 m.0.it.tokens z.0.it.tokens) (sym (none_begun r c.in_default.not-Started)) (none_moves g.row.M.Denot m n z b x h c.return_book.ensures.given);
       runs = none_started r _ c.in_default.not-Started;
       token = none_started r _ c.in_default.not-Started;

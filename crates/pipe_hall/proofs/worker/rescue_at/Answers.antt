@@ -55,7 +55,7 @@ returns-in-Token-clause-sees g c =
     subst (λ (y : FrameToken g.row.M.Denot). RescueSees limit m.0.it.seen z.0.it.seen (rescue.Token y)) (sym s.1)
     (rescue_sees_of {M = g.row.M.Denot} limit m.0.it.seen z.0.it.seen b x (rescue.Token u) h.seen (seen_after g.row.M.Denot m n b None h z x _ c.return_token.ensures.given)
     (ap (λ (y : BookState). events_of y.log) e.book ∙ resumed_events b u.iteration)
-    (subst (λ (k : HallName). RescueReturns {M = g.row.M.Denot} k.limit (state_of b) (IsReady b) (rescue.Token u)) (sym (name_is c.args.seat.now.table_id m n b None h)) e.answer))
+    (subst (λ (k : HallName). RescueReturns {M = g.row.M.Denot} k.limit (state_of b) (IsReady b) (rescue.Token u)) (sym (name_is c.args.seat.now.table_id m n b None h)) e.returned))
 
 pub returns-in_default : goal.returns-in_default
 returns-in_default g c =
@@ -71,7 +71,7 @@ returns-in_default g c =
       own = c.return_book.ensures.own.0 ∙ c.take_book-book.ensures.own;
       idle = stays_idle g.row.M.Denot m n b None h z x _ c.return_book.ensures.given q.constants c.entries.ensures.control;
       sees = rescue_sees_of {M = g.row.M.Denot} _ m.0.it.seen z.0.it.seen b x r h.seen (seen_after g.row.M.Denot m n b None h z x _ c.return_book.ensures.given) q.adds
-          (subst (λ (k : HallName). RescueReturns {M = g.row.M.Denot} k.limit (state_of b) (IsReady b) r) (sym (name_is c.args.seat.now.table_id m n b None h)) c.rescue-found.ensures.answer);
+          (subst (λ (k : HallName). RescueReturns {M = g.row.M.Denot} k.limit (state_of b) (IsReady b) r) (sym (name_is c.args.seat.now.table_id m n b None h)) c.rescue-found.ensures.returned);
       tokens = subst (λ k. Exchanges k 0 m.0.it.tokens z.0.it.tokens) (sym (none_rescued r c.in_default.not-Token)) (none_moves g.row.M.Denot m n z b x h c.return_book.ensures.given);
       runs = none_found r _ c.in_default.not-Token;
       token = none_found r _ c.in_default.not-Token;

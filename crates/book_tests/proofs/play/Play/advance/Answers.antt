@@ -25,7 +25,7 @@ hold-requires-clause-others c =
     let v = c.take.new.self.book in
     let t = c.in-Some.token in
     let events = advance_events t.iteration c.args.end (next.Go c.in-Go.token) in
-    subst (λ i. AreHeldBut i c.advance-next.new.self c.take.new.self.tokens.items) (sym c.in-Go.ensures.answer.2)
+    subst (λ i. AreHeldBut i c.advance-next.new.self c.take.new.self.tokens.items) (sym c.in-Go.ensures.returned.2)
     (held_after t.iteration v c.advance-next.new.self events c.take.new.self.tokens.items
     (subst (λ w. Changes t.iteration v w events) (sym c.in-Go.ensures.book) (advance_changes v (fields_of t) c.args.end c.new.result (next.Go c.in-Go.token)))
     c.last_ticket-self.ensures c.take.ensures.held)

@@ -20,8 +20,8 @@ use Rattle.frame_book.specs.TicketLog.{Ledger}
 use Rattle.frame_book.proofs.BookLogs.LogEntries.{last_ticket_with}
 use Rattle.frame_book.proofs.book.Book.begin.Goals as goal
 
-pub returns-then-not-last_has_ended_first-clause-answer : goal.returns-then-not-last_has_ended_first-clause-answer
-returns-then-not-last_has_ended_first-clause-answer g c =
+pub returns-then-not-last_has_ended_first-clause-returned : goal.returns-then-not-last_has_ended_first-clause-returned
+returns-then-not-last_has_ended_first-clause-returned g c =
     let s = state_of (book_state (tables_of c.self.inside)) in
     let rows = subst (AreRows (not s.stopped) s.frames) (sym c.as_slice.ensures.value) c.self.invariant.0.rows.each in
     let both = c.last_has_ended_first.ensures (not s.stopped) s.frames rows in
@@ -31,8 +31,8 @@ returns-then-not-last_has_ended_first-clause-answer g c =
       (λ q. (let e : true ≡ false = sym (both.1 q) ∙ c.if-not-last_has_ended_first.true in absurd (cc))),
     )
 
-pub returns-in_default-clause-answer : goal.returns-in_default-clause-answer
-returns-in_default-clause-answer g c =
+pub returns-in_default-clause-returned : goal.returns-in_default-clause-returned
+returns-in_default-clause-returned g c =
     let s = state_of (book_state (tables_of c.self.inside)) in
     let rows = subst (AreRows (not s.stopped) s.frames) (sym c.as_slice.ensures.value) c.self.invariant.0.rows.each in
     let both = c.last_has_ended_first.ensures (not s.stopped) s.frames rows in
@@ -139,8 +139,8 @@ invariant_of-self-2 g c =
     rw (c.push_reserved.ensures.items, cap, c.push_reserved-2.ensures.items, c.push_reserved-2.ensures.capacity, c.enter.ensures, c.start_head-marks.ensures.marks, c.start_head-marks.ensures.lists, c.as_slice-2.ensures.value, c.stamp-now.ensures.log, c.take.ensures.size, n)
     (begin_keeps g.M.Stands.whole g.M.Stands.ready_at g.M.Stands.tie (tables_of c.self.inside) c.self.invariant.0 c.if-self.false c.if-self-2.false ended c.take.new.self.home c.in-Some.payload c.in-Some.ensures.some c.pop.new.self.items c.in-Some-pop.row c.in-Some-pop.ensures.items, alive_push c.self.inside.rows.items c.pop.new.self.items c.in-Some-pop.row _ _ _ listed)
 
-pub returns-clause-answer : goal.returns-clause-answer
-returns-clause-answer g c =
+pub returns-clause-returned : goal.returns-clause-returned
+returns-clause-returned g c =
     let s = state_of (book_state (tables_of c.self.inside)) in
     let rows = subst (AreRows (not s.stopped) s.frames) (sym c.as_slice.ensures.value) c.self.invariant.0.rows.each in
     let ended = (c.last_has_ended_first.ensures (not s.stopped) s.frames rows).0 c.if-not-last_has_ended_first.false in

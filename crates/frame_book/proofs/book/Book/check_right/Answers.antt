@@ -11,8 +11,8 @@ use Rattle.frame_book.proofs.Iterations.FrameRows.{rows_length}
 use Rattle.frame_book.proofs.Iterations.SpareRows.{few_rows}
 use Rattle.frame_book.proofs.book.Book.check_right.Goals as goal
 
-pub returns-then-iteration-len-clause-answer : goal.returns-then-iteration-len-clause-answer
-returns-then-iteration-len-clause-answer g c = inr (λ m.
+pub returns-then-iteration-len-clause-returned : goal.returns-then-iteration-len-clause-returned
+returns-then-iteration-len-clause-returned g c = inr (λ m.
     let may = subst (λ v. MayEnter (state_of v) (c.args.iteration + 1)) (sym c.self.view_is) m in
     let s = state_of (book_state (tables_of c.self.inside)) in
     let a = frame_at_within s.frames (c.args.iteration + 1) may.frame may.is in

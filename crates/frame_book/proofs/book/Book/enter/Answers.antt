@@ -14,8 +14,8 @@ enter_named-requires-clause-may g c =
     let may = (free_is_may s c.args.iteration).0 ((c.may_enter.ensures (not s.stopped) s.frames rows).0 c.if-not-may_enter.false) in
     subst (λ v. MayEnter (state_of v) c.args.iteration) c.self.view_is may
 
-pub returns-clause-answer : goal.returns-clause-answer
-returns-clause-answer g c =
+pub returns-clause-returned : goal.returns-clause-returned
+returns-clause-returned g c =
     let s = state_of (book_state (tables_of c.self.inside)) in
     let rows = subst (AreRows (not s.stopped) s.frames) (sym c.as_slice.ensures.value) c.self.invariant.0.rows.each in
     let may = (free_is_may s c.args.iteration).0 ((c.may_enter.ensures (not s.stopped) s.frames rows).0 c.if-not-may_enter.false) in

@@ -126,8 +126,8 @@ enter_named-requires-clause-may g c =
     let free = lets (not (state_of c.args.self.now).stopped) (state_of c.args.self.now).frames c.self.inside.rows.items i c.args.kind n c.needs_left-read.result t.folded rows within out.token.folded read (subst (λ (o : Option Counter). WaitsAt c.args.kind i → FoldedPasses o n) now (subst (λ z. WaitsAt c.args.kind i → FoldedPasses c.fold_left.new.folded z) num (test.0 c.if-enters.true))) in
     subst (λ v. MayEnter (state_of v) i) (sym after) (may1 c.args.self.now (fields_of t) c.args.kind n c.args.trace c.fold_left.new.folded going out free)
 
-pub returns-then-enters-clause-answer : goal.returns-then-enters-clause-answer
-returns-then-enters-clause-answer g c =
+pub returns-then-enters-clause-returned : goal.returns-then-enters-clause-returned
+returns-then-enters-clause-returned g c =
     let t = c.args.token in
     let i = t.iteration in
     let n = c.args.number in
@@ -192,8 +192,8 @@ returns-then-enters-clause-token g c =
     let ends = end_is i c.args.kind n c.requires.kind in
     (c.enter_named.ensures.token, c.enter_named.ensures.folded ∙ (ap (λ (v : BookState). kept_folded (get_or v.tokens i Rattle.frame_book.specs.BookStates.Spent)) after ∙ (folded1 c.args.self.now (fields_of t) c.args.kind n c.args.trace c.fold_left.new.folded going out ∙ folded_are)))
 
-pub returns-else-enters-clause-answer : goal.returns-else-enters-clause-answer
-returns-else-enters-clause-answer g c =
+pub returns-else-enters-clause-returned : goal.returns-else-enters-clause-returned
+returns-else-enters-clause-returned g c =
     let t = c.args.token in
     let i = t.iteration in
     let n = c.args.number in

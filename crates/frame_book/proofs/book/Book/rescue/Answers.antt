@@ -23,8 +23,8 @@ resume-requires-clause-can g c =
     let can = (can_is (not s.stopped) (tables_of c.self-2.inside) c.in-Some.iteration h.rows.each).0 here in
     subst (λ x. CanGoOn (IsReady x) (state_of x) c.in-Some.iteration) c.self-2.view_is can
 
-pub returns-in-Some-clause-answer : goal.returns-in-Some-clause-answer
-returns-in-Some-clause-answer g c =
+pub returns-in-Some-clause-returned : goal.returns-in-Some-clause-returned
+returns-in-Some-clause-returned g c =
     let v = book_state (tables_of c.self-2.inside) in
     let s = state_of v in
     let h = c.self-2.invariant.0 in
@@ -39,8 +39,8 @@ returns-in-Some-clause-answer g c =
     let is : IsFirstToGoOn (IsReady v) s c.resume.result.iteration = subst (IsFirstToGoOn (IsReady v) s) (sym c.resume.ensures.iteration) (record { can = can; first = first }) in
     (going, subst (λ x. IsFirstToGoOn (IsReady x) (state_of x) c.resume.result.iteration) after is)
 
-pub returns-then-may_begin-clause-answer : goal.returns-then-may_begin-clause-answer
-returns-then-may_begin-clause-answer g c =
+pub returns-then-may_begin-clause-returned : goal.returns-then-may_begin-clause-returned
+returns-then-may_begin-clause-returned g c =
     let v = book_state (tables_of c.self-2.inside) in
     let s = state_of v in
     let h = c.self-2.invariant.0 in
@@ -53,8 +53,8 @@ returns-then-may_begin-clause-answer g c =
     let may = subst (λ (x : BookState). MayBegin x.limit (state_of x) (length (state_of x).frames)) c.drop_ended.ensures (c.may_begin.ensures.0 c.if-may_begin.true) in
     (going, subst (λ (x : BookState). (i : ℕ) → CanGoOn (IsReady x) (state_of x) i → ⊥) after none, may, over)
 
-pub returns-clause-answer : goal.returns-clause-answer
-returns-clause-answer g c =
+pub returns-clause-returned : goal.returns-clause-returned
+returns-clause-returned g c =
     let v = book_state (tables_of c.self-2.inside) in
     let s = state_of v in
     let h = c.self-2.invariant.0 in
@@ -72,6 +72,6 @@ returns-clause-answer g c =
 pub returns-clause-nothing : goal.returns-clause-nothing
 returns-clause-nothing g c =
     let b = tables_of c.self.inside in
-    let answer = subst (λ (x : BookState). RescueReturns {M = g.row.M.Denot} x.limit (state_of x) (IsReady x) rescue.Nothing) (sym c.self.view_is) (returns-clause-answer g c) in
+    let returned = subst (λ (x : BookState). RescueReturns {M = g.row.M.Denot} x.limit (state_of x) (IsReady x) rescue.Nothing) (sym c.self.view_is) (returns-clause-returned g c) in
     subst (λ (x : BookState). (i : ℕ) × IsOut x i) c.self.view_is
-    (a_token_is_out g.M.Stands.whole g.M.Stands.ready_at g.M.Stands.tie b c.self.invariant.0 answer.0 answer.1 answer.2 answer.3)
+    (a_token_is_out g.M.Stands.whole g.M.Stands.ready_at g.M.Stands.tie b c.self.invariant.0 returned.0 returned.1 returned.2 returned.3)

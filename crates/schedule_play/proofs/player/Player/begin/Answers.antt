@@ -13,8 +13,8 @@ pub unreachable-requires : goal.unreachable-requires
 unreachable-requires g c =
     let code = g.B.PlayedCode.code in
     let cells = g.B.PlayedCode.cells in
-    let answer = subst (λ (x : PlayState). BeginReturns x.book.limit (state_of x.book) c.begin.result) c.self.view_is c.begin.ensures.answer in
-    begin_possible code cells c.args.self.now c.requires.play c.requires.next.0 c.requires.next.1 c.begin.result answer c.in_default.not-Started
+    let returned = subst (λ (x : PlayState). BeginReturns x.book.limit (state_of x.book) c.begin.result) c.self.view_is c.begin.ensures.returned in
+    begin_possible code cells c.args.self.now c.requires.play c.requires.next.0 c.requires.next.1 c.begin.result returned c.in_default.not-Started
 
 pub begin-requires-2-clause-room : goal.begin-requires-2-clause-room
 begin-requires-2-clause-room g c =
@@ -42,7 +42,7 @@ returns-clause-play g c =
     let token = c.in-Started.token in
     let given = subst (λ (b : BookState). IsGivenBy (λ tree numbers x j replies. IsAtInstance code cells tree numbers x.machine j replies) (λ x. no_tie) b token) c.in-Started.ensures.book c.in-Started.ensures.token in
     let ensured = c.new-running.ensures in
-    let made = begun_made code cells w h c.requires.next.0 next token c.in-Started.ensures.answer given.out token.payload.machine given.payload.ready c.new-running.result
+    let made = begun_made code cells w h c.requires.next.0 next token c.in-Started.ensures.returned given.out token.payload.machine given.payload.ready c.new-running.result
     ensured.fields ensured.empty c.args.input.now input ensured.instance c.begin-2.new.self c.begin-2.ensures.schedule c.begin-2.ensures.limit in
     rw (c.in-Started.ensures.book, c.in_ok-push.ensures.items, c.in_ok-push-2.ensures.ok) made.1
 
@@ -58,7 +58,7 @@ returns-clause-event g c = λ e is.
     let token = c.in-Started.token in
     let given = subst (λ (b : BookState). IsGivenBy (λ tree numbers x j replies. IsAtInstance code cells tree numbers x.machine j replies) (λ x. no_tie) b token) c.in-Started.ensures.book c.in-Started.ensures.token in
     let ensured = c.new-running.ensures in
-    let made = begun_made code cells w h c.requires.next.0 next token c.in-Started.ensures.answer given.out token.payload.machine given.payload.ready c.new-running.result
+    let made = begun_made code cells w h c.requires.next.0 next token c.in-Started.ensures.returned given.out token.payload.machine given.payload.ready c.new-running.result
     ensured.fields ensured.empty c.args.input.now input ensured.instance c.begin-2.new.self c.begin-2.ensures.schedule c.begin-2.ensures.limit in
     let one : Some c.requires.next.0 ≡ Some e = sym c.requires.next.1 ∙ is in
     let same : events.Begin token.iteration ≡ e = (let q = made.0 in cc) in

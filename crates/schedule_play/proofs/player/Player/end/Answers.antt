@@ -89,7 +89,7 @@ returns-clause-play g c =
     let at = subst (λ o. IfSome o (λ (x : RunningIterationState). x.next ≡ actions.End c.args.end)) kept
     (subst (λ (x : PlayState). IfSome (item_or None x.running i) (λ (y : RunningIterationState). y.next ≡ actions.End c.args.end)) (sym c.self.view_is) c.requires.next) in
     let ensured = c.end_instance-event.ensures in
-    let made = end_made code cells w h i runs c.in-Some.running kept c.args.end at c.end.result c.end.ensures.answer c.end_instance-event.result ensured.event
+    let made = end_made code cells w h i runs c.in-Some.running kept c.args.end at c.end.result c.end.ensures.returned c.end_instance-event.result ensured.event
     c.end_instance-event.new.self ensured.schedule ensured.limit in
     rw (c.take.ensures.after, c.end.ensures.book, c.in_ok-push.ensures.ok) made.1
 
@@ -107,7 +107,7 @@ returns-clause-event g c = λ e next.
     let at = subst (λ o. IfSome o (λ (x : RunningIterationState). x.next ≡ actions.End c.args.end)) kept
     (subst (λ (x : PlayState). IfSome (item_or None x.running i) (λ (y : RunningIterationState). y.next ≡ actions.End c.args.end)) (sym c.self.view_is) c.requires.next) in
     let ensured = c.end_instance-event.ensures in
-    let made = end_made code cells w h i runs c.in-Some.running kept c.args.end at c.end.result c.end.ensures.answer c.end_instance-event.result ensured.event
+    let made = end_made code cells w h i runs c.in-Some.running kept c.args.end at c.end.result c.end.ensures.returned c.end_instance-event.result ensured.event
     c.end_instance-event.new.self ensured.schedule ensured.limit in
     let there = subst (λ (x : PlayState). next_event (pipeline_played x) (run_state x) i ≡ Some e) (sym c.self.view_is) next in
     let same : c.end_instance-event.result ≡ e = (let q = sym made.0 ∙ there in cc) in

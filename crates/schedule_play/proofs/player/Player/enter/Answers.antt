@@ -14,8 +14,8 @@ pub unreachable-requires : goal.unreachable-requires
 unreachable-requires g c =
     let code = g.B.PlayedCode.code in
     let cells = g.B.PlayedCode.cells in
-    let answer = subst (λ (x : PlayState). ((state_of x.book).stopped ≡ true) ⊎ (MayEnter (state_of x.book) c.args.iteration → ⊥)) c.self.view_is c.in_default.ensures.answer in
-    enter_possible code cells c.args.self.now c.requires.play c.args.iteration c.requires.next answer
+    let returned = subst (λ (x : PlayState). ((state_of x.book).stopped ≡ true) ⊎ (MayEnter (state_of x.book) c.args.iteration → ⊥)) c.self.view_is c.in_default.ensures.returned in
+    enter_possible code cells c.args.self.now c.requires.play c.args.iteration c.requires.next returned
 
 pub returns-clause-play : goal.returns-clause-play
 returns-clause-play g c =
@@ -30,7 +30,7 @@ returns-clause-play g c =
     let token = c.in-Some.token in
     let given = subst (λ (b : BookState). IsGivenBy (λ tree numbers x j replies. IsAtInstance code cells tree numbers x.machine j replies) (λ x. no_tie) b token) c.in-Some.ensures.book c.in-Some.ensures.token in
     let ensured = c.new-running.ensures in
-    let made = entered_made code cells w h i next (fields_of token) c.in-Some.ensures.answer.2 given.out token.payload.machine given.payload.ready c.new-running.result
+    let made = entered_made code cells w h i next (fields_of token) c.in-Some.ensures.returned.2 given.out token.payload.machine given.payload.ready c.new-running.result
     ensured.fields ensured.empty c.args.input.now input ensured.instance c.enter-2.new.self c.enter-2.ensures.schedule c.enter-2.ensures.limit in
     rw (c.in-Some.ensures.book, c.in_ok-push.ensures.ok) made
 
