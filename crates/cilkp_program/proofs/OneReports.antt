@@ -54,20 +54,20 @@ abbrev below : Report → Report → Type 0
 below a b = a.cell.0 < b.cell.0
 
 -- an element of a list has an index
-record StandsAt (xs : List Report) (r : Report) : Type 0 where
+record HasIndex (xs : List Report) (r : Report) : Type 0 where
   place : ℕ
   within : place < length xs
   is : (d : Report) → get_or xs place d ≡ r
 
-stands_at : (xs : List Report) (r : Report) → Among r xs → StandsAt xs r
-stands_at [] r m = absurd (none_among r m)
-stands_at (x ∷ xs) r Here = record { place = 0; within = omega arith; is = λ d. refl }
-stands_at (x ∷ xs) r (Later _ m) = let h = stands_at xs r m in let w = h.within in record { place = suc h.place; within = omega (arith, w); is = h.is }
+index_among : (xs : List Report) (r : Report) → Among r xs → HasIndex xs r
+index_among [] r m = absurd (none_among r m)
+index_among (x ∷ xs) r Here = record { place = 0; within = omega arith; is = λ d. refl }
+index_among (x ∷ xs) r (Later _ m) = let h = index_among xs r m in let w = h.within in record { place = suc h.place; within = omega (arith, w); is = h.is }
 
 -- the first of a rising list is below all others
 first_below : (x : Report) (xs : List Report) (r : Report) → AllPairs below (x ∷ xs) → Among r xs → x.cell.0 < r.cell.0
 first_below x xs r rise m =
-    let h = stands_at xs r m in let w = h.within in
+    let h = index_among xs r m in let w = h.within in
     subst (λ y. x.cell.0 < y.cell.0) (h.is x) (rise 0 (suc h.place) x (omega arith) (omega (arith, w)))
 
 -- the others form a rising list too

@@ -39,17 +39,17 @@ abbrev pub Follow : LogEntry → List LogEntry → Type 0
 Follow x [] = Unit {0}
 Follow x (y ∷ ys) = ComesBefore x y × Follow y ys
 
-comes_before_all : (x y z : LogEntry) → ComesBefore x y → ComesBefore y z → ComesBefore x z
-comes_before_all x y z (inl a) (inl b) = inl (omega (arith, a, b))
-comes_before_all x y z (inl a) (inr b) = (let q = b.0 in inl (omega (arith, a, q)))
-comes_before_all x y z (inr a) (inl b) = (let q = a.0 in inl (omega (arith, b, q)))
-comes_before_all x y z (inr a) (inr b) = (let q = a.0 in let r = b.0 in let s = a.1 in let t = b.1 in inr (q ∙ r, omega (arith, s, t)))
+before_transitive : (x y z : LogEntry) → ComesBefore x y → ComesBefore y z → ComesBefore x z
+before_transitive x y z (inl a) (inl b) = inl (omega (arith, a, b))
+before_transitive x y z (inl a) (inr b) = (let q = b.0 in inl (omega (arith, a, q)))
+before_transitive x y z (inr a) (inl b) = (let q = a.0 in inl (omega (arith, b, q)))
+before_transitive x y z (inr a) (inr b) = (let q = a.0 in let r = b.0 in let s = a.1 in let t = b.1 in inr (q ∙ r, omega (arith, s, t)))
 
 all_follow : (x : LogEntry) (ys : List LogEntry) → Follow x ys → (z : LogEntry) → Among z ys → ComesBefore x z
 all_follow x [] h z m = absurd (none_among z m)
 all_follow x (y ∷ ys) h z m = elim (among_either z (y ∷ []) ys m) [
   | inl here ↦ subst (ComesBefore x) (sym (only_one z y here)) h.0
-  | inr there ↦ comes_before_all x y z h.0 (all_follow y ys h.1 z there)
+  | inr there ↦ before_transitive x y z h.0 (all_follow y ys h.1 z there)
 ]
 
 pub in_order : (x : LogEntry) (ys : List LogEntry) → Follow x ys → InOrder (x ∷ ys)

@@ -47,13 +47,13 @@ abbrev token_of : TokenKind → (place size : ℕ) → Token
 token_of kind place size = record { kind = kind; place = place; length = size }
 
 -- tokens whose texts are those of marks have these marks
-record Behind (source : List ℕ) (tokens : List Token) : Type 0 where
+record RestHasMarks (source : List ℕ) (tokens : List Token) : Type 0 where
   pub marks : (ms : List Mark) → texts_of ms ≡ texts_in (symbols_in source tokens) → HaveMarks source tokens ms (mark_places tokens)
 
 -- a marked token before others
 first_mark : (source : List ℕ) (token : Token) (tokens : List Token) (text : MarkText) (ms : List Mark) → is_mark token.kind ≡ true
     → ((o : Occurrence) → text_at o ≡ text → OccursAs o (symbol_as token.kind (text_in source token)))
-    → texts_of ms ≡ text ∷ texts_in (symbols_in source tokens) → Behind source tokens
+    → texts_of ms ≡ text ∷ texts_in (symbols_in source tokens) → RestHasMarks source tokens
     → HaveMarks source (token ∷ tokens) ms (pos token.place ∷ mark_places tokens)
 first_mark source token tokens text [] h o e b = cc (e)
 first_mark source token tokens text (m ∷ ms) h o e b = MarkToken token m h (o m.occurrence (cc (e))) (b.marks ms (cc (e)))
@@ -61,7 +61,7 @@ first_mark source token tokens text (m ∷ ms) h o e b = MarkToken token m h (o 
 -- a token that is a reserved word before others
 first_word : (source : List ℕ) (k place size : ℕ) (tokens : List Token) (ms : List Mark)
     → texts_of ms ≡ marked_text (symbols.Word k) ++ texts_in (symbols_in source tokens)
-    → Behind source tokens → HaveMarks source (token_of (kinds.Word k) place size ∷ tokens) ms
+    → RestHasMarks source tokens → HaveMarks source (token_of (kinds.Word k) place size ∷ tokens) ms
     (mark_places (token_of (kinds.Word k) place size ∷ tokens))
 first_word source k place size tokens ms e b =
     by_word (k == 9) (k == 10) (k == 19) (λ h. grind (arith, nat_tests, h)) (λ h. grind (arith, nat_tests, h)) (λ h. grind (arith, nat_tests, h)) refl e
@@ -85,7 +85,7 @@ first_word source k place size tokens ms e b =
 
 -- a token before others
 first_token : (source : List ℕ) (kind : TokenKind) (place size : ℕ) (tokens : List Token) (ms : List Mark)
-    → texts_of ms ≡ texts_in (symbols_in source (token_of kind place size ∷ tokens)) → Behind source tokens
+    → texts_of ms ≡ texts_in (symbols_in source (token_of kind place size ∷ tokens)) → RestHasMarks source tokens
     → HaveMarks source (token_of kind place size ∷ tokens) ms (mark_places (token_of kind place size ∷ tokens))
 first_token source kinds.Name place size tokens ms e b =
     first_mark source _ tokens (NameText (text_in source (token_of kinds.Name place size))) ms refl (λ o w. occurs_as_name o _ w) e b
@@ -95,7 +95,7 @@ first_token source (kinds.Operator code) place size tokens ms e b = OtherToken _
 first_token source (kinds.Sign c) place size tokens ms e b = OtherToken _ refl (b.marks ms e)
 
 -- tokens whose texts are those of marks have these marks
-have_marks : (source : List ℕ) (tokens : List Token) → Behind source tokens
+have_marks : (source : List ℕ) (tokens : List Token) → RestHasMarks source tokens
 have_marks source [] = record { marks = none }
   where
     none : (ms : List Mark) → texts_of ms ≡ [] → HaveMarks source [] ms []

@@ -78,8 +78,8 @@ prefix_sums = record {
 }
 
 -- the program's serial elision emits these numbers and has this trap, if any
-abbrev pub ComesTo : SyntaxTree → List ℤ → Option TrapAt → Type 0
-ComesTo tree output trap = (serial_output (pipeline_of tree []) ≡ output) × (serial_trap (pipeline_of tree []) ≡ trap)
+abbrev pub HasSerialResult : SyntaxTree → List ℤ → Option TrapAt → Type 0
+HasSerialResult tree output trap = (serial_output (pipeline_of tree []) ≡ output) × (serial_trap (pipeline_of tree []) ≡ trap)
 
 -- a trap in an instance, with its stage number
 abbrev pub trap_at : Trap → ℕ → ℕ → ℤ → TrapAt
@@ -87,21 +87,21 @@ trap_at trap i k number = record { place = At (at i k) number; trap = trap }
 
 -- a trap in instance k of iteration i, with its stage number
 abbrev pub CountingEnds : Type 0
-CountingEnds = ComesTo (counting (pos 2)) (pos 1 ∷ pos 2 ∷ []) None
+CountingEnds = HasSerialResult (counting (pos 2)) (pos 1 ∷ pos 2 ∷ []) None
 
 -- a loop that continues after the last allowed iteration
 abbrev pub CountingTraps : Type 0
-CountingTraps = ComesTo (counting (pos 3)) (pos 1 ∷ pos 2 ∷ []) (Some (trap_at traps.IterLimit 2 0 (pos 0)))
+CountingTraps = HasSerialResult (counting (pos 3)) (pos 1 ∷ pos 2 ∷ []) (Some (trap_at traps.IterLimit 2 0 (pos 0)))
 
 -- a number and the test of the loop take two steps; a budget of one is too small
 abbrev pub StepsAreCounted : Type 0
-StepsAreCounted = ComesTo (idle (pos 2)) [] None × ComesTo (idle (pos 1)) [] (Some (trap_at traps.Budget 0 0 (pos 0)))
+StepsAreCounted = HasSerialResult (idle (pos 2)) [] None × HasSerialResult (idle (pos 1)) [] (Some (trap_at traps.Budget 0 0 (pos 0)))
 
 -- the iterations of the prefix sums have two stages each; the iteration that closes the loop has one
 abbrev pub PrefixSumsHaveStages : Type 0
 PrefixSumsHaveStages =
     let two = node_of kinds.Zero (pos 0) ∷ node_of kinds.Wait (pos 1) ∷ [] in
-    ComesTo prefix_sums (pos 1 ∷ pos 3 ∷ pos 6 ∷ []) None
+    HasSerialResult prefix_sums (pos 1 ∷ pos 3 ∷ pos 6 ∷ []) None
     × (serial_columns (pipeline_of prefix_sums []) ≡ two ∷ two ∷ two ∷ (node_of kinds.Zero (pos 0) ∷ []) ∷ [])
 
 -- the printed lines of an output and of a trap

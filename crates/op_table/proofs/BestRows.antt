@@ -5,8 +5,8 @@ use Rattle.op_table.specs.declared.table.OpRow.{OpRow}
 use Rattle.op_table.specs.Tables.{text_of, StartsWith, IsLongestMatch, HasNoSymbol, IsBest, Outdoes}
 
 -- a list contains its last row
-pub last_stands : (rows : List OpRow) (row : OpRow) → Contains (rows ++ row ∷ []) row
-last_stands rows row = Contains-append_right rows (row ∷ []) row (0, omega arith, refl)
+pub contains_last : (rows : List OpRow) (row : OpRow) → Contains (rows ++ row ∷ []) row
+contains_last rows row = Contains-append_right rows (row ∷ []) row (0, omega arith, refl)
 
 -- the bytes do not begin with a symbol of `other` that is longer than that of `row`
 abbrev NoLonger : List ℕ → OpRow → OpRow → Type 0
@@ -17,14 +17,14 @@ pub takes : (rows : List OpRow) (bytes : List ℕ) (best : Option OpRow) (row : 
     → Outdoes row best
     → IsBest (rows ++ row ∷ []) bytes (Some row)
 takes rows bytes None row b f o = record {
-  among = last_stands rows row;
+  among = contains_last rows row;
   front = f;
   longest = All-push (NoLonger bytes row) rows row (All-weaker (λ other. StartsWith (text_of other) bytes → ⊥) (NoLonger bytes row)
       (λ other none front. absurd (none front)) rows b)
       (λ front. omega arith);
 }
 takes rows bytes (Some best) row b f o = record {
-  among = last_stands rows row;
+  among = contains_last rows row;
   front = f;
   longest = All-push (NoLonger bytes row) rows row (All-weaker (NoLonger bytes best) (NoLonger bytes row)
       (λ other shorter front. let h = shorter front in omega (arith, h, o)) rows b.longest)

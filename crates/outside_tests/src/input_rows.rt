@@ -96,7 +96,7 @@ fn numbers_are_counted(rt: HostRuntime) -> Result<(), Fail> {
 
 // One number too many counts before its width, but a bare minus sign is no number.
 #[test]
-fn too_many_comes_first(rt: HostRuntime) -> Result<(), Fail> {
+fn too_many_is_reported_first(rt: HostRuntime) -> Result<(), Fail> {
     let wide = zeros(rt.alloc(), MOST_NUMBERS, b"99999999999999999999")?;
     let fault = numbers(rt.alloc(), wide.as_slice()).err();
     assert_eq!(rt; fault, Some(InputFault::TooMany(2_097_152)));

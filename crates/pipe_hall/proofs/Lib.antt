@@ -7,7 +7,7 @@ pub mod BookCalls
 pub mod EndingCalls
 pub mod Seating
 pub mod TakenBooks
-pub mod Answering
+pub mod PayloadSeats
 pub mod Rescuing
 pub mod Accessing
 pub mod Closing

@@ -18,14 +18,14 @@ module _ (c d : TokenCounts) where
   same_counts : d ≡ c → Exchanges 0 0 c d
   same_counts e = subst (Exchanges 0 0 c) (sym e) refl
 
-  one_goes : d ≡ one_given c → Exchanges 1 0 c d
-  one_goes e = subst (Exchanges 1 0 c) (sym e) (omega arith)
+  gave_one : d ≡ one_given c → Exchanges 1 0 c d
+  gave_one e = subst (Exchanges 1 0 c) (sym e) (omega arith)
 
-  one_comes : d ≡ one_returned c → Exchanges 0 1 c d
-  one_comes e = subst (Exchanges 0 1 c) (sym e) (omega arith)
+  returned_one : d ≡ one_returned c → Exchanges 0 1 c d
+  returned_one e = subst (Exchanges 0 1 c) (sym e) (omega arith)
 
-  one_comes_and_goes : d ≡ one_given (one_returned c) → Exchanges 1 1 c d
-  one_comes_and_goes e = subst (Exchanges 1 1 c) (sym e) (omega arith)
+  given_and_returned : d ≡ one_given (one_returned c) → Exchanges 1 1 c d
+  given_and_returned e = subst (Exchanges 1 1 c) (sym e) (omega arith)
 
 -- ---- the book was taken, and given back, without a token or beside one
 
@@ -33,14 +33,14 @@ module _ (M : Type 0) (m n z : ViewAndSlots M) (b c : BookState) where
   pub none_moves : HasTaken m n b None → z ≡ (view_of (after_book n.0.it c None), []) → Exchanges 0 0 m.0.it.tokens z.0.it.tokens
   none_moves h given = same_counts m.0.it.tokens z.0.it.tokens (ap (λ (x : ViewAndSlots M). x.0.it.tokens) given ∙ h.counts)
 
-  pub token_goes : HasTaken m n b None → z ≡ (view_of (without_run (after_book n.0.it c None)), []) → Exchanges 1 0 m.0.it.tokens z.0.it.tokens
-  token_goes h given = one_goes m.0.it.tokens z.0.it.tokens (ap (λ (x : ViewAndSlots M). x.0.it.tokens) given ∙ ap one_given h.counts)
+  pub token_given : HasTaken m n b None → z ≡ (view_of (without_run (after_book n.0.it c None)), []) → Exchanges 1 0 m.0.it.tokens z.0.it.tokens
+  token_given h given = gave_one m.0.it.tokens z.0.it.tokens (ap (λ (x : ViewAndSlots M). x.0.it.tokens) given ∙ ap one_given h.counts)
 
-  pub token_comes : (d : InstanceData) → HasTaken m n b (Some d) → z ≡ (view_of (after_book n.0.it c None), []) → Exchanges 0 1 m.0.it.tokens z.0.it.tokens
-  token_comes d h given = one_comes m.0.it.tokens z.0.it.tokens (ap (λ (x : ViewAndSlots M). x.0.it.tokens) given ∙ h.counts)
+  pub token_returned : (d : InstanceData) → HasTaken m n b (Some d) → z ≡ (view_of (after_book n.0.it c None), []) → Exchanges 0 1 m.0.it.tokens z.0.it.tokens
+  token_returned d h given = returned_one m.0.it.tokens z.0.it.tokens (ap (λ (x : ViewAndSlots M). x.0.it.tokens) given ∙ h.counts)
 
-  pub token_comes_and_goes : (d : InstanceData) → HasTaken m n b (Some d) → z ≡ (view_of (without_run (after_book n.0.it c None)), []) → Exchanges 1 1 m.0.it.tokens z.0.it.tokens
-  token_comes_and_goes d h given = one_comes_and_goes m.0.it.tokens z.0.it.tokens (ap (λ (x : ViewAndSlots M). x.0.it.tokens) given ∙ ap one_given h.counts)
+  pub token_given_and_returned : (d : InstanceData) → HasTaken m n b (Some d) → z ≡ (view_of (without_run (after_book n.0.it c None)), []) → Exchanges 1 1 m.0.it.tokens z.0.it.tokens
+  token_given_and_returned d h given = given_and_returned m.0.it.tokens z.0.it.tokens (ap (λ (x : ViewAndSlots M). x.0.it.tokens) given ∙ ap one_given h.counts)
 
 -- ---- results without a token
 

@@ -20,7 +20,7 @@ use Rattle.pipe_lexer.specs.declared.piece.Piece.{Piece}
 use Rattle.pipe_lexer.specs.LexingLaw.{IsLexedOrHasFault}
 use Rattle.pipe_lexer.specs.Pieces.{length_of, tokens_of, BeginsPunctuation, IsFlaw, IsPiece, ABlank}
 use Rattle.pipe_lexer.proofs.PieceLaws.{comment_piece, name_flaw, name_piece, number_flaw, number_piece, word_piece, word_place}
-use Rattle.pipe_lexer.proofs.Punctuation.{nothing_stands, operator_piece, sign_piece}
+use Rattle.pipe_lexer.proofs.Punctuation.{no_token_begins, operator_piece, sign_piece}
 use Rattle.pipe_lexer.proofs.ScanLaws.{at_end, at_flaw, at_start, past_piece, piece_within, Reaches}
 
 -- ---- the longest symbol of a table
@@ -75,7 +75,7 @@ punctuation_or_flaw bytes first begins =
   where
     by_sign : (b : Bool) → is_sign first ≡ b → IsBest OPS.rows bytes None → PieceOrFlaw bytes
     by_sign true e none = inl (_, sign_piece bytes first begins none e)
-    by_sign false e none = inr (_, nothing_stands bytes first begins none e)
+    by_sign false e none = inr (_, no_token_begins bytes first begins none e)
 
     by_best : (best : Option OpRow) → IsBest OPS.rows bytes best → PieceOrFlaw bytes
     by_best (Some row) h = inl (_, operator_piece bytes first row.code begins (record { row = row; longest = h; same = refl }))

@@ -177,9 +177,9 @@ sign_piece bytes first begins none sign =
     AToken (symbols.Sign first) 1 (omega arith) (omega (arith, ap length begins.parts)) (rw (front, following) token) tt
 
 -- otherwise no token begins there
-pub nothing_stands : (bytes : List ℕ) (first : ℕ) → BeginsPunctuation first bytes → HasNoSymbol OPS.rows bytes → is_sign first ≡ false
+pub no_token_begins : (bytes : List ℕ) (first : ℕ) → BeginsPunctuation first bytes → HasNoSymbol OPS.rows bytes → is_sign first ≡ false
     → IsFlaw bytes flaws.BadByte
-nothing_stands bytes first begins none sign = NoTokenBegins (rw begins.parts (
+no_token_begins bytes first begins none sign = NoTokenBegins (rw begins.parts (
   begins.no_blank,
   rw begins.parts at begins.no_comment,
   λ text rest s e t.

@@ -73,12 +73,12 @@ trap_text : (name place : List ℕ) → (codes "trap" ++ space ∷ (name ++ spac
 trap_text name place =
     cut (codes "trap") (name ++ space ∷ place) (line_feed ∷ []) ∙ ap (λ r. codes "trap" ++ space ∷ r) (cut name place (line_feed ∷ []))
 
-pub record PlaceSaid (text : List ℕ) : Type 0 where
+pub record HasTrapPlace (text : List ℕ) : Type 0 where
   pub place : TrapPlace
   pub ranges : IsPlaceInRanges place
   pub text_is : text ≡ trap_place place
 
-place_of_text : (text : List ℕ) → IsPlaceText text → PlaceSaid text
+place_of_text : (text : List ℕ) → IsPlaceText text → HasTrapPlace text
 place_of_text text (InInit e) = record { place = places.Init; ranges = tt; text_is = e }
 place_of_text text (InFinal e) = record { place = places.Last; ranges = tt; text_is = e }
 place_of_text text (AtInstance instance h e) = record {

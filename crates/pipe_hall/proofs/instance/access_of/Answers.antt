@@ -11,7 +11,7 @@ use Rattle.pipe_hall.specs.Steps.{ViewAndSlots}
 use Rattle.pipe_hall.specs.SeatAccesses.{ran, seat_done}
 use Rattle.pipe_hall.specs.declared.view.View.{View}
 use Rattle.pipe_hall.specs.declared.run_seat.RunSeat.{RunSeat}
-use Rattle.pipe_hall.proofs.Answering.{has_seat, lists_with, tie_with}
+use Rattle.pipe_hall.proofs.PayloadSeats.{has_seat, lists_with, tie_with}
 use Rattle.pipe_hall.proofs.Accessing.{ran_badge, seat_again}
 use Rattle.pipe_hall.proofs.Seating.{instance_badge}
 use Rattle.pipe_hall.proofs.instance.access_of.Goals as goal

@@ -13,7 +13,7 @@ use Rattle.pipe_hall.proofs.BookCalls.{stopped_later}
 use Rattle.pipe_hall.proofs.EndingCalls.{enters_not_stopped, goes_on}
 use Rattle.pipe_hall.proofs.TakenBooks.{advanced, ended_without, lent_with, none_goes, sees, stays_idle}
 use Rattle.pipe_frame.specs.TokenCounts.{Exchanges}
-use Rattle.pipe_hall.proofs.TokenMoves.{none_next, token_comes, token_comes_and_goes}
+use Rattle.pipe_hall.proofs.TokenMoves.{none_next, token_returned, token_given_and_returned}
 use Rattle.pipe_hall.proofs.worker.advance_at.Goals as goal
 
 pub advance-next-requires-clause-stopped : goal.advance-next-requires-clause-stopped
@@ -95,7 +95,7 @@ returns-in_default g c =
       idle = stays_idle g.row.M.Denot m n b (Some t.0) t.1 z x _ c.return_book.ensures.given q.0 c.entries.ensures.control;
       sees = subst (λ (k : TokenFields). Sees m.0.it.seen z.0.it.seen (advance_events k.iteration c.args.end r) (λ s. AdvanceReturns s k.iteration k.index c.args.end r)) same
           (sees g.row.M.Denot m n b (Some t.0) t.1 z x _ c.return_book.ensures.given (advance_events f.iteration c.args.end r) (λ s. AdvanceReturns s f.iteration f.index c.args.end r) q.1 e.returned);
-      tokens = subst (λ k. Exchanges k 1 m.0.it.tokens z.0.it.tokens) (sym (none_next r c.in_default.not-Go)) (token_comes g.row.M.Denot m n z b x t.0 t.1 c.return_book.ensures.given);
+      tokens = subst (λ k. Exchanges k 1 m.0.it.tokens z.0.it.tokens) (sym (none_next r c.in_default.not-Go)) (token_returned g.row.M.Denot m n z b x t.0 t.1 c.return_book.ensures.given);
       runs = none_goes r _ c.in_default.not-Go;
       token = none_goes r _ c.in_default.not-Go;
     }
@@ -103,4 +103,4 @@ returns-in_default g c =
 pub returns-in-Go-clause-tokens : goal.returns-in-Go-clause-tokens
 returns-in-Go-clause-tokens g c =
     let t = lent_with g.row.M.Denot c.args.seat.now.me c.take_back-book.new.seat.me c.take_back-book.result c.get_mut-lent.result.now _ _ c.get_mut-lent.ensures.value c.take_back-book.ensures.taken in
-    token_comes_and_goes g.row.M.Denot c.args.seat.now.me c.take_back-book.new.seat.me c.return_token.new.seat.me c.get_mut-lent.result.now c.advance-next.new.self t.0 t.1 c.return_token.ensures.given
+    token_given_and_returned g.row.M.Denot c.args.seat.now.me c.take_back-book.new.seat.me c.return_token.new.seat.me c.get_mut-lent.result.now c.advance-next.new.self t.0 t.1 c.return_token.ensures.given

@@ -8,7 +8,7 @@ use Rattle.pipe_hall.specs.SeatViews.{constants_of}
 use Rattle.pipe_hall.proofs.BookCalls.{begin_call}
 use Rattle.pipe_hall.proofs.TakenBooks.{lent_of, name_is, none_started, nothing_begun, sees, stays_idle}
 use Rattle.pipe_frame.specs.TokenCounts.{Exchanges}
-use Rattle.pipe_hall.proofs.TokenMoves.{none_begun, none_moves, token_goes}
+use Rattle.pipe_hall.proofs.TokenMoves.{none_begun, none_moves, token_given}
 use Rattle.pipe_hall.proofs.worker.begin_at.Goals as goal
 
 pub return_token-requires-clause-call : goal.return_token-requires-clause-call
@@ -56,4 +56,4 @@ returns-in_default g c =
 
 pub returns-in-Started-clause-tokens : goal.returns-in-Started-clause-tokens
 returns-in-Started-clause-tokens g c =
-    token_goes g.row.M.Denot c.args.seat.now.me c.take_book-book.new.seat.me c.return_token.new.seat.me c.get_mut-lent.result.now c.begin-begun.new.self (lent_of g.row.M.Denot c.args.seat.now.me c.take_book-book.new.seat.me c.take_book-book.result c.get_mut-lent.result.now None c.get_mut-lent.ensures.value c.take_book-book.ensures.taken) c.return_token.ensures.given
+    token_given g.row.M.Denot c.args.seat.now.me c.take_book-book.new.seat.me c.return_token.new.seat.me c.get_mut-lent.result.now c.begin-begun.new.self (lent_of g.row.M.Denot c.args.seat.now.me c.take_book-book.new.seat.me c.take_book-book.result c.get_mut-lent.result.now None c.get_mut-lent.ensures.value c.take_book-book.ensures.taken) c.return_token.ensures.given

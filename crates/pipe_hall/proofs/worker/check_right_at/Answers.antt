@@ -7,7 +7,7 @@ use Rattle.pipe_hall.specs.BookCalls.{IsBookCall}
 use Rattle.pipe_hall.specs.SeatViews.{constants_of}
 use Rattle.pipe_hall.proofs.BookCalls.{enter_call, unchanged_call}
 use Rattle.pipe_hall.proofs.TakenBooks.{lent_of, stays_idle}
-use Rattle.pipe_hall.proofs.TokenMoves.{none_moves, token_goes}
+use Rattle.pipe_hall.proofs.TokenMoves.{none_moves, token_given}
 use Rattle.pipe_hall.proofs.worker.check_right_at.Goals as goal
 
 pub return_token-requires-clause-call : goal.return_token-requires-clause-call
@@ -40,7 +40,7 @@ returns-in-None-clause-idle g c =
 
 pub returns-in-Some-clause-tokens : goal.returns-in-Some-clause-tokens
 returns-in-Some-clause-tokens g c =
-    token_goes g.row.M.Denot c.args.seat.now.me c.take_book-book.new.seat.me c.return_token.new.seat.me c.get_mut-lent.result.now c.check_right-entered.new.self (lent_of g.row.M.Denot c.args.seat.now.me c.take_book-book.new.seat.me c.take_book-book.result c.get_mut-lent.result.now None c.get_mut-lent.ensures.value c.take_book-book.ensures.taken) c.return_token.ensures.given
+    token_given g.row.M.Denot c.args.seat.now.me c.take_book-book.new.seat.me c.return_token.new.seat.me c.get_mut-lent.result.now c.check_right-entered.new.self (lent_of g.row.M.Denot c.args.seat.now.me c.take_book-book.new.seat.me c.take_book-book.result c.get_mut-lent.result.now None c.get_mut-lent.ensures.value c.take_book-book.ensures.taken) c.return_token.ensures.given
 
 pub returns-in-None-clause-tokens : goal.returns-in-None-clause-tokens
 returns-in-None-clause-tokens g c =

@@ -7,10 +7,10 @@ use Rattle.pipe_frame.specs.declared.token.FrameToken.{FrameToken}
 use Rattle.frame_book.specs.BookStates.{BookState, Kept, events_of, replies_at}
 use Rattle.pipe_hall.specs.SeatViews.{constants_of}
 use Rattle.pipe_hall.specs.WorkerSeats.{name_of}
-use Rattle.pipe_hall.proofs.Answering.{lists_with}
+use Rattle.pipe_hall.proofs.PayloadSeats.{lists_with}
 use Rattle.pipe_hall.proofs.EndingCalls.{left_call}
 use Rattle.pipe_hall.proofs.TakenBooks.{lent_with, name_is, sees, stays_idle}
-use Rattle.pipe_hall.proofs.TokenMoves.{token_comes}
+use Rattle.pipe_hall.proofs.TokenMoves.{token_returned}
 use Rattle.pipe_hall.proofs.worker.leave_ready_at.Goals as goal
 
 pub leave_ready-requires-clause-payload : goal.leave_ready-requires-clause-payload
@@ -70,4 +70,4 @@ returns-clause-sees g c =
 pub returns-clause-tokens : goal.returns-clause-tokens
 returns-clause-tokens g c =
     let t = lent_with g.row.M.Denot c.args.seat.now.me c.take_back-book.new.seat.me c.take_back-book.result c.get_mut-lent.result.now _ _ c.get_mut-lent.ensures.value c.take_back-book.ensures.taken in
-    token_comes g.row.M.Denot c.args.seat.now.me c.take_back-book.new.seat.me c.return_book.new.seat.me c.get_mut-lent.result.now c.leave_ready.new.self t.0 t.1 c.return_book.ensures.given
+    token_returned g.row.M.Denot c.args.seat.now.me c.take_back-book.new.seat.me c.return_book.new.seat.me c.get_mut-lent.result.now c.leave_ready.new.self t.0 t.1 c.return_book.ensures.given

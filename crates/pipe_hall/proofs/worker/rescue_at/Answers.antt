@@ -14,7 +14,7 @@ use Rattle.pipe_hall.proofs.EndingCalls.{rescued_call, resumed_events}
 use Rattle.pipe_hall.proofs.Rescuing.{rescue_sees_of}
 use Rattle.pipe_hall.proofs.TakenBooks.{lent_of, name_is, none_found, nothing_found, seen_after, stays_idle}
 use Rattle.pipe_frame.specs.TokenCounts.{Exchanges}
-use Rattle.pipe_hall.proofs.TokenMoves.{none_moves, none_rescued, token_goes}
+use Rattle.pipe_hall.proofs.TokenMoves.{none_moves, none_rescued, token_given}
 use Rattle.pipe_hall.proofs.worker.rescue_at.Goals as goal
 
 pub return_token-requires-clause-call : goal.return_token-requires-clause-call
@@ -79,4 +79,4 @@ returns-in_default g c =
 
 pub returns-in-Token-clause-tokens : goal.returns-in-Token-clause-tokens
 returns-in-Token-clause-tokens g c =
-    token_goes g.row.M.Denot c.args.seat.now.me c.take_book-book.new.seat.me c.return_token.new.seat.me c.get_mut-lent.result.now c.rescue-found.new.self (lent_of g.row.M.Denot c.args.seat.now.me c.take_book-book.new.seat.me c.take_book-book.result c.get_mut-lent.result.now None c.get_mut-lent.ensures.value c.take_book-book.ensures.taken) c.return_token.ensures.given
+    token_given g.row.M.Denot c.args.seat.now.me c.take_book-book.new.seat.me c.return_token.new.seat.me c.get_mut-lent.result.now c.rescue-found.new.self (lent_of g.row.M.Denot c.args.seat.now.me c.take_book-book.new.seat.me c.take_book-book.result c.get_mut-lent.result.now None c.get_mut-lent.ensures.value c.take_book-book.ensures.taken) c.return_token.ensures.given

@@ -8,7 +8,7 @@ use Rattle.frame_book.specs.BookStates.{events_of}
 use Rattle.pipe_hall.specs.HallRule.{view_of}
 use Rattle.pipe_hall.specs.Steps.{after_book, new_instance, run_seat}
 use Rattle.pipe_hall.specs.WorkerSeats.{name_of}
-use Rattle.pipe_hall.proofs.Answering.{given_in}
+use Rattle.pipe_hall.proofs.PayloadSeats.{given_in}
 use Rattle.pipe_hall.proofs.worker.return_token.Goals as goal
 
 pub returns-clause-token : goal.returns-clause-token

@@ -7,7 +7,7 @@ use Rattle.pipe_hall.specs.InstanceSeats.{badge_view}
 use Rattle.pipe_hall.specs.Steps.{ViewAndSlots}
 use Rattle.pipe_hall.specs.WorkerSeats.{name_of}
 use Rattle.pipe_hall.specs.declared.run_seat.RunSeat.{RunSeat}
-use Rattle.pipe_hall.proofs.Answering.{has_seat}
+use Rattle.pipe_hall.proofs.PayloadSeats.{has_seat}
 use Rattle.pipe_hall.proofs.TakenBooks.{has_taken}
 use Rattle.pipe_hall.proofs.worker.take_back.Goals as goal
 

@@ -4,7 +4,7 @@ use Rattle.pipe_hall.specs.Openings.{start_in}
 use Rattle.pipe_hall.specs.Steps.{ViewAndSlots}
 use Rattle.pipe_hall.specs.WorkerSeats.{HallState, WorkerSeat}
 use Rattle.pipe_hall.proofs.Steps.{joins_worker, may_meet}
-use Rattle.pipe_hall.proofs.Answering.{idle_met, same_table}
+use Rattle.pipe_hall.proofs.PayloadSeats.{idle_met, same_table}
 use Rattle.pipe_hall.proofs.seat.HallSeat.join.Goals as goal
 
 pub join_seat-requires : goal.join_seat-requires

@@ -3,7 +3,7 @@ use Rattle.std.proofs.Common.{◌∙◌, arith, sym, ap}
 use Rattle.pipe_hall.specs.Openings.{start_in}
 use Rattle.pipe_hall.specs.WorkerSeats.{HallState}
 use Rattle.pipe_hall.proofs.Steps.{splits_worker}
-use Rattle.pipe_hall.proofs.Answering.{idle_after, idle_copy}
+use Rattle.pipe_hall.proofs.PayloadSeats.{idle_after, idle_copy}
 use Rattle.pipe_hall.proofs.seat.HallSeat.split.Goals as goal
 
 pub split_seat-seat-requires : goal.split_seat-seat-requires
