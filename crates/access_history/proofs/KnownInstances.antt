@@ -1,4 +1,4 @@
--- Orders of which nothing is known, and what is known of them.
+-- If no joined index is given, nothing is known of any kept instance, so any orders agree with what is known.
 use Rattle.std.proofs.Common.{◌≡◌, ◌<◌, ℕ, Bool, true, false, Option, Some, None, IfSome, arith, refl}
 use Rattle.std.proofs.lemmas.Bool.{false≢true}
 use Rattle.access_history.specs.declared.history.History.{History}

@@ -53,7 +53,7 @@ pub held_every : (v w : BookState) (events : List Event) (tokens : List (Option 
     → ControlRun w.limit (events_of w.log) (state_of w) → AreHeld v tokens → AreHeld w tokens
 held_every v w events tokens ch run held j = held_one (suc j) j v w events (token_of tokens j) (ch (suc j)) run (λ e. absurd (omega (arith, e))) (held j)
 
--- none of them is that of the iteration that has changed
+-- none of them belongs to the iteration that has changed
 pub held_all : (i : ℕ) (w : BookState) (tokens : List (Option (FrameToken Plan))) → token_of tokens i ≡ None → AreHeldBut i w tokens → AreHeld w tokens
 held_all i w tokens gone others j = by_index (cases_eq j i)
   where

@@ -1,4 +1,4 @@
--- The values of declarations, one after the other, and where those of a shard are among them.
+-- The values of the declarations, one after the other, and which of them belong to a shard.
 use Rattle.std.proofs.Common.{◌≡◌, ◌∙◌, ap, sym, refl, ℕ, ℤ, pos, ◌+◌, ◌-◌, ◌*◌, ◌/◌, ◌%◌, ◌<◌, ◌≤◌, List, [], ◌∷◌, ◌++◌, zero, suc, length, get_or, take, replicate, append-nil, append_assoc, length-append, arith}
 use Rattle.std.proofs.Math.Nat.{div-add-mod, lt_of_mul-lt-mul_left}
 use Rattle.std.proofs.lemmas.List.{get_or_append_left, length-replicate, take_all, take_more}

@@ -26,7 +26,7 @@ verdict {tree} {input} [] a = without_race (elision_trap tree input) refl a
 verdict {tree} {input} (r ∷ rs) a =
     let some : ElisionHasNoRace tree input → ⊥ = λ free. (let d : r ∷ rs ≡ [] = a.silent.1 free in cc (d)) in Racy some (a.racy.1 some)
 
--- the status is that of a program that was run
+-- the status says that the program was run
 pub agreed_status : {tree : SyntaxTree} {input : List ℤ} {reports : List Report} {status : ℕ} {text : List ℕ}
     → AgreesWithElision tree input reports status text → IsRunStatus status
 agreed_status {reports = reports} a = elim (verdict reports a) [

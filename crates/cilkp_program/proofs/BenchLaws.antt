@@ -64,7 +64,7 @@ pub one_workload : (seed size : ℕ) (tree other : SyntaxTree) (numbers others :
 one_workload seed size tree other numbers others g h =
     (one_accepted (source_text size) tree other g.program h.program, one_reading (input_text seed size) numbers others g.read h.read)
 
--- the summary of one workload is that of another with the same seed and size
+-- two workloads with the same seed and size have the same summary
 pub same_summary : (seed size : ℕ) (tree other : SyntaxTree) (numbers others : List ℤ) (text : List ℕ) → IsGenerated seed size tree numbers
     → text ≡ elision_summary tree numbers → IsGenerated seed size other others → text ≡ elision_summary other others
 same_summary seed size tree other numbers others text g e h =
@@ -85,7 +85,7 @@ pub measures_the_elision : (tree : SyntaxTree) (numbers : List ℤ) (columns : L
 measures_the_elision tree numbers columns workers output m is same e =
     e ∙ λ i. record { workers = workers; instances = instances_in (given_columns tree numbers columns is i); last = last_or_zero (same i) }
 
--- the summary of two runs of which the elision was measured
+-- the summary of two runs, with the counts of their serial elision
 pub summary_made : (seed size : ℕ) (tree : SyntaxTree) (numbers : List ℤ) (items : ℕ) (one eight : Measured)
     (made : Result (List ℕ) NoMemory)
     → IsGenerated seed size tree numbers → items ≡ length numbers

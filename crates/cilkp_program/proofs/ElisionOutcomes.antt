@@ -1,4 +1,4 @@
--- The result of a program's serial elision: its reports are right, and its status and text are those of the elision.
+-- The result of a program's serial elision: its reports are right, and its status and text are the elision's.
 use Rattle.std.proofs.Common.{◌≡◌, ◌≢◌, ◌∙◌, ◌++◌, ℕ, ℤ, List, [], Some, None, inl, inr, refl, ap, sym, arith, append-nil}
 use Rattle.pipe_model.specs.declared.report.Report.{Report}
 use Rattle.pipe_model.specs.declared.trap.TrapAt.{TrapAt}

@@ -15,7 +15,7 @@ use Rattle.cilkp_words.specs.Commands.{Command, Format}
 use Rattle.cilkp_program.proofs.OneCommand.{format_asks_no_run}
 use Rattle.cilkp_program.proofs.OneRow.{one_row}
 
--- the result is that of the program's text
+-- the result is the program's canonical text
 record IsTextOf (tree : SyntaxTree) (status : ℕ) (text : List ℕ) (log : Option RunLog) (reports : List Report) : Type 0 where
   done : status ≡ 0
   text_is : text ≡ program_text tree

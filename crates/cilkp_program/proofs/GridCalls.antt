@@ -48,7 +48,7 @@ agrees_with_grid tree numbers reports wave obeys h =
       );
     }
 
--- the result is that of a run of the lowered program
+-- the result describes a run of the lowered program
 record IsGridRun (tree : SyntaxTree) (numbers : List ℤ) (limit status : ℕ) (text : List ℕ) (run_log : Option RunLog) (reports : List Report) : Type 0 where
   log : RunLog
   logged : run_log ≡ Some log

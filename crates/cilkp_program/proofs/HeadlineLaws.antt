@@ -95,7 +95,7 @@ run_returned tree input throttle recording run status printed text accepted h as
   found = h.found;
 }
 
--- the result is that of a run of the program
+-- the result describes a run of the program
 record IsRunOf (recording : Bool) (tree : SyntaxTree) (numbers : List ℤ) (limit status : ℕ) (text : List ℕ) (run_log : Option RunLog) (reports : List Report)
     : Type 0 where
   log : RunLog

@@ -69,7 +69,7 @@ pub source_is_missing : (file : Option (List ℕ)) (name line : List ℕ) (limit
     → IsWholeOf file limit whole.Missing → SourceRefusal name file line
 source_is_missing file name line limit e h = rw e (SourceMissing (missing_is_none file limit h))
 
--- the result of loading the bytes of a file is that of loading the file
+-- loading a file gives the same result as loading its bytes
 pub file_result : (file : Option (List ℕ)) (name bytes : List ℕ) (limit : ℕ) (source : Source) → IsWholeOf file limit (whole.Bytes bytes)
     → IsLoadOf bytes source
     → IsSourceFrom name file source
@@ -116,7 +116,7 @@ pub input_is_too_long : (file : Option (List ℕ)) (name line bytes : List ℕ) 
 input_is_too_long file name line bytes e h =
     let f = too_long_is_held file LONGEST_INPUT bytes h in rw e (NoNumbers f.0 inputs.TooLong f.1 (input.IsTooLong f.2))
 
--- the result of loading the bytes of a file is that of loading the file
+-- loading a file gives the same result as loading its bytes
 input_result : (file : Option (List ℕ)) (name bytes : List ℕ) (limit : ℕ) (input : Input) → IsWholeOf file limit (whole.Bytes bytes)
     → IsReadOf bytes input → IsInputFrom name file input
 input_result file name bytes limit (loaded.Accepted numbers) h g = record { bytes = bytes; held = bytes_are_held file limit bytes h; read = g }

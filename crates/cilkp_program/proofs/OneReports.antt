@@ -26,14 +26,14 @@ one_earlier e f l h g = elim (cases_lt e f) [
   | inr a ↦ elim (cases_lt f e) [ inl w ↦ absurd (h.first_earlier f w g.race) | inr b ↦ omega (arith, a, b) ]
 ]
 
--- the report is that of the first race of this cell
+-- the report names the first race of this cell
 record IsFirstRaceReport (columns : List (List Node)) (accesses : List NodeAccess) (cell : ℕ) (r : Report) : Type 0 where
   earlier : ℕ
   later : ℕ
   first : IsFirstRacingPair columns (accesses_to cell accesses) earlier later
   known : r ≡ report_of columns cell (access_at (accesses_to cell accesses) earlier) (access_at (accesses_to cell accesses) later)
 
--- a report of a first race is that of its own cell
+-- a report of a first race names the cell of that race
 first_race_report : (columns : List (List Node)) (accesses : List NodeAccess) (cell : ℕ) (r : Report) → r.cell.0 ≡ cell → ReportsFirstRaceOfCell columns accesses r
     → IsFirstRaceReport columns accesses cell r
 first_race_report columns accesses cell r e h =

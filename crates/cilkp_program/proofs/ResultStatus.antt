@@ -21,7 +21,7 @@ use Rattle.cilkp_program.proofs.ElisionOutcomes.{outcome_status}
 abbrev IsLogged : Option Command → ℕ → Option RunLog → Type 0
 IsLogged asked status log = (is_some log ≡ true) ↔ (KeepsLog asked × (status ≢ 1) × (status ≢ 4))
 
--- the status of a program that was run is small, and not that of a refusal or of a read that failed
+-- the status of a program that was run is at most 4
 run_status_is_small : {status : ℕ} → IsRunStatus status → status ≤ 4
 run_status_is_small (inl a) = omega (arith, a)
 run_status_is_small (inr (inl b)) = omega (arith, b)
@@ -137,7 +137,7 @@ result_keeps_count (SourceFault s grew rose w) = grew
 result_keeps_count (InputFault s i file tree grew rose w v known of can) = grew
 result_keeps_count (RecordFault s i r file others tree ns grew rose w v u known also of read) = grew
 
--- if the count of failed reads grew, the status is that of a read that failed
+-- if the count of failed reads grew, the status says that a read failed
 pub grown_count_has_status : {asked : Option Command} {holds : Option Content} {before now status : ℕ} {text : List ℕ} {log : Option RunLog}
     {reports : List Report}
     → IsCallResult asked holds before now status text log reports → CountGrew before now → status ≡ 4

@@ -47,7 +47,7 @@ unread None name = None
 unread (Some content) None = None
 unread (Some content) (Some name) = content name
 
--- the files of a command of which the source and the input are read
+-- the files of a command that reads a source and an input
 abbrev with_input : (file other : Option (List ℕ)) → Option Content → Option Command → FileContents
 with_input file other holds asked = record { source = file; input = other; saved = unread holds (option_and_then record_in asked) }
 
@@ -74,7 +74,7 @@ all_known asked (Some content) source input saved held n m r s i t = record {
   saved = λ name named. ap content (one_held (option_and_then record_in asked) name saved named r) ∙ t;
 }
 
--- the files of a command of which only the source is read
+-- the files of a command that reads only a source
 abbrev with_source : Option (List ℕ) → Option Content → Option Command → FileContents
 with_source file holds asked = record {
   source = file;

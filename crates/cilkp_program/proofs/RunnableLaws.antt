@@ -25,7 +25,7 @@ use Rattle.cilkp_program.specs.WaveRefusals.{IsMarkAt, OfRow, OfRowSet, OfStage,
 
 -- ---- each mark has an offset
 
--- the offsets with those of one more token
+-- the offsets, and the offsets of one more token
 one_more_place : (b : Bool) (place : ℕ) (places : List ℤ) (mark : ℕ) → ((k : ℕ) → k < length places → HasPlaceAt places k)
     → mark < length (if b then pos place ∷ places else places) → HasPlaceAt (if b then pos place ∷ places else places) mark
 one_more_place false place places mark following h = following mark h

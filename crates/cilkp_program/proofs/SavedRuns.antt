@@ -33,7 +33,7 @@ pub bad_line : (tree : SyntaxTree) (bytes line : List ℕ) {n : ℕ} → IsFault
     → line ≡ numbered_line (codes "refused record BadLine at ") n → HasBadLineAt tree bytes line
 bad_line tree bytes line (lines.HasBadLine n short bad) e = record { n = n; bad = bad; line_is = e }
 
--- the result of reading the bytes of a file is that of loading the file
+-- reading the bytes of a file gives the same result as loading the file
 from_bytes : (tree : SyntaxTree) (name : List ℕ) (file : Option (List ℕ)) (bytes : List ℕ) (r : Record) → file ≡ Some bytes
     → length bytes ≤ LONGEST_RECORD → IsReadRecord tree bytes r → IsRecordFrom tree name file r
 from_bytes tree name file bytes (records.Accepted events) held short h = (record { bytes = bytes; held = held; short = short; read = h.0 }, h.1)

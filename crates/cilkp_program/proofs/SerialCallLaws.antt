@@ -15,7 +15,7 @@ use Rattle.cilkp_program.specs.SerialResults.{ElisionResult}
 use Rattle.cilkp_program.specs.ResultTable.{ResultRow, NoCommand, SourceRefused, Formats, Benches, WaveRefused, InputRefused, Runs, RunsSerially, ChecksRecord, Weighs}
 use Rattle.cilkp_program.specs.SerialCalls.{ReturnsElision, IsToRunSerially}
 
--- the result is that of the program's elision, without a log
+-- the result is the program's serial elision, without a log
 record IsElisionOf (tree : SyntaxTree) (numbers : List ℤ) (status : ℕ) (text : List ℕ) (log : Option RunLog) (reports : List Report) : Type 0 where
   unlogged : log ≡ None
   outcome : ElisionResult tree numbers status text reports

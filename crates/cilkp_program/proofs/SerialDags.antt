@@ -36,7 +36,7 @@ pub ended_nodes : (traces : List (List Action)) → node_columns (map ended_colu
 ended_nodes [] = refl
 ended_nodes (t ∷ traces) = ap (λ cs. column_of t ∷ cs) (ended_nodes traces)
 
--- the instances of the columns of frames are those of the frames
+-- the columns of frames have the same instances as the frames
 pub nodes_of_frames : (frames : List Frame) → node_columns (map column_of_frame frames) ≡ map (λ (f : Frame). f.nodes) frames
 nodes_of_frames [] = refl
 nodes_of_frames (f ∷ frames) = ap (λ ns. f.nodes ∷ ns) (nodes_of_frames frames)
@@ -46,7 +46,7 @@ program_rules : (w : WholeProgram) (limit : ℕ) (events : List Event) (s : Stat
 program_rules w limit events s (NoLoop trapped) = runs_keep_rules w.loop limit [] initial_state EmptyRun
 program_rules w limit events s (OfLoop free r) = runs_keep_rules (loop_after_init w) limit events s r
 
--- the log of the serial elision is that of a finished run, with the columns and accesses of the elision
+-- the log of the serial elision is a finished run, with the columns and accesses of the elision
 pub record IsSerialLog (tree : SyntaxTree) (input : List ℤ) (limit : ℕ) : Type 0 where
   pub run : IsFinishedProgramRun (whole_of tree input) limit (elision_log tree input)
   pub columns : columns_after (elision_log tree input).events ≡ elision_columns tree input
@@ -103,7 +103,7 @@ pub given_accesses_inside : (tree : SyntaxTree) (input : List ℤ) (dag : List (
 given_accesses_inside tree input dag columns accesses form d e a =
     rw (a, d ∙ given_columns tree input columns e) (accesses_inside tree input form)
 
--- the races of the dag that is built are those of the program
+-- the dag that is built has the same races as the program
 pub given_races : (tree : SyntaxTree) (input : List ℤ) (dag : List (List Node)) (columns : List Column) (accesses : List NodeAccess) (reports : List Report)
     → dag ≡ node_columns columns
     → columns ≡ program_columns (whole_of tree input) → accesses ≡ elision_accesses tree input → AreFirstRaces dag accesses reports

@@ -37,7 +37,7 @@ some_kind : (kinds : Kinds) (k : ErrorKind) → IsAmong k kinds → (length kind
 some_kind [] k h = absurd h
 some_kind (x ∷ xs) k h = grind (arith, nat_tests)
 
--- the words are accepted: the command is that of their subcommand
+-- the words are accepted, and ask for the command of their subcommand
 pub accepted_words : (a : App) (words : List Text) (found : Option Command) (given : Option (Text × List Row)) {P : Type 0} → a ≡ command_line
     → (is_simple_and_free a ≡ true → fault_of a words ≡ []) → (is_simple a ≡ true → P × (given ≡ subcommand_of a words))
     → found ≡ option_and_then (λ p. command_named p.0 p.1) given → found ≡ command_of words

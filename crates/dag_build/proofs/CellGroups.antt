@@ -166,7 +166,7 @@ of_group columns xs rest reports c m h g =
     ∙ (split_at_group rest c m ∙ (ap (λ l. accesses_to c (take m rest) ++ l) following
     ∙ (append-nil (accesses_to c (take m rest)) ∙ accesses_to-own c (take m rest) g.own)))
 
--- the accesses to a cell above that of the group come after the group
+-- the accesses to a greater cell than the group's come after the group
 after_group : (rest : List NodeAccess) (c m cell : ℕ) → IsGroup rest c m → c < cell
     → accesses_to cell rest ≡ accesses_to cell (drop m rest)
 after_group rest c m cell g l =
@@ -174,7 +174,7 @@ after_group rest c m cell g l =
     ∙ ap (λ l. l ++ accesses_to cell (drop m rest))
     (accesses_to-others cell (take m rest) (λ k d w e. let h = g.own k d w in omega (arith, h, e, l)))
 
--- an access of the rest is to no cell below that of the group
+-- no access of the rest is to a smaller cell than the group's
 rest_above : (rest : List NodeAccess) (c m cell : ℕ) → IsGroup rest c m → cell < c → IsBelowAll cell rest
 rest_above rest c m cell g l = λ k d w. (
     let h = g.head d in
@@ -197,7 +197,7 @@ left_after columns xs rest reports c m h g cell not = elim (cases_lt c cell) [
   | inr le ↦ absurd (not (λ k d w. let a = g.above k d w in omega (arith, a, le)))
 ]
 
--- if no access after the group is to a cell with a race, that cell is not above that of the group
+-- if no access after the group is to a cell with a race, that cell is not greater than the group's
 race_in_front : (columns : List (List Node)) (xs rest : List NodeAccess) (reports : List Report) (c m : ℕ)
     → IsProgress columns xs rest reports → IsGroup rest c m
     → (cell later earlier : ℕ) → IsBelowAll cell (drop m rest) → RacesAt columns (accesses_to cell xs) later earlier

@@ -64,7 +64,7 @@ by_edge : {left right : List Node} {j k : ℕ} (from : ℕ) → CrossEdge left r
 by_edge from (HeadCross h i) l head waits = head refl (omega (arith, l))
 by_edge from (WaitCross j k v kind h) l head waits = waits kind h
 
--- from an instance with a number above s on, no instance is the last up to s
+-- neither an instance with a number above s nor a later one is the last up to s
 none_up_to : (left : List Node) (from j : ℕ) (s : ℤ) → IsRising left → s <ℤ (node_at left from).number → from ≤ j
     → IsLastUpTo left j s → ⊥
 none_up_to left from j s rising h l last = elim (cases_order from j) [

@@ -1,4 +1,4 @@
--- Which instances of a column an instance leads to: all from an index on; and how that index moves to the next column.
+-- Which instances of a column an instance leads to: those at a least index and after it. How that index moves to the next column.
 use Rattle.std.proofs.Common.{◌≡◌, ℕ, zero, suc, ◌+◌, ◌-◌, ◌<◌, ◌≤◌, List, length, inl, inr, refl, sym, ap, subst, arith}
 use Rattle.std.proofs.lemmas.Bool.{cases_lt, cases_order}
 use Rattle.pipe_model.specs.declared.node.Node.{Node}
@@ -9,7 +9,7 @@ use Rattle.dag_build.proofs.Crossings.{edge_begins_within}
 use Rattle.dag_build.specs.AccessFronts.{LeadsTo, LeadsFrom}
 use Rattle.dag_build.specs.Landings.{IsLanding, MovesTo, Stays, Moves}
 
--- in column i, x leads exactly to the instances from index m on
+-- in column i, x leads exactly to the instances at index m and after it
 pub record ReachesFrom (columns : List (List Node)) (x : NodeId) (i m : ℕ) : Type 0 where
   pub leads : LeadsFrom columns x i m
   pub only : (k : ℕ) → LeadsTo columns x (at i k) → m ≤ k
@@ -77,7 +77,7 @@ front_of_itself columns i m = record {
   ];
 }
 
--- an instance that leads from an index on leads, in the next column, from the landing on
+-- the least index to which x leads in the next column is the landing of the one in this column
 leads_from_landing : (columns : List (List Node)) (x : NodeId) (i m landing : ℕ) → LeadsFrom columns x i m
     → IsLanding (nodes_at columns i) (nodes_at columns (i + 1)) m landing → LeadsFrom columns x (i + 1) landing
 leads_from_landing columns x i m landing leads lands = record {
@@ -88,7 +88,7 @@ leads_from_landing columns x i m landing leads lands = record {
       (down_from columns x (i + 1) landing first).reached k l w);
 }
 
--- an instance that leads from an index on leads, in a later column, from the index to which that moves
+-- the same for a later column: the least index there is the one to which the index moves
 pub leads_moved : (columns : List (List Node)) (x : NodeId) {i m t place : ℕ} → LeadsFrom columns x i m
     → MovesTo columns i m t place → LeadsFrom columns x t place
 leads_moved columns x leads Stays = leads

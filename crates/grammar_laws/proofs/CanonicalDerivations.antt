@@ -69,7 +69,7 @@ binary_derived code a b left right la lb d d' =
     let r = at_level_derives (level_of code + 1) (level_in b) b right (omega (arith, high)) lb d' in
     Joined code refl l (subst (λ k. Derives k (symbols_at_level (level_of code + 1) (level_in b) right) b) (omega arith) r)
 
--- operators with codes from 3 on are `Binary` nodes
+-- operators with codes of at least 3 are `Binary` nodes
 joined_as : (code : ℕ) (a b : Expression) → 3 ≤ code → binary_expression code a b ≡ Binary code a b
 joined_as code a b h =
     let one : (code == 1) ≡ false = grind (arith, nat_tests, h) in

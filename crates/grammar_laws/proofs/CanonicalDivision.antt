@@ -359,7 +359,7 @@ cell_writing d n s v =
     edge_after None rest = refl
     edge_after (Some z) rest = refl
 
--- the pieces of a declaration before those of others
+-- the pieces of a declaration, before the pieces of others
 cell_symbols : (d : Declaration) (more : List Piece)
     → word_cell ∷ symbols.Name d.name ∷ ((flat (size_pieces d.size) ++ (equals ∷ (flat (value_pieces d.value) ++ semicolon ∷ []))) ++ flat more)
     ≡ flat (Single word_cell ∷ Single (symbols.Name d.name) ∷ (size_pieces d.size ++ Single equals ∷ (value_pieces d.value ++ Single semicolon ∷ more)))

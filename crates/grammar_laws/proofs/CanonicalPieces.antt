@@ -12,7 +12,7 @@ use Rattle.pipe_model.specs.Language.Words.{minus, open_round, close_round, open
 use Rattle.grammar_laws.proofs.CanonicalBounds.{IsUnjoined, IsPair, NoDeeper, none_deep, plain_deep, front_deep, more_deep, both_deep, nested_deep, unbracketed_deep, none_lifts, full_least}
 use Rattle.grammar_laws.proofs.Pieces.{flat_append, short_append, short_front, short_back}
 
--- the full expressions of `us` are short if those of `ps` are, and `us` never has more brackets open
+-- if the full expressions of `ps` are short, so are those of `us`, and `us` never has more brackets open
 pub record Leaner (us ps : List Piece) : Type 0 where
   pub short : AreShort 256 ps → AreShort 256 us
   pub deep : NoDeeper (flat us) (flat ps)

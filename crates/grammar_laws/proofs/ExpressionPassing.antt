@@ -16,7 +16,7 @@ no_index (symbols.Number n ∷ ts) wants h = refl
 no_index (symbols.Operator n ∷ ts) wants h = refl
 no_index (symbols.Sign n ∷ ts) wants h = let e : (n == 91) ≡ false = grind (arith, h) in rw e refl
 
--- a level of at least 1 is that of an operator
+-- a level of at least 1 belongs to an operator
 pub is_op : (code level : ℕ) → level_of code ≡ level → 1 ≤ level → is_operator code ≡ true
 is_op code level h l = grind (arith, h, l)
 

@@ -84,7 +84,7 @@ mutual
 
 -- ---- what is derived is read
 
--- nothing is read at a level above that of operands
+-- nothing is read at a level above the level of operands
 no_level_above : {level : ℕ} {ts rest : List Symbol} {e : Expression} → Reads level ts e rest → operand_level < level → ⊥
 no_level_above (ReadsNumeral n rest) l = omega (arith, l)
 no_level_above (ReadsName name rest h) l = omega (arith, l)
@@ -115,7 +115,7 @@ pub found_alone : (level : ℕ) (ts : List Symbol) (e : Expression) → Found le
     → Reads level (ts ++ rest) e rest
 found_alone level ts e f rest h = let l = h.1 in f rest e rest (h.0, omega (arith, l)) (Ends rest (λ x. omega (arith, l, x)))
 
--- an operator at the start has a level below that of operands
+-- an operator at the start has a lower level than operands
 pub level_at_front : (ts : List Symbol) → next_level ts < operand_level
 level_at_front [] = omega arith
 level_at_front (symbols.Name name ∷ ts) = omega arith

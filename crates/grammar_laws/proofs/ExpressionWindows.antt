@@ -1,4 +1,4 @@
--- If a reading of the first symbols leaves one of them, or a reader gets stuck there with one left, then so it is with more symbols after.
+-- If a reading of the first symbols leaves one of them, or a reader gets stuck with one of them left, then the same happens if more symbols follow.
 use Rattle.std.proofs.Common.{◌≡◌, ◌≢◌, ℕ, ◌+◌, ◌<◌, List, [], ◌∷◌, ◌++◌, length, length-append, refl, sym, ap, ◌∙◌, arith, Option, Some, None, Bool, true, false}
 use Rattle.pipe_model.specs.declared.symbol.Symbol.{Symbol}
 use Rattle.pipe_model.specs.declared.symbol.Symbol.TheVariants as symbols

@@ -352,7 +352,7 @@ fault_of place (Some (symbols.Number n)) = TooWide place
 fault_of place (Some (symbols.Operator code)) = BadByte place
 fault_of place (Some (symbols.Sign b)) = BadByte place
 
--- a fault in the text is that of a stop
+-- a fault in the text is the fault at which the scan stops
 record IsOfStop (source : List ℕ) (f : LexicalFault) : Type 0 where
   pub place : ℕ
   pub symbol : Option Symbol
@@ -433,6 +433,6 @@ all_stand_in source (Taken {place} {bytes} {tokens} text s t d) e =
     All-cons (StandsIn source) (token_at place text s) tokens (stands_in source text bytes place s e t.symbol)
     (all_stand_in source d (after_front source text bytes place e))
 
--- each token of a source is in it, and its text there is that of its symbol
+-- each token of a source is in it, and its text there is the text of its symbol
 pub tokens_stand : (source : List ℕ) (tokens : List Token) → HasTokens source tokens → All (StandsIn source) tokens
 tokens_stand source tokens d = all_stand_in source d refl

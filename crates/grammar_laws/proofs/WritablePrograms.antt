@@ -1,4 +1,4 @@
--- A program that some source spells can be written: its names, numbers and operators are those of symbols.
+-- A program that some source spells can be written: each of its names, numbers and operators belongs to a symbol.
 use Rattle.std.proofs.Common.{◌≡◌, ◌∙◌, ap, sym, refl, subst, ℕ, zero, suc, ◌-◌, ◌<◌, ◌≤◌, ◌^◌, ◌≤ℤ◌, ℤ, pos, Bool, true, false, List, [], ◌∷◌, ◌++◌, ◌==◌, inl, inr, Option, Some, None, arith, cond, position, if◌then◌else◌, All, drop}
 use Rattle.std.proofs.Math.IntN.{neg_ℤ}
 use Rattle.std.specs.List.{list_all}

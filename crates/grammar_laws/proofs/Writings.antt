@@ -36,7 +36,7 @@ pub token_is_symbol : (source text rest : List ℕ) (place : ℕ) (s : Symbol) �
 token_is_symbol source text rest place s e h =
     ap (λ x. symbol_as (kind_of s) (take (length text) x)) e ∙ ap (λ x. symbol_as (kind_of s) x) (take-append_seam text rest) ∙ symbol_of_kind text s h
 
--- the tokens of what is written from an offset on
+-- the tokens of what is written at an offset
 pub record WrittenTokens (source : List ℕ) (place : ℕ) (bytes : List ℕ) (found : List Symbol) : Type 0 where
   pub tokens : List Token
   pub scanned : Scans place bytes tokens []

@@ -28,7 +28,7 @@ use Rattle.hall_headline.proofs.EntryLists.{entries_of_instance_are, entries_of_
 
 -- ---- traces
 
--- an instance that is not out has no seat, so its trace is that of the book
+-- an instance that is not out has no seat, so its trace is the one in the book
 trace_by_book : (b : BookState) (seats : ℕ → Option InstanceData) → HasSeats b seats → (x : NodeId) → (IsOutInstance b x → ⊥)
     → trace_by b (seats x.iteration) x.iteration x.index ≡ trace_of b x
 trace_by_book b seats h x not_out = by_seat (seats x.iteration) refl

@@ -22,7 +22,7 @@ index_of (u ∷ ts) t (Later z m) = (let h = index_of ts t m in (suc h.0, h.1))
 ticket_kept : (j t : ℕ) → Among t (if_ticket (j == j) t)
 ticket_kept j t = subst (λ b. Among t (if_ticket b t)) (sym (eq-eqb j j refl)) Here
 
--- the tickets of an entry of the book are among those of all
+-- the ticket of an entry of the book is among all tickets
 start_among : (i : ℕ) (log : List BookEntry) (b : BookEntry) (t : ℕ) → Among b log → Among t (start_ticket i b.event b.ticket) → Among t (start_tickets i log)
 start_among i [] b t m s = absurd (none_among b m)
 start_among i (d ∷ log) b t Here s = among_left t (start_ticket i d.event d.ticket) (start_tickets i log) s

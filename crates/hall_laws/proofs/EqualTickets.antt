@@ -35,7 +35,7 @@ same_some (Some o) s t p q = cc
 
 module _ (v : BookState) (before : List Cell_access) (shards : List (List ShardEntry))
     (closed : ClosedLogs (pipeline_after v before) v.limit (length shards) v.log (shard_at shards) (made v.traces) (state_of v)) where
-  -- an access of an instance, among those of the instance
+  -- an access of an instance is among all accesses of the instance
   access_in : (k : ℕ) (e : ShardEntry) (n : NodeId) → Among e (shard_at shards k) → e.node ≡ n
       → Among (timed e.ticket (Accessed e.access)) (made v.traces n.iteration n.index)
   access_in k e n m is = subst (λ (x : NodeId). Among (timed e.ticket (Accessed e.access)) (made v.traces x.iteration x.index)) is (closed.in_trace k e m)

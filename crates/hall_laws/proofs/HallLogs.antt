@@ -1,4 +1,4 @@
--- The logs of a closed hall are those of a closed run.
+-- The logs of a closed hall meet what is required of the logs of a closed run.
 use Rattle.std.proofs.Common.{◌≡◌, ◌∙◌, refl, sym, ap, subst, ℕ, ◌<◌, ◌%◌, List, [], ◌∷◌, ◌++◌, length, map, All, arith, inl, inr, append-nil, append_assoc, true}
 use Rattle.std.proofs.lemmas.Bool.{cases_lt, false≢true}
 use Rattle.std.proofs.lemmas.List.{get_or_past, map-append}

@@ -1,4 +1,4 @@
--- The orders of whole lists agree with those of the parts that were seen.
+-- The orders of whole lists agree with the orders of the parts that were seen.
 use Rattle.std.proofs.Common.{true, ◌≡◌, ◌↔◌, sym, subst, ℕ, List}
 use Rattle.pipe_frame.specs.HallViews.{BeginsWith}
 use Rattle.pipe_model.specs.Orders.OrderList.{IsLog, StandsBefore, has, list_of_log}

@@ -109,7 +109,7 @@ last_started : (o : Option Frame) (n : ℕ) → started_in o ≡ suc n → curre
 last_started None n e = absurd (omega (arith, e))
 last_started (Some f) n e = omega (arith, e)
 
--- the current instance of the run is that of the entry
+-- the current instance of the run is the entry's
 current_is : (p : Pipeline) (limit : ℕ) (left : List LogEntry) (i n : ℕ) → Run p limit (map event_of left) (state_after (map event_of left))
     → ((b : BookEntry) → Among b (book_in left) → is_access b.event ≡ false) → IsOpenAt left i n
     → current_index (frame_at (state_after (map event_of left)).frames i) ≡ n
@@ -186,7 +186,7 @@ module _ (p : Pipeline) (limit : ℕ) (book : List BookEntry) (shards : ℕ → 
   all_steps (y ∷ right) left is h =
       all_steps right (left ++ y ∷ []) (is ∙ sym (append_assoc left (y ∷ []) right)) (step left right y is h)
 
-  -- the accesses of the run are those of the entries, each by the instance of its entry
+  -- the run has the accesses of the entries, each by the instance of its entry
   pub accesses_are_entries : (state_after (events merged)).accesses ≡ merged_accesses merged
   accesses_are_entries = all_steps merged [] refl refl
 

@@ -38,7 +38,7 @@ module _ (width : ℕ) (history : ℕ → History) where
   abbrev Apart : CellId × Found → CellId × Found → Type 0
   Apart a b = a.0 ≢ b.0
 
-  -- the lists of the shards from number k on
+  -- what was found in shard k and in the shards after it
   abbrev AreOfShards : ℕ → List Races → Type 0
   AreOfShards k founds = (j : ℕ) → j < length founds → AreFoundInShard width (k + j) history (at_shard founds j)
 

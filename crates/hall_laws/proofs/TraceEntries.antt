@@ -1,4 +1,4 @@
--- Which entries of a shard are those of an instance, and which entries of a trace are those of a shard.
+-- Which entries of a shard belong to an instance, and which entries of a trace belong to a shard.
 use Rattle.std.proofs.Common.{◌≡◌, ◌∙◌, refl, sym, ap, ap₂, subst, ℕ, suc, ◌%◌, List, [], ◌∷◌, map, Bool, true, false, ◌==◌, ◌&&◌, cond, filter, All, arith, inl, inr}
 use Rattle.std.proofs.lemmas.Bool.{eq-eqb, eqb-true, false≢true}
 use Rattle.pipe_model.specs.declared.node.NodeId.{NodeId}

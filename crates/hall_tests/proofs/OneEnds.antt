@@ -1,4 +1,4 @@
--- All ends of all workers, of which those of one worker were used.
+-- The ends of all workers, after one worker has used its own.
 use Rattle.std.proofs.Common.{◌≡◌, ◌⊎◌, ◌<◌, ℕ, List, get_or, length, inl, inr, set, sym}
 use Rattle.std.proofs.lemmas.Bool.{cases_eq}
 use Rattle.std.proofs.lemmas.List.{get_or-set_other, get_or-set_same, get_or_default, length-set}

@@ -83,7 +83,7 @@ end_event code cells input run d stage_ends.Closed going e p before i = ap (λ b
 end_event code cells input run d (stage_ends.Trap w) going e p before i = ap (λ b. event_of_behaviour p before i b ∷ []) (sym e)
 end_event code cells input run d stage_ends.Stopped going e p before i = absurd (going refl)
 
--- a run over a memory without accesses, which then has those of the trace
+-- a run over a memory without accesses, which has the accesses of the trace afterwards
 pub has_ended : (code : FlatCode) (cells : ℕ) (input : List ℤ) (t : Behaviour) (run : RunState) (trace : List Entry) (end : StageEnd)
     → RanInstance code cells input t [] (accesses_of trace) run end → HasEnded code cells input t run trace end
 has_ended code cells input t run trace end r =

@@ -18,7 +18,7 @@ use Rattle.language_laws.proofs.Straight.{IsStraight, Returns, Raises, Steps, Ge
 use Rattle.language_laws.proofs.Straight.{either as straight_either}
 use Rattle.pipe_model.specs.declared.trap.Trap.{Trap}
 
--- stage numbers rise from stage n on; a result has the property P at the stage that is then current
+-- stage numbers rise after stage n, and a result has the property P at the stage that is current then
 pub data Rises {A : Type 0} (P : Bool → ℤ → A → Type 0) : Bool → ℤ → Interaction A → Type 0 where
   RisesReturn : {first : Bool} {n : ℤ} {a : A} → P first n a → Rises P first n (Return a)
   RisesRaise : {first : Bool} {n : ℤ} (t : Trap) → Rises P first n (Raise t)

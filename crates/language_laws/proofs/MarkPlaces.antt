@@ -41,7 +41,7 @@ broken_within tree rule mark h =
 abbrev HasPlace : List ℤ → ℕ → Type 0
 HasPlace places mark = (place : ℕ) × (slice_get places mark ≡ Some (pos place))
 
--- the offsets with those of one more token
+-- the offsets, and the offsets of one more token
 one_more_place : (b : Bool) (place : ℕ) (places : List ℤ) (mark : ℕ) → ((k : ℕ) → k < length places → HasPlace places k)
     → mark < length (if b then pos place ∷ places else places) → HasPlace (if b then pos place ∷ places else places) mark
 one_more_place false place places mark following h = following mark h

@@ -46,7 +46,7 @@ occurs_as_stage StageWord s w h = w
 abbrev token_of : TokenKind → (place size : ℕ) → Token
 token_of kind place size = record { kind = kind; place = place; length = size }
 
--- tokens whose texts are those of marks have these marks
+-- tokens with the texts of marks have these marks
 record RestHasMarks (source : List ℕ) (tokens : List Token) : Type 0 where
   pub marks : (ms : List Mark) → texts_of ms ≡ texts_in (symbols_in source tokens) → HaveMarks source tokens ms (mark_places tokens)
 
@@ -94,7 +94,7 @@ first_token source (kinds.Number n) place size tokens ms e b = OtherToken _ refl
 first_token source (kinds.Operator code) place size tokens ms e b = OtherToken _ refl (b.marks ms e)
 first_token source (kinds.Sign c) place size tokens ms e b = OtherToken _ refl (b.marks ms e)
 
--- tokens whose texts are those of marks have these marks
+-- tokens with the texts of marks have these marks
 have_marks : (source : List ℕ) (tokens : List Token) → RestHasMarks source tokens
 have_marks source [] = record { marks = none }
   where

@@ -83,7 +83,7 @@ joined_texts code scope a b = by_code (code == 1) (code == 2)
     by_code false true = refl
     by_code false false = refl
 
--- the marks of an expression are those of its symbols
+-- an expression has the marks of its symbols
 expression_texts : {level : ℕ} {ts : List Symbol} {e : Expression} (scope : Scope) → Derives level ts e → texts_of (marks_of_expression scope e) ≡ texts_in ts
 expression_texts scope (Numeral n) = refl
 expression_texts scope (Named x) = refl
@@ -168,7 +168,7 @@ cells_texts before (CellIs {ps} {qs} {rs} {size} {value} x s v c) =
     (cells_texts (before ++ declaration x size value ∷ []) c ∙ quiet_front qs (Single semicolon ∷ rs) (value_texts v)
     ∙ quiet_front ps (Single equals ∷ (qs ++ Single semicolon ∷ rs)) (size_texts s))
 
--- the marks of a program are those of its symbols
+-- a program has the marks of its symbols
 pub program_texts : {ps : List Piece} {tree : SyntaxTree} → DerivesProgram ps tree → texts_of (marks_of tree) ≡ texts_in (flat ps)
 program_texts (ProgramIs {cs} {is} {bs} {ls} {ts} {cells} {init} {body} {last} {test} iterations stages steps emits c i t b l) =
     of_pieces declared _ cs _ (cells_texts [] c)

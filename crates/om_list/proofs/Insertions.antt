@@ -176,7 +176,7 @@ kept_inserted old new log k x l labelled list long =
       labelled = labelled;
     }
 
--- the order of two elements is that of their labels
+-- two elements are in the order of their labels
 pub before_is : (links : Links) (log : List ℕ) → IsKept links log → (x y a b : ℕ) → x ≤ length log → y ≤ length log
     → a ≡ label_of links x → b ≡ label_of links y → IsTrue (ltb a b) ↔ StandsBefore (list_of_log log) x y
 before_is links log k x y a b lx ly ea eb =

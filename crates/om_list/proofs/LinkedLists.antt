@@ -60,7 +60,7 @@ length_inserted x e (y ∷ ys) h = elim (cases_eq y x) [
       rw (ne_eqb y x apart) (omega (arith, rest)))
 ]
 
--- the links after an insertion are those of the list with the new element
+-- after an insertion the links are the links of the list with the new element
 pub linked_inserted : (next next' label : ℕ → ℕ) (low top : ℕ) (xs : List ℕ) (x e : ℕ) → LabelsRise label low top xs
     → ((y : ℕ) → has y xs ≡ true → y < e) → LinksAfter next next' x e → AreLinked next xs
     → AreLinked next' (insert_after x e xs)
@@ -80,7 +80,7 @@ linked_inserted next next' label low top (z ∷ zs) x e r below changed c = elim
   )
 ]
 
--- a new element whose label is between those of x and of the next element keeps the labels rising
+-- the labels still rise if the new element's label is between the labels of x and of the next element
 pub rises_inserted : (next label : ℕ → ℕ) (low top : ℕ) (xs : List ℕ) (x e : ℕ)
     → ((y : ℕ) → has y xs ≡ true → y ≢ END) → LabelsRise label low top xs → AreLinked next xs → label x < label e
     → label e < label_or label top (next x) → LabelsRise label low top (insert_after x e xs)
@@ -133,7 +133,7 @@ back_rest prev prev' label low top (w ∷ ws) x e r below changed b = (
   back_same prev prev' w ws (λ y h. changed.other y (below y (has_later w ws y h)).0 (head_once label low top w ws r y h)) b.1,
 )
 
--- the links back after an insertion are those of the list with the new element
+-- after an insertion the links back are the links back of the list with the new element
 pub back_inserted : (next prev prev' label : ℕ → ℕ) (low top before : ℕ) (xs : List ℕ) (x e : ℕ) → LabelsRise label low top xs
     → ((y : ℕ) → has y xs ≡ true → (y < e) × (y ≢ END)) → AreLinked next xs → has x xs ≡ true
     → BackAfter prev prev' x e (next x) → AreLinkedBack prev before xs → AreLinkedBack prev' before (insert_after x e xs)

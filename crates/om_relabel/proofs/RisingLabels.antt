@@ -38,7 +38,7 @@ label_within label low top (y ∷ ys) x r h = elim (cases_eq y x) [
       (omega (arith, later.0, here), later.1))
 ]
 
--- the order of two elements is that of their labels
+-- two elements are in the order of their labels
 pub before_by_label : (label : ℕ → ℕ) (low top : ℕ) (xs : List ℕ) (x y : ℕ) → LabelsRise label low top xs
     → has x xs ≡ true → has y xs ≡ true → StandsBefore xs x y ↔ (label x < label y)
 before_by_label label low top [] x y r h k = cc

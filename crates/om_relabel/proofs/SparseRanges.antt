@@ -22,7 +22,7 @@ one_more_times k gap =
 double : (k w : ℕ) → k * (w + w) ≡ (2 * k) * w
 double k w = grind arith
 
--- a range is within that of twice the size
+-- a range is within the aligned range of twice its size
 halves : (label w : ℕ) → 0 < w
     → (label / (w + w) * (w + w) ≤ label / w * w) × (label / w * w + w ≤ label / (w + w) * (w + w) + (w + w))
 halves label w some =

@@ -40,7 +40,7 @@ first_at (x ∷ xs) l = refl
 
 -- ---- labels that rise
 
--- labels at equal distances from `base` on
+-- labels at equal distances, the first of which is `base`
 pub spread_rises : (label : ℕ → ℕ) (base gap end : ℕ) (xs : List ℕ) (k low : ℕ) → 1 ≤ gap
     → ((j : ℕ) → j < length xs → label (get_or xs j 0) ≡ base + (k + j) * gap) → low ≤ base + k * gap
     → base + (k + length xs) * gap ≤ end → LabelsRise label low end xs
@@ -59,7 +59,7 @@ spread_rises label base gap end (x ∷ xs) k low some at below above =
           (omega (arith, here, next, some)) (subst (λ m. base + m * gap ≤ end) wide above),
     )
 
--- from an element of the range on, with the new labels in the range and the old ones after it
+-- an element of the range and those after it, with the new labels in the range and the old ones after it
 rises_inside : (label label' : ℕ → ℕ) (low end bottom top m : ℕ) (xs : List ℕ) → LabelsRise label bottom top xs
     → ((y : ℕ) → end ≤ label y → label' y ≡ label y) → LabelsRise label' m end (elements_within label low end xs)
     → low ≤ bottom → end ≤ top → LabelsRise label' m top xs

@@ -33,7 +33,7 @@ MayPublish capacity slots id m x c =
     Allows (IsOrdered capacity) slots id m 1 (λ n. either (eqb n c) (c + 1) n) (published (step slots 1 c (c + 1) (some x)) m)
 
 module _ (capacity : ℕ) where
-  -- what the writer knows of a stage, of which the rule has a bound
+  -- what the writer knows of a stage that the rule bounds
   fits_stage : (s : State ℕ View) (r : IsOrdered capacity s) (stage : Stage) → stage ≡ r.now.stage
       → FitsStage stage r.now.sequence (length r.now.log)
   fits_stage s r stage is = subst (λ (st : Stage). FitsStage st r.now.sequence (length r.now.log)) (sym is) r.fits
@@ -160,7 +160,7 @@ module _ (capacity : ℕ) where
   even_fits Moving sequence count even f = let a = f.0 in absurd (omega (arith, a, even))
   even_fits Settled sequence count even f = f.1
 
-  -- the new element is in the log from now on
+  -- after this step the new element is in the log
   pub publishes : (slots id : ℕ) (m : SeatState) (x c sequence : ℕ) (labels : List ℕ) (stage : Stage)
       → m.0.role ≡ Writing stage sequence labels
       → c ≡ length m.0.log → sequence % 2 ≡ 0 → x ≤ length m.0.log → length m.0.log + 1 < capacity

@@ -8,11 +8,11 @@ use Rattle.op_table.specs.Tables.{text_of, StartsWith, IsLongestMatch, HasNoSymb
 pub contains_last : (rows : List OpRow) (row : OpRow) → Contains (rows ++ row ∷ []) row
 contains_last rows row = Contains-append_right rows (row ∷ []) row (0, omega arith, refl)
 
--- the bytes do not begin with a symbol of `other` that is longer than that of `row`
+-- the bytes do not begin with the symbol of `other`, or it is no longer than the symbol of `row`
 abbrev NoLonger : List ℕ → OpRow → OpRow → Type 0
 NoLonger bytes row other = StartsWith (text_of other) bytes → length (text_of other) ≤ length (text_of row)
 
--- a row whose symbol begins the bytes and is longer than that of the best row so far is the best
+-- a row is the best if its symbol begins the bytes and is longer than the symbol of the best row so far
 pub takes : (rows : List OpRow) (bytes : List ℕ) (best : Option OpRow) (row : OpRow) → IsBest rows bytes best → StartsWith (text_of row) bytes
     → Outdoes row best
     → IsBest (rows ++ row ∷ []) bytes (Some row)

@@ -30,7 +30,7 @@ row_symbol row h = at_row (λ row. punctuation_symbol (text_of row)) (λ row. So
 pub row_length : (row : OpRow) → Contains OPS.rows row → length (text_of row) ≡ row.length
 row_length row h = at_row (λ row. length (text_of row)) (λ row. row.length) row refl h
 
--- the text and the code are those of a row
+-- a row has this text and this code
 pub record IsOperator (text : List ℕ) (code : ℕ) : Type 0 where
   pub row : OpRow
   pub among : Contains OPS.rows row
@@ -55,7 +55,7 @@ at_operator k within =
 at_code : (k : ℕ) → k < 13 → (get_or OPS.rows k no_row).code ≡ k + 1
 at_code k within = (obeys OPS.rows refl).codes k no_row within
 
--- a text in the list of operators is that of a row
+-- each text in the list of operators belongs to a row
 pub operator_row : (text : List ℕ) (k : ℕ) → position (λ operator. bytes_eq operator text) operators ≡ Some k → IsOperator text (k + 1)
 operator_row text k e =
     let p = position-Some (λ operator. bytes_eq operator text) operators k [] e in

@@ -106,7 +106,7 @@ joined_is columns (suc i) (suc k) above some = elim (cases_lt (joined_at columns
       (ap (joined_from None) some.1 ∙ (some.2 ∙ omega (arith, ge, rises))))
 ]
 
--- the numbers of a column, read from those of all columns
+-- the numbers of a column, read from the numbers of all columns
 numbers_row : (columns : List (List Node)) (a : ℕ) (d : List ℤ) → a < length columns
     → get_or (numbers_of columns) a d ≡ numbers_in (nodes_at columns a)
 numbers_row [] a d l = absurd (omega (arith, l))
@@ -124,7 +124,7 @@ nodes_read [] i c l = absurd (omega (arith, l))
 nodes_read (x ∷ xs) zero c l = refl
 nodes_read (x ∷ xs) (suc i) c l = nodes_read xs i c (omega (arith, l))
 
--- the left parent of an instance of which the instance above is known
+-- the left parent of an instance, if the instance above it is known
 pub left_parent_is : (columns : List (List Node)) (i k : ℕ) (above : Option StartedNode) (a : StartedNode) → (i ≡ 0 → ⊥)
     → IsAbove columns i k above → above ≡ Some a
     → parent_by (node_at (nodes_at columns i) k).kind a.joined (last_up_to (nodes_at columns (i - 1)) (node_at (nodes_at columns i) k).number)

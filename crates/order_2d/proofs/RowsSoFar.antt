@@ -140,7 +140,7 @@ module _ (columns : List (List Node)) (starts : List NodeId) (ok : AreColumns co
         ];
       }
 
--- a column of which all instances start has no more of them than there are starts
+-- if all instances of a column start, it has no more instances than there are starts
 pub column_short : (columns : List (List Node)) (starts : List NodeId) → AreColumns columns → AreStarts columns starts
     → (i k : ℕ) → IsStarted starts (at i k) → k < length starts
 column_short columns starts ok ord i k started =

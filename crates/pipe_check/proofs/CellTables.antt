@@ -69,7 +69,7 @@ cell_obeys : (ds : List Declaration) (d : Declaration) → is_cell ds d.name ≡
     → (declared_size d.size == 0) ≡ false → broken_at (mark_at (opening regions.Cells ds) (DeclaredCell d.name d.size)) ≡ None
 cell_obeys ds d new few some = rw (new, few, some) refl
 
--- after a declaration without a fault, the first fault is that of the others
+-- after a declaration without a fault, the first fault is the first of the other declarations
 pub cell_passed : (cells : List Declaration) (i n : ℕ) (d : Declaration) → i < length cells → d ≡ get_or cells i d → is_cell (take i cells) d.name ≡ false
     → nat_lt 65536 (cell_total (take i cells) + declared_size d.size) ≡ false → (declared_size d.size == 0) ≡ false
     → first_fault (n + 1) (marks_of_cells (take (i + 1) cells) (drop (i + 1) cells)) ≡ first_fault n (marks_of_cells (take i cells) (drop i cells))

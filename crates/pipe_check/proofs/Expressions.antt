@@ -1,4 +1,4 @@
--- The marks of an expression with a binary operator are those of its left side, and then those of its right side.
+-- An expression with a binary operator has the marks of its left side, and then the marks of its right side.
 use Rattle.std.proofs.Common.{◌≡◌, ◌∙◌, ℕ, Bool, true, false, ◌++◌, ◌==◌, refl, sym, ap, subst, Result, Ok, Err, if◌then◌else◌}
 use Rattle.pipe_check.specs.declared.fault.CheckFault.{CheckFault}
 use Rattle.pipe_check.specs.Passing.{PassesMarks}

@@ -27,14 +27,14 @@ has_none : (broken : Option CheckingRule) (n : ℕ) (x : Option Fault) → fault
 has_none (Some rule) n x h = absurd (let e : Some _ ≡ None = h in cc (e))
 has_none None n x h = record { follows = h; skips = λ y. refl }
 
--- after marks without a fault, the first fault is that of what follows
+-- after marks without a fault, the first fault is the first fault of what follows
 pub first_after : (n : ℕ) (a b : List Mark) → first_fault n a ≡ None → first_fault n (a ++ b) ≡ first_fault (n + length a) b
 first_after n [] b h = ap (λ k. first_fault k b) (omega arith)
 first_after n (mark ∷ a) b h =
     let none = has_none (broken_at mark) n (first_fault (n + 1) a) h in
     none.skips (first_fault (n + 1) (a ++ b)) ∙ first_after (n + 1) a b none.follows ∙ ap (λ k. first_fault k b) (omega arith)
 
--- an error that reports the fault of x reports that of y, if y has the same fault
+-- an error that reports the fault of x also reports the fault of y, if y has the same fault
 pub reports_same_fault : (refusal : CheckFault) (x y : Option Fault) → ((fault : Fault) → x ≡ Some fault → y ≡ Some fault) → IsFirstFaultOf refusal x
     → IsFirstFaultOf refusal y
 reports_same_fault (faults.Unknown n) x y f h = f _ h
@@ -61,7 +61,7 @@ passes_then (Err refusal) n k a b p q =
     let following : first_fault n (a ++ b) ≡ first_fault k b = first_after n a b p.0 ∙ ap (λ j. first_fault j b) (sym p.1) in
     reports_same_fault refusal (first_fault k b) (first_fault n (a ++ b)) (λ fault h. following ∙ h) q
 
--- the numbers of the first marks fit, and those of what follows them
+-- the numbers of the first marks fit, and so do the numbers of what follows
 pub fits_first : (n : ℕ) (a b : List Mark) → Fits n (a ++ b) → Fits n a
 fits_first n a b h = omega (arith, h, length-append a b)
 

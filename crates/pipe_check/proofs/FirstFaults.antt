@@ -94,7 +94,7 @@ none_found n (mark ∷ marks) h =
     let one = not_broken mark rules_in_order (first_of (λ m. ObeysThese m rules_in_order) mark marks h) in
     ap (λ broken. fault_or broken n (first_fault (n + 1) marks)) one ∙ none_found (n + 1) marks (others_of (λ m. ObeysThese m rules_in_order) mark marks h)
 
--- the numbers of the marks are counted from n on
+-- the numbers of the marks are counted from n
 record IsFirstFrom (n : ℕ) (marks : List Mark) (rule : CheckingRule) (number : ℕ) : Type 0 where
   pub place : ℕ
   pub first : IsFirstBroken marks rule place

@@ -1,4 +1,4 @@
--- The marks of a list of statements, one statement after the other, and those of statements with blocks.
+-- The marks of a list of statements, one statement after the other, and the marks of statements with blocks.
 use Rattle.std.proofs.Common.{◌≡◌, ◌∙◌, ℕ, zero, suc, ◌+◌, ◌<◌, ◌≤◌, List, [], ◌∷◌, ◌++◌, length, take, drop, get_or, sym, ap, subst, arith, Result, Ok, Err, Option, length-append}
 use Rattle.std.proofs.lemmas.List.{drop_all, at_drop_more}
 use Rattle.pipe_check.specs.declared.fault.CheckFault.{CheckFault}
@@ -11,7 +11,7 @@ use Rattle.pipe_model.specs.Language.Marks.{Scope, after_block, after_statement,
 use Rattle.pipe_model.specs.Language.SpellablePrograms.{statement_count, statement_counts}
 use Rattle.pipe_model.specs.Language.SyntaxTree.{Expression, If, While, Statement, Statements, Empty, Then, statement_of, statements_of}
 
--- from index i of the list on there is one statement, and then the others
+-- the rest of the list at index i is one statement, and then the others
 statements_from : (ss : List Stmt) (i : ℕ) (s : Stmt) → i < length ss → s ≡ get_or ss i s
     → statements_of (drop i ss) ≡ Then (statement_of s) (statements_of (drop (i + 1) ss))
 statements_from ss i s h e = at_drop_more statements_of ss i s h ∙ ap (λ x. Then (statement_of x) (statements_of (drop (i + 1) ss))) (sym e)
@@ -20,7 +20,7 @@ statements_from ss i s h e = at_drop_more statements_of ss i s h ∙ ap (λ x. T
 pub none_left : (ss : List Stmt) (i : ℕ) → length ss ≤ i → statements_of (drop i ss) ≡ Empty
 none_left ss i h = ap statements_of (drop_all i ss h)
 
--- a fault of the statement at index i is the first fault of the statements from there on
+-- a fault of the statement at index i is the first fault of the rest of the list at i
 pub block_refused : (scope : Scope) (ss : List Stmt) (i n : ℕ) (s : Stmt) (refusal : CheckFault) (whole : Option Fault) → i < length ss → s ≡ get_or ss i s
     → first_fault n (marks_of_statements scope (statements_of (drop i ss))) ≡ whole
     → PassesMarks (Err refusal) n (marks_of_statement scope (statement_of s)) → IsFirstFaultOf refusal whole
@@ -30,7 +30,7 @@ block_refused scope ss i n s refusal whole h e is p =
     fails_first refusal n (marks_of_statement scope (statement_of s)) (marks_of_statements (after_statement scope (statement_of s)) rest) p in
     subst (λ fault. IsFirstFaultOf refusal fault) (ap (λ t. first_fault n (marks_of_statements scope t)) (sym (statements_from ss i s h e)) ∙ is) all
 
--- the statement at index i passes, and the others have the faults, the last number and the final scope of the statements from there on
+-- the statement at index i passes, so the others have the faults, the last number and the final scope of the rest of the list at i
 pub record IsStep (scope next_scope : Scope) (ss : List Stmt) (i n next : ℕ) : Type 0 where
   pub faults : first_fault next (marks_of_statements next_scope (statements_of (drop (i + 1) ss))) ≡ first_fault n
       (marks_of_statements scope (statements_of (drop i ss)))

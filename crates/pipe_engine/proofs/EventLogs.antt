@@ -1,4 +1,4 @@
--- The accesses of a run are those of its events.
+-- A run has the accesses of its events.
 use Rattle.std.proofs.Common.{◌≡◌, sym, List, [], ◌∷◌, ◌++◌, append-nil}
 use Rattle.std.proofs.lemmas.List.{map-append}
 use Rattle.pipe_engine.specs.EventAccesses.{one_access}

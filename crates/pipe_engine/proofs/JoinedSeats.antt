@@ -1,4 +1,4 @@
--- Seats of one hall, the last of which takes in the others.
+-- Seats of one hall: the last one takes in the others.
 use Rattle.std.proofs.Common.{◌≡◌, ◌∙◌, ◌++◌, ◌∷◌, [], List, All, sym}
 use Rattle.pipe_frame.specs.Ties.{HallName}
 use Rattle.pipe_hall.specs.WorkerSeats.{WorkerSeat, hall_name}

@@ -46,7 +46,7 @@ step limit front e a over =
           absurd (cc))
     ]
 
--- the events that follow are those of a run that is over
+-- if a run is over, so is each run that continues it
 pub over_stays : {limit : ℕ} {events : List Event} {c : State} → ControlRun limit events c → (base rest : List Event) → events ≡ base ++ rest → IsOver base → IsOver events
 over_stays r base [] same over = subst IsOver (sym (same ∙ append-nil base)) over
 over_stays {limit = limit} r base (e ∷ rest) same over =

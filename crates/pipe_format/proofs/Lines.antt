@@ -38,7 +38,7 @@ pub no_else : (n : ℕ) (other : List Stmt) (filled : List ℕ) → length other
 no_else n [] filled h = simp append-nil
 no_else n (s ∷ ss) filled h = absurd (omega arith)
 
--- the text of the statements from index i on is that of statement i and of those after it
+-- the text of the rest of the statements at index i is the text of statement i, and then the text of those after it
 pub statements_step : (n : ℕ) (ss : List Stmt) (i : ℕ) (s : Stmt) → i < length ss → s ≡ get_or ss i s
     → statements_text n (statements_of (drop i ss)) ≡ statement_text n (statement_of s) ++ statements_text n (statements_of (drop (i + 1) ss))
 statements_step n ss i s h e =

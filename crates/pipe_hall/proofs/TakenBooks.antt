@@ -33,7 +33,7 @@ use Rattle.pipe_hall.proofs.EndingCalls.{ends_not_stopped, finishes, holds_back,
 
 -- ---- the book is taken
 
--- by a seat that was idle, and may have taken in that of an instance since
+-- by a seat that was idle, and may have taken in an instance's seat since
 module _ (M : Type 0) (m k n : ViewAndSlots M) (b : BookState) (back : Option InstanceData) (idle : IsIdle m)
     (constants : k.0.it.constants ≡ m.0.it.constants) (seen : k.0.it.seen ≡ m.0.it.seen) (held : k.0.it.held ≡ m.0.it.held) (empty : k.1 ≡ m.1) (run : k.0.it.run ≡ back)
     (counts : k.0.it.tokens ≡ counts_with back m.0.it.tokens)

@@ -9,7 +9,7 @@ use Rattle.pipe_io.specs.declared.bounds.TheConstants.{LONGEST_INPUT, MOST_NUMBE
 use Rattle.pipe_io.specs.InputFile.{AreNumbersOf, FitsI64, HasBareMinus, HasCutNumber, HasStrayByte, HasTooMany, HasWideNumber, IsFaultOf, IsReached, ListsNumbers, Number, Separator, EndsHere, value_of, EndsNumber}
 use Rattle.pipe_io.specs.Numerals.{CutNumber, IsFlaw, IsNumeralOf, OneMore, WideNumber, BareMinus, StrayByte, fault_at}
 
--- `found` are the numbers before the rest, and numbers of the rest continue those of the input
+-- `found` are the numbers before the rest, and numbers of the rest continue them
 pub record Reaches (bytes : List ℕ) (found : List ℤ) (rest : List ℕ) : Type 0 where
   pub short : length bytes ≤ LONGEST_INPUT
   pub place : ℕ

@@ -36,7 +36,7 @@ longer_fails p xs c more after e = rw (list_all-append p (take (prefix_len p xs)
 
 -- ---- words and names
 
--- the letters, digits and `_` from a letter on are a word or a name
+-- a letter, with the letters, digits and `_` after it, is a word or a name
 pub word_is : (b : ℕ) (bs : List ℕ) → is_letter b ≡ true
     → symbol_of (b ∷ take (prefix_len is_name_byte bs) bs) ≡ Some (word_symbol (b ∷ take (prefix_len is_name_byte bs) bs))
 word_is b bs letter = rw (letter, front_passes is_name_byte bs) refl
@@ -52,7 +52,7 @@ word_is_longest b bs letter = record { longest = no_longer }
 
 -- ---- numbers
 
--- the digits from a digit on are a number
+-- a digit, with the digits after it, is a number
 pub number_is : (b : ℕ) (bs : List ℕ) → is_letter b ≡ false → is_digit b ≡ true
     → symbol_of (b ∷ take (prefix_len is_digit bs) bs) ≡ Some (symbols.Number (pos (number_of (b ∷ take (prefix_len is_digit bs) bs))))
 number_is b bs letter digit = rw (letter, digit, front_passes is_digit bs) refl
@@ -69,6 +69,6 @@ number_is_longest b bs letter digit = record { longest = no_longer }
 
 -- ---- punctuation
 
--- if bytes begin with neither a letter nor a digit, their symbol is that of punctuation
+-- if bytes begin with neither a letter nor a digit, their symbol is an operator or a sign
 pub as_punctuation : (b : ℕ) (bs : List ℕ) → is_letter b ≡ false → is_digit b ≡ false → symbol_of (b ∷ bs) ≡ punctuation_symbol (b ∷ bs)
 as_punctuation b bs letter digit = rw (letter, digit) refl

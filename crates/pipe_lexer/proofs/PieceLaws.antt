@@ -89,7 +89,7 @@ digit_no_comment b (c ∷ bs) h = grind (arith, nat_tests)
 
 -- ---- words and names
 
--- the letters, digits and `_` from a letter on are the reserved word at the given index, or a name if there is no index
+-- a letter, with the letters, digits and `_` after it, is the reserved word at the given index, or a name if there is no index
 as_word : (b : ℕ) (following text : List ℕ) (o : Option ℕ) → is_letter b ≡ true → text ≡ b ∷ take (prefix_len is_name_byte following) following
     → word_place text ≡ o
     → symbol_of (b ∷ take (prefix_len is_name_byte following) following) ≡ Some (word_or_name o text)

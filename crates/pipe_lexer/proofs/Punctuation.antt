@@ -75,7 +75,7 @@ some_more : (more : List ℕ) → more ≢ [] → 0 < length more
 some_more [] n = absurd (n refl)
 some_more (c ∷ more) n = omega arith
 
--- no row's symbol is a longer prefix than that of the longest row
+-- no row's symbol is a longer prefix than the symbol of the longest row
 not_longer : (rows : List OpRow) (bytes : List ℕ) (row other : OpRow) → IsLongestRow rows bytes row → Contains rows other → StartsWith (text_of other) bytes
     → length (text_of other) ≤ length (text_of row)
 not_longer rows bytes row other h among front =

@@ -1,4 +1,4 @@
--- The accesses to a cell among those of a run: which access is at an index, and at which index an access is.
+-- The accesses to a cell, among all accesses of a run: which access is at an index, and at which index an access is.
 use Rattle.pipe_model.specs.Races.CellRaces.{NotedAccess, access_at, accesses_to, noted_access}
 use Rattle.pipe_model.specs.Races.DeterminacyRaces.{Among, Here, Later}
 use Rattle.pipe_model.specs.declared.access.CellId.{CellId}
@@ -66,7 +66,7 @@ one_place cell [] n l = absurd (omega (arith, l))
 one_place cell (x ∷ xs) n l =
     one_place_by cell x xs (accesses_to cell xs) (eqb x.access.cell.0 cell) refl n l (one_place cell xs)
 
--- the access at an index is among those of the run
+-- the access at an index is an access of the run
 pub placed_among : {cell : ℕ} {xs : List NodeAccess} {noted : List NotedAccess} {n : ℕ}
     (h : IsPlacedAccess cell xs noted n) → Among h.access xs
 placed_among h = subst (λ l. Among h.access l) (sym h.stands) (among_right h.access h.front (h.access ∷ h.rest) Here)

@@ -4,7 +4,7 @@ use Rattle.pipe_model.specs.declared.symbol.Symbol.{Symbol}
 use Rattle.pipe_model.specs.Language.SyntaxTree.{Expression}
 use Rattle.pipe_model.specs.Language.Grammar.{level_of, operand_level, Derives, Tighter}
 
--- the level of each binary operator is below that of operands
+-- each binary operator has a lower level than operands
 pub below_operands : (code : ℕ) → level_of code < operand_level
 below_operands zero = omega arith
 below_operands (suc zero) = omega arith

@@ -1,4 +1,4 @@
--- The statements of a nested block are those of its list.
+-- A nested block has the statements of its list.
 use Rattle.std.proofs.Common.{◌≡◌, ap, ◌∙◌, refl}
 use mathlib.Core.Former.{Count}
 use Rattle.pipe_model.specs.declared.tree.Block.{Block}

@@ -1,4 +1,4 @@
--- The races of a run are those of the accesses to its cells.
+-- A run has the races of the accesses to its cells.
 use Rattle.std.proofs.Common.{ℕ, List, ◌≡◌, length, ◌<◌, arith, subst, sym, ap, ◌∙◌, inl, inr}
 use Rattle.std.proofs.lemmas.Bool.{cases_lt}
 use Rattle.pipe_model.specs.Races.CellRaces.{NotedAccess, access_at, accesses_to, KindsConflict, RacesAt}

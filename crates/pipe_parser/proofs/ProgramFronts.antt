@@ -29,7 +29,7 @@ fault_through : (wants others more : List Want) (ts us : List Symbol)
 fault_through wants others more ts us h f x = fault_after wants (others ++ more) ts us h f (fault_before others more us f x)
 
 -- ---- limits
--- a limit, from its word on, before other symbols
+-- a limit, beginning with its word, before other symbols
 abbrev limit_before : ℕ → ℤ → ℕ → List Symbol → List Symbol
 limit_before word n sign ts = symbols.Word word ∷ symbols.Number n ∷ symbols.Sign sign ∷ ts
 
@@ -63,7 +63,7 @@ value_as_number (symbols.Number n ∷ ts) below h = refl
 value_as_number (symbols.Operator code ∷ ts) below h = let e : (code == 10) ≡ false = grind (arith, h) in rw e refl
 value_as_number (symbols.Sign b ∷ ts) below h = refl
 
--- so its fault is that of a number
+-- so its fault is a fault of a number
 pub fault_value : (ts : List Symbol) → NoOperator 10 ts → (f : SyntaxFault) → SyntaxStops (AnyNumber ∷ []) ts f → SyntaxStops (Value ∷ []) ts f
 fault_value ts h = fault_after (Value ∷ []) (AnyNumber ∷ []) ts ts (λ below. value_as_number ts below h)
 
@@ -155,11 +155,11 @@ passes_loop e ss ts rest l below =
 
 -- ---- programs
 
--- what is wanted from the loop on
+-- what is wanted once the loop begins
 abbrev from_loop : List Want
 from_loop = loop ++ Part 11 ∷ []
 
--- what is wanted from the cells on
+-- what is wanted once the cells begin
 abbrev from_cells : List Want
 from_cells = Cells ∷ Part 7 ∷ from_loop
 

@@ -128,7 +128,7 @@ ended_nodes : (traces : List (List Action)) → node_columns (map ended_column t
 ended_nodes [] = refl
 ended_nodes (t ∷ traces) = ap (λ cs. column_of t ∷ cs) (ended_nodes traces)
 
--- the instances of the columns of frames are those of the frames
+-- the columns of frames have the same instances as the frames
 nodes_of_frames : (frames : List Frame) → node_columns (map column_of_frame frames) ≡ map (λ (f : Frame). f.nodes) frames
 nodes_of_frames [] = refl
 nodes_of_frames (f ∷ frames) = ap (λ ns. f.nodes ∷ ns) (nodes_of_frames frames)

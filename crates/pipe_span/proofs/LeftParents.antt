@@ -103,7 +103,7 @@ counted left s count rising w before h = record {
   ];
 }
 
--- the instances up to a number are up to that of the next instance
+-- the instances up to a number are also up to the number of the next instance
 pub still_counted : (left right : List Node) (k count : ℕ) → IsRising right → IsCountUpTo left (node_at right k).number count
     → (n : ℕ) → n < count → k + 1 < length right → (node_at left n).number ≤ℤ (node_at right (k + 1)).number
 still_counted left right k count rising h n l w =

@@ -1,4 +1,4 @@
--- The weights in the rows are those of the heaviest paths, and the predecessors trace them.
+-- The rows have the weights of the heaviest paths, and the predecessors trace these paths.
 use Rattle.std.proofs.Common.{◌≡◌, ◌∙◌, ℕ, ◌+◌, ◌*◌, ◌-◌, ◌<◌, ◌≤◌, List, [], ◌∷◌, ◌++◌, Option, Some, None, length, refl, sym, ap, subst, arith, inl, inr, append_assoc, append-nil, reverse}
 use Rattle.std.proofs.Math.Numerals.{add-one}
 use Rattle.std.proofs.lemmas.Bool.{cases_lt}

@@ -241,7 +241,7 @@ have_cells : (before ds : List Declaration) → AreUnbroken (marks_of_cells befo
 have_cells before [] u = tt
 have_cells before (d ∷ ds) u = (size_from_one before d u.0, have_cells (before ++ d ∷ []) ds u.1)
 
--- the cells of a name are among those of the declarations
+-- the cells of a name are among the declared cells
 range_below : (next : ℕ) (ds : List Declaration) (x : List ℕ) (range : CellRange) → HaveCells ds → range_of next ds x ≡ Some range
     → IsRangeBelow (next + cell_total ds) range
 range_below next [] x range h e = absurd (cc)

@@ -81,7 +81,7 @@ trap-same : (w : WholeProgram) (t : List (List Action)) (b d : List Access) → 
     → trap_with w t b ≡ trap_with w t d
 trap-same w t b d h = ap (λ x. first_of_both (trap_before_final w t) (part_trap Last (trace_end x))) (final_trace-same w t b d h)
 
--- the ended columns of finished iterations are those of their traces
+-- finished iterations have the ended columns of their traces
 ended_columns_of_traces : (p : Pipeline) (i : ℕ) (fs : List Frame) → IsWhole p i fs
     → map column_of_frame fs ≡ map ended_column (map (λ f. f.trace) fs)
 ended_columns_of_traces p i [] w = absurd w

@@ -167,7 +167,7 @@ one_list (x ∷ xs) (y ∷ ys) p q f g =
     after : (x : Report) (xs : List Report) (r : Report) → Contains xs r → Contains (x ∷ xs) r
     after x xs r c = (suc c.0, (let w = c.1 in omega (arith, w)), c.2)
 
--- the reports of what was found, sorted, are those of the histories
+-- sorted, the reports of what was found are the reports of the histories
 pub detected : (columns : List (List Node)) (starts : List NodeId) (accesses : List NodeAccess) (histories : List History) (found : List (CellId × Found))
     (sorted : List Report) → HaveNoted columns starts accesses histories → found ≡ found_below histories (length histories)
     → IsPermutation (map (λ (f : CellId × Found). report_found columns f.0 f.1) found) sorted → RiseByCell sorted

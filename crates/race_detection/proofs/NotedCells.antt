@@ -19,7 +19,7 @@ pub count_of_nothing : (n : ℕ) → length (nothing_noted n) ≡ n
 count_of_nothing zero = refl
 count_of_nothing (suc n) = let h = count_of_nothing n in let more = length-append (nothing_noted n) (nothing_kept ∷ []) in omega (arith, h, more)
 
--- the history past the end is that of no accesses, and so is one at the end
+-- a history past the end is the history of no accesses, and so is one at the end
 pushed_at : (hs : List History) (c : ℕ) → ((k : ℕ) → history_at hs k ≡ nothing_kept) → history_at (hs ++ nothing_kept ∷ []) c ≡ nothing_kept
 pushed_at [] zero all = refl
 pushed_at [] (suc c) all = refl

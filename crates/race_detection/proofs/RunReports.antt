@@ -1,4 +1,4 @@
--- The control part of a run has the columns and the starts of the run, so the reports of its histories are those of the run.
+-- The control part of a run has the columns and the starts of the run, so its histories have the reports of the run.
 use Rattle.std.proofs.Common.{◌≡◌, ◌∙◌, ℕ, Bool, true, false, List, [], ◌∷◌, ◌++◌, ap, sym, refl, append-nil, append_assoc, length, if◌then◌else◌}
 use Rattle.order_2d.proofs.EventsSoFar.{without-append}
 use Rattle.order_2d.specs.LogStarts.{IsControlLog, log_columns, log_starts}

@@ -50,7 +50,7 @@ turn_of_begin : (n : ℕ) (b : Bool) (e : Event) → event_if b (Begin n) ≡ So
 turn_of_begin n true e q = let same : Begin n ≡ e = cc in subst (λ x. turn_for x ≡ turns.Begin) same refl
 turn_of_begin n false e q = absurd (cc)
 
--- an allowed event is that of its turn
+-- an allowed event is the event of its turn
 pub allowed_in_turn : (p : Pipeline) (limit : ℕ) (s : State) (e : Event) → e ≢ Stop → Allowed p limit s e
     → turn_event p limit s (turn_for e) ≡ Some e
 allowed_in_turn p limit s e apart h = elim (allowed_is_next p limit s e apart h) [
@@ -66,7 +66,7 @@ last_allowed_from p limit s (x ∷ es) e g = last_allowed_from p limit (next_sta
 pub last_allowed : (p : Pipeline) (limit : ℕ) (es : List Event) (e : Event) (s : State) → Run p limit (es ++ e ∷ []) s → Allowed p limit (state_after es) e
 last_allowed p limit es e s r = last_allowed_from p limit initial_state es e ((runs_from_the_front p limit (es ++ e ∷ []) s).0 r).0
 
--- no run goes on with an event that is not that of its turn
+-- a run goes on only with the event of a turn
 pub refused_at : (p : Pipeline) (limit : ℕ) (events : List Event) (k : ℕ) (e d : Event) → k < length events → e ≡ get_or events k d → e ≢ Stop
     → (turn_event p limit (state_after (take k events)) (turn_for e) ≡ Some e → ⊥)
     → (s : State) → Run p limit (take (k + 1) events) s → ⊥

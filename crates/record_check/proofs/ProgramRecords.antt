@@ -1,4 +1,4 @@
--- From the events of a loop to those of a program.
+-- From the events of a loop to the events of a program.
 use Rattle.std.proofs.Common.{◌≡◌, ◌∙◌, sym, subst, refl, arith, ℕ, ◌<◌, List, [], Bool, true, false, length}
 use Rattle.std.specs.Prelude.{is_some}
 use Rattle.std.proofs.lemmas.List.{length-take-le}

@@ -1,4 +1,4 @@
--- A line is that of one event, and of no outcome.
+-- A line is the text of one event, and of no outcome.
 use Rattle.std.proofs.Common.{◌≡◌, ◌∙◌, ap, ap₂, sym, subst, refl, arith, inl, inr, ℕ, ℤ, ◌<◌, List, ◌∷◌, ◌++◌, true, FitsSigned, length, get_or, if◌then◌else◌}
 use Rattle.std.specs.Prelude.{codes}
 use Rattle.std.specs.Fmt.{decimal, signed_decimal}

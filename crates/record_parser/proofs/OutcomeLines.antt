@@ -115,7 +115,7 @@ worded_race cells line r h e =
     (e ∙ sym (race_text (cell_name cells r.cell.0) (kind_text r.earlier_kind) (instance_text r.earlier r.earlier_number) (kind_text r.later_kind)
     (instance_text r.later r.later_number))))
 
--- a line of an outcome without a number alone is that of a race or a trap
+-- an outcome line that is no number is a race or a trap
 pub worded : (cells : List Declaration) (line : List ℕ) → ((v : ℤ) → FitsSigned w64 v → line ≡ signed_decimal v → ⊥) → IsOutcomeLine cells line → IsWordedOutcome cells line
 worded cells line none (IsOutput v f e) = absurd (none v f e)
 worded cells line none (IsRace r h e) = worded_race cells line r (record {

@@ -150,7 +150,7 @@ records_have_one_reading source tree lines es others accepted first other =
     one_reading tree.cells first.passed other.passed first.log other.log es others (accepted_names source tree accepted) (sym first.parts ∙ other.parts)
     first.outcome other.outcome first.read other.read
 
--- each line is that of an event
+-- each line is the text of an event
 pub line_at : (cells : List Declaration) (lines : List (List ℕ)) (es : List Event) (n : ℕ) → AllZip (IsLogLine cells) lines es → n < length lines
     → (e : Event) × IsLogLine cells (slice_index_or lines n []) e
 line_at cells [] es n h l = absurd (omega (arith, l))

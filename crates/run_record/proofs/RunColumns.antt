@@ -1,4 +1,4 @@
--- The columns of a run are those of its control part.
+-- A run has the columns of its control part.
 use Rattle.std.proofs.Common.{◌∙◌, sym, ap, map, List}
 use Rattle.pipe_model.specs.Runs.ControlParts.{control_after}
 use Rattle.pipe_model.specs.Runs.RunLogs.{column_of_frame, state_after}

@@ -118,7 +118,7 @@ shard_entries-push k (x ∷ ss) s =
     (shard_entries-push (k + 1) ss s ∙ ap (λ j. shard_entries (k + 1) ss ++ map (OfShard j) s) place)
     ∙ sym (append_assoc (map (OfShard k) x) (shard_entries (k + 1) ss) (map (OfShard (k + length (x ∷ ss))) s))
 
--- the entries of one more shard follow those of the shards before it
+-- the entries of one more shard follow the entries of the shards before it
 pub shards_more : (shards : List (List ShardEntry)) (n : ℕ) (d : List ShardEntry) (before once twice : List LogEntry) → n < length shards
     → once ≡ before ++ shard_entries 0 (take n shards) → twice ≡ once ++ map (OfShard n) (get_or shards n d)
     → twice ≡ before ++ shard_entries 0 (take (n + 1) shards)

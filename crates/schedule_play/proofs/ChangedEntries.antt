@@ -255,7 +255,7 @@ entered all j f kind n is named' = updated (map change) (map_parts change) all j
 
 -- ---- an iteration ends
 
--- the entries without that of iteration j
+-- the entries without the entry of iteration j
 abbrev pub is_other : ℕ → Alive → Bool
 is_other j a = not (a.iteration == j)
 

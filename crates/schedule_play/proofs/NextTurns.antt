@@ -69,7 +69,7 @@ none_before all i k (f ∷ fs) l =
     ∙ ap (λ b. b || list_any (goes i) (alive_from all (k + 1) fs)) (other_entry all i k f.status f.nodes apart)
     ∙ none_before all i (k + 1) fs (omega (arith, l))
 
--- iteration k + d, among the frames from number k on
+-- iteration k + d, among frame k and those after it
 next_from : (p : Pipeline) (s : State) (i k d : ℕ) (fs : List Frame) → k + d ≡ i
     → list_any (goes i) (alive_from s.frames k fs) ≡ is_some (event_of_frame p s i (frame_at fs d))
 next_from p s i k d [] e = refl

@@ -1,4 +1,4 @@
--- Runs of accepted programs, as they are played: their races can be detected, and their schedules are those of the definition.
+-- Runs of accepted programs, as they are played: their races can be detected, and they have the schedules of the definition.
 use Rattle.std.proofs.Common.{◌≡◌, ◌∙◌, inl, inr, ap, ap₂, sym, subst, refl, arith, ℕ, zero, suc, ℤ, ◌<◌, ◌≤◌, ◌++◌, All, List, [], ◌∷◌, false, Option, Some, None, length, map, get_or}
 use Rattle.std.specs.Prelude.{◌↔◌, option_map}
 use Rattle.std.proofs.Common.{Ok, Err, Result}
@@ -146,7 +146,7 @@ pub map_ok : {T E : Type 0} {P Q : T → Type 0} → (r : Result T E) → IfOk r
 map_ok (Ok x) h f = f x h
 map_ok (Err e) h f = tt
 
--- a play of the loop is that of its player's end
+-- a play of the loop is what its player has at the end
 pub loop_play : (tree : SyntaxTree) (input : List ℤ) (limits : PlayLimits) (choices : List ℕ) (v : PlayState) (code : FlatCode) (cells : ℕ) (r : LoopPlay) → IsPlay code cells v
     → 0 < limits.throttle → 0 < limits.workers → tree_of v.book.program ≡ tree → v.book.input ≡ input → v.book.limit ≡ limits.throttle
     → v.events ≡ played (pipeline_played v) v.book.limit limits.workers choices limits.turns → IsEndOf v r → IsLoopPlay tree input limits choices r

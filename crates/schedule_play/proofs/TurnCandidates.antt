@@ -179,7 +179,7 @@ chosen_is event (t ∷ ts) (e ∷ es) choice q =
     ap Some (event_at event (t ∷ ts) (e ∷ es) (choice % length (t ∷ ts)) t e q (cc (q))
     ∙ ap (λ n. Some (slice_index_or (e ∷ es) (choice % n) e)) (same_length event (t ∷ ts) (e ∷ es) q))
 
--- past the turns of the iterations comes that of the next one
+-- the turn of the next iteration is after the turns of the iterations that have begun
 begin_past : (ts : List Turn) (b : Bool) (n : ℕ) (d : Turn) → n < length (ts ++ (if b then Begin ∷ [] else []))
     → slice_index_or ts n Begin ≡ slice_index_or (ts ++ (if b then Begin ∷ [] else [])) n d
 begin_past [] true zero d lt = refl

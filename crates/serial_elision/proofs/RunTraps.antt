@@ -33,7 +33,7 @@ trap_by_status i (Completed e) nodes trace column ending =
     ∙ ap (part_trap (last_place i (ended_column trace))) (trace_end_is trace e ending)
     ∙ ap (λ (l : List Node). column_trap i (let c : Column = record { nodes = l; end = Some e } in c)) (column ∙ append-nil nodes)
 
--- the same for all iterations, from iteration i on
+-- the same for iteration i and all later ones
 traps_of_frames : (i : ℕ) (frames : List Frame)
     → ((k : ℕ) (f : Frame) → frame_at frames k ≡ Some f → (column_of f.trace ≡ f.nodes ++ pending_node f.status) × EndsBy f.status f.trace)
     → first_trap i (map (λ (f : Frame). f.trace) frames) ≡ least_trap i (map column_of_frame frames)

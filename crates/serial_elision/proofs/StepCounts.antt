@@ -90,7 +90,7 @@ end_counted store before budget l (Stage k n d) h = absurd h
 
 -- ---- a part that is running
 
--- since a part began, the steps of the instances that have run were appended to `old`; those of the tree that is left are still to come
+-- since a part began, the steps of the instances that have run were appended to `old`; the steps of the tree that is left are still to come
 pub record Counted (store : InitialStore) (budget : ℕ) (whole : Interaction ColumnEnd) (before : List Access) (old : List ℤ) (d : Interaction ColumnEnd)
     (now : Log) (steps : List ℤ) : Type 0 where
   pub made : List Access

@@ -23,7 +23,7 @@ bind-assoc (interactions.Stage k n d) f g = λ i. interactions.Stage k n (bind-a
 abbrev pub setting_with : CodeSetting → (List ℕ → Option CellRange) → ℕ → Setting
 setting_with p cells turns = record { cells = cells; turns = turns; world = p.world }
 
--- from this instruction on, the machine runs a tree for n steps
+-- beginning with this instruction, the machine runs a tree for n steps
 abbrev pub FollowsAt : CodeSetting → ℕ → CodeState → Interaction ColumnEnd → Type 0
 FollowsAt p n c d = Follows p n (run_next p c) d
 

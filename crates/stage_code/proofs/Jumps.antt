@@ -151,7 +151,7 @@ iteration_leads code cells at test body h =
     lead_then code at _ _ (expression_leads code cells [] test at at)
     (tt, lead_then code _ _ _ (statements_leads code cells [] (at + length first + 1) body (first_at code _ rest _ after_it.1)) (tt, tt))
 
--- if the instructions from an index on lead on, so does each of them
+-- if the instructions at an index and after it lead on, so does each of them
 lead_at : (code : List Instr) (at : ℕ) (is : List Instr) → LeadOn code at is → (k to : ℕ) → slice_get is k ≡ Some (instrs.Jump to) → to ≤ at + k
     → steps_at (slice_get code to) ≡ true
 lead_at code at [] h k to e back = absurd (let d : None ≡ Some (instrs.Jump to) = e in cc (d))

@@ -37,7 +37,7 @@ pub record HoldsLocals (scope : List (List ℕ)) (env : Environment) (slots : Li
   pub room : MOST_LOCALS ≤ length slots
   pub names : names_of env.locals ≡ scope
 
--- what runs from the end of a code on
+-- what runs after the end of a code
 abbrev pub FollowsAtEnd : CodeSetting → ℕ → List (List ℕ) → ℕ → (Environment → Interaction ColumnEnd) → Type 0
 FollowsAtEnd p n scope q k = (m : ℕ) → m ≤ n → (env : Environment) (slots : List ℤ) → HoldsLocals scope env slots → FollowsAt p m (ready q slots env) (k env)
 

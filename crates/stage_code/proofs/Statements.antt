@@ -1,4 +1,4 @@
--- The code of statements, one statement after the other, and that of statements with blocks.
+-- The code of statements, one statement after the other, and the code of statements with blocks.
 use Rattle.std.proofs.Common.{◌≡◌, ◌∙◌, ℕ, ◌+◌, ◌<◌, ◌≤◌, List, [], ◌∷◌, ◌++◌, length, take, drop, get_or, refl, sym, ap, subst, arith, Option, length-append, append_assoc, append-nil, length-set}
 use Rattle.std.specs.Prelude.{slice_set}
 use Rattle.std.proofs.Math.Seq.{take-append_seam}
@@ -13,7 +13,7 @@ use Rattle.stage_code.specs.Slots.{HasSlots, HaveSlots, locals_after, locals_at_
 use Rattle.stage_code.specs.declared.instr.Instr.{Instr}
 use Rattle.stage_code.specs.declared.instr.Instr.TheVariants as instrs
 
--- from an index of the list on: one statement, and those after it
+-- the rest of the list at an index: one statement, and those after it
 statements_from : (ss : List Stmt) (i : ℕ) (s : Stmt) → i < length ss → s ≡ get_or ss i s
     → statements_of (drop i ss) ≡ Then (statement_of s) (statements_of (drop (i + 1) ss))
 statements_from ss i s h e = at_drop_more statements_of ss i s h ∙ ap (λ x. Then (statement_of x) (statements_of (drop (i + 1) ss))) (sym e)

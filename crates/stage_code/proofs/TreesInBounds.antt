@@ -7,7 +7,7 @@ use Rattle.stage_code.specs.Instructions.{Bounds}
 use Rattle.stage_code.specs.Slots.{slot_of, locals_after}
 use Rattle.stage_code.specs.declared.instr.Instr.{Instr}
 
--- the instructions are in the code, from this index on
+-- the instructions are in the code, beginning at this index
 abbrev pub HasAt : List Instr → ℕ → List Instr → Type 0
 HasAt code at [] = Unit {0}
 HasAt code at (i ∷ is) = (slice_get code at ≡ Some i) × HasAt code (at + 1) is

@@ -42,7 +42,7 @@ ending env = Return ends.End
 abbrev pub after_row : Setting → Statements → (k n r : ℕ) → Environment → Interaction ColumnEnd
 after_row setting rest k n r after = bind (turns_from setting rest k n (leave_block (at_row r) after)) ending
 
--- the lowered loop from the statements of row r on
+-- the lowered loop, beginning with the statements of row r
 abbrev pub from_row : Setting → Statements → (k n r : ℕ) → Interaction ColumnEnd
 from_row setting rest k n r = bind (steps (steps_before r) (execute_all setting rest (at_row r))) (after_row setting rest k n r)
 
@@ -109,7 +109,7 @@ pub record HasRows (tree : SyntaxTree) (k : ℕ) : Type 0 where
   pub straight : AllHaveNoStage (rest_of tree.body)
   pub unset : AllKeepRow (rest_of tree.body)
 
--- the trace of an iteration from row r on
+-- the trace of an iteration, beginning with row r
 abbrev pub row_trace : SyntaxTree → List ℤ → (k n c r : ℕ) → List Access → List Action
 row_trace tree input k n c r before =
     serial_trace (store_of tree) (with_budget (natural tree.limits.steps) (natural tree.limits.steps)
@@ -174,7 +174,7 @@ column_points_are_a_column tree input k c (suc j) r before w =
           subst (λ b. AreAColumn (t ∷ unless b (column_points tree input c (suc j) (r + 1) (before ++ accesses_in t)))) (sym free) both)
     ]
 
--- an iteration, from row r on, is the joined points of its column
+-- beginning with row r, an iteration is the joined points of its column
 pub column_is_joined : (tree : SyntaxTree) (input : List ℤ) (k n c j r : ℕ) (before : List Access) → HasRows tree k → r + j ≡ k → j < n
     → row_trace tree input k n c r before ≡ joined r (column_points tree input c (suc j) r before)
 column_is_joined tree input k zero c j r before w e l = absurd (omega (arith, l))

@@ -1,4 +1,4 @@
--- Flags of which none is true.
+-- Flags none of which is true.
 use Rattle.std.proofs.Common.{◌≡◌, refl, ℕ, Bool, true, false, List, [], ◌∷◌, ◌++◌, ◌+◌, None}
 use Rattle.pipe_model.specs.Language.SyntaxTree as syntax
 use Rattle.pipe_model.specs.Language.SyntaxTree.{Expression}

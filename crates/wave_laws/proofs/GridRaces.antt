@@ -1,4 +1,4 @@
--- The races of the lowered program's elision are those of the grid.
+-- The elision of the lowered program has the races of the grid.
 use Rattle.std.proofs.Common.{◌≡◌, ◌∙◌, ap, sym, refl, subst, List, [], ◌∷◌, map}
 use Rattle.pipe_model.specs.declared.column.Column.{Column}
 use Rattle.pipe_model.specs.Language.ProgramsOfTrees.{whole_of}

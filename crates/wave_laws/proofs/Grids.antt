@@ -184,7 +184,7 @@ map_unless : {A B : Type 0} (f : A → B) (b : Bool) (xs : List A) → unless b 
 map_unless f true xs = refl
 map_unless f false xs = refl
 
--- the traces of the lowered program are those of the grid
+-- the lowered program has the traces of the grid
 traces_are : (tree : SyntaxTree) (input : List ℤ) (k n m c : ℕ) (before : List Access) → IsReady tree k n
     → c + m ≡ natural tree.limits.iterations
     → serial_traces_from (lowered_loop tree input) (suc m) c before ≡ map (joined 0) (columns_from tree input m c before)

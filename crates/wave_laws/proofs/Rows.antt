@@ -18,7 +18,7 @@ abbrev pub BeginsWithRow : ℕ → List Local → Type 0
 BeginsWithRow r [] = ⊥
 BeginsWithRow r (l ∷ ls) = l ≡ record { name = row; value = pos r }
 
--- the environment is that of row r, but for further locals
+-- the environment is the one of row r, but for further locals
 pub record IsInRow (r : ℕ) (env : Environment) : Type 0 where
   pub locals : BeginsWithRow r env.locals
   pub stage : env.stage ≡ (at_row r).stage

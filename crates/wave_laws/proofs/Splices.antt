@@ -35,7 +35,7 @@ splice (Accessed a ∷ is) more = Accessed a ∷ splice is more
 splice (Staged k n ∷ is) more = Staged k n ∷ splice is more
 splice (Ended e ∷ is) more = splice_end e is more
 
--- the trace of an iteration with these points, from row r on
+-- the trace of an iteration with these points, beginning with row r
 abbrev pub joined : ℕ → List (List Action) → List Action
 joined r [] = []
 joined r (t ∷ []) = t
@@ -57,7 +57,7 @@ IsOpen (Ended ends.End ∷ is) = is ≡ []
 IsOpen (Ended ends.Closed ∷ is) = ⊥
 IsOpen (Ended (ends.Trapped t) ∷ is) = is ≡ []
 
--- at least one trace, all but the last of which are of points without a trap; the last names no stage
+-- at least one trace; all but the last belong to points without a trap, and the last names no stage
 abbrev pub AreAColumn : List (List Action) → Type 0
 AreAColumn [] = ⊥
 AreAColumn (t ∷ []) = nodes_in t ≡ []
@@ -92,7 +92,7 @@ end_spliced store budget left zero k m next before =
 end_spliced store budget zero (suc n) k m next before = refl
 end_spliced store budget (suc left) (suc n) k m next before = end_spliced store budget left n k m next before
 
--- an iteration that does what a point does, and then goes on to the next row, has the point's trace and then that of the next row
+-- an iteration that does what a point does, and then goes on to the next row, has the point's trace and then the trace of the next row
 pub spliced : {A : Type 0} {P : A → Type 0} (store : InitialStore) (budget left n : ℕ) (k : Kind) (m : ℤ) (next : Interaction ColumnEnd)
     {d : Interaction A} (f g : A → Interaction ColumnEnd) (before : List Access) → IsStraight P d
     → ((a : A) → P a → f a ≡ steps n (Stage k m next)) → ((a : A) → P a → g a ≡ steps n (Return ends.End))

@@ -17,7 +17,7 @@ use Rattle.wave_laws.specs.Waves.WaveLoops.{row}
 abbrev pub below : ℕ → Expression
 below k = Binary operator_codes.LESS (Name row) (Number (pos k))
 
--- the lowered loop, with at most n turns, from this environment on
+-- the lowered loop, with at most n turns, in this environment
 abbrev pub turns_from : Setting → Statements → (k n : ℕ) → Environment → Interaction Environment
 turns_from setting rest k n env = loop_turns n (λ now. evaluate setting now.locals (below k)) (execute_all setting (lowered_turn rest)) env
 

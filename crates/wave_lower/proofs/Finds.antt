@@ -53,7 +53,7 @@ one_counts [] i s h e = absurd (omega (arith, h))
 one_counts (x ∷ ss) zero s h e = let same = ap (λ y. statement_count (statement_of y)) e in omega (arith, same)
 one_counts (x ∷ ss) (suc i) s h e = let others = one_counts ss i s (omega (arith, h)) e in omega (arith, others)
 
--- what is left of a list from index i on has the first mark and the last number of the whole
+-- the rest of a list at index i has the first mark and the last number of the whole
 pub record IsLeft (stage target : Bool) (ss : List Stmt) (i n start : ℕ) : Type 0 where
   pub found : first_true n (flags_of_statements stage target (statements_of (drop i ss)))
       ≡ first_true start (flags_of_statements stage target (statements_of ss))

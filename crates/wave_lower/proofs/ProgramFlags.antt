@@ -1,4 +1,4 @@
--- The flags of a program are those of its marks.
+-- A program has the flags of its marks.
 use Rattle.std.proofs.Common.{◌≡◌, ◌∙◌, ℕ, suc, pos, Bool, true, false, List, [], ◌∷◌, ◌++◌, ◌+◌, ◌≤◌, length, map, refl, sym, ap, ap₂}
 use Rattle.std.proofs.Common.{arith, Ok, Err, Some, None, length-append}
 use Rattle.std.proofs.lemmas.List.{length-map, map-append}

@@ -24,7 +24,7 @@ digit_below m l = grind (arith, nat_tests)
 one_digit : (m : ℕ) → m < 10 → AreDigitsOf m ((48 + m) ∷ [])
 one_digit m l = (rw (digit_below m l) refl, omega arith, omega arith)
 
--- a greater number is that of its other digits, and its last
+-- a greater number is the number of its other digits, and its last digit
 more_digits : (m : ℕ) (ds : List ℕ) → 10 ≤ m → AreDigitsOf (m / 10) ds → AreDigitsOf m (ds ++ (48 + m % 10) ∷ [])
 more_digits m ds l h = (
   list_all-append is_digit ds ((48 + m % 10) ∷ []) ∙ rw (h.0, last_digit m) refl,

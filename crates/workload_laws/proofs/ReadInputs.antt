@@ -17,7 +17,7 @@ item_small seed k = let c = choice seed k in let small : c % 1000 < 1000 = omega
 abbrev line : ℕ → ℕ → List ℕ
 line seed k = number_line (item seed k)
 
--- `count` lines, from that of item j on
+-- `count` lines, beginning with the line of item j
 abbrev lines_from : (seed j count : ℕ) → List ℕ
 lines_from seed j zero = []
 lines_from seed j (suc n) = line seed j ++ lines_from seed (suc j) n
@@ -30,7 +30,7 @@ one_more_line seed j (suc n) =
     ap (λ x. line seed j ++ x) (one_more_line seed (suc j) n ∙ ap (λ k. lines_from seed (suc j) n ++ line seed k) next)
     ∙ sym (append_assoc (line seed j) (lines_from seed (suc j) n) (line seed (j + suc n)))
 
--- the input is its lines, from the first on
+-- the input is its lines, beginning with the first
 lines_are : (seed n : ℕ) → input_text seed n ≡ lines_from seed 1 n
 lines_are seed zero = refl
 lines_are seed (suc n) =

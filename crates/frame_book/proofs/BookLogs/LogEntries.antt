@@ -63,7 +63,7 @@ last_ticket_raised (b ∷ []) least l = refl
 last_ticket_raised (b ∷ (c ∷ [])) least l = refl
 last_ticket_raised (b ∷ (c ∷ (d ∷ bs))) least l = last_ticket_raised (c ∷ (d ∷ bs)) least (omega arith)
 
--- the last ticket is that of the last entry
+-- the last ticket is the ticket of the last entry
 pub last_ticket_is : (log : List BookEntry) (d : BookEntry) (n : ℕ) → length log ≡ suc n → last_ticket log ≡ (get_or log n d).ticket
 last_ticket_is [] d n l = absurd (omega (arith, l))
 last_ticket_is (b ∷ []) d zero l = refl

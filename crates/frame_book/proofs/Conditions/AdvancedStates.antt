@@ -1,4 +1,4 @@
--- A book in which an iteration has named a stage, and the book in which it has entered it too.
+-- A book after an iteration has named a stage, and after it has entered the stage.
 use Rattle.std.proofs.Common.{◌≡◌, ℕ, ℤ, zero, suc, ◌+◌, ◌<◌, ◌≤◌, List, [], ◌∷◌, ◌++◌, length, max, set, get_or, refl, ap, ap₂, sym, ◌∙◌, arith, subst, Bool, true, false, not, cond, ◌&&◌, Option}
 use Rattle.std.proofs.lemmas.List.{get_or-set_same, set-set}
 use Rattle.pipe_model.specs.declared.event.Event.TheVariants.{Advance, Enter}

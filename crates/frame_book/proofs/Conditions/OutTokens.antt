@@ -1,4 +1,4 @@
--- Of a book that was not stopped, a token that is out is that of a running instance.
+-- If a book was not stopped, each token that is out belongs to a running instance.
 use Rattle.std.proofs.Common.{◌≡◌, ℕ, zero, suc, List, [], ◌∷◌, map, not, refl, ap, sym, ◌∙◌, subst, Bool, true, false, Option, Some, None, get_or}
 use Rattle.pipe_model.specs.declared.status.Status.{Status}
 use Rattle.pipe_model.specs.declared.status.Status.TheVariants.{Running, Pending, Completed}
@@ -15,7 +15,7 @@ use Rattle.frame_book.specs.RowsOfFrames.{AreRows, IsRowOf, TokenFits}
 use Rattle.frame_book.specs.Tables.{Tables, book_state, token_state_by, token_state_of}
 use Rattle.std.specs.Prelude.{ℤ}
 
--- the row of a token that is out is that of a running instance
+-- if a token is out, its row has a running instance
 runs_by : {M : Type 0} → (status : Status) (token : Option (FrameToken M)) → TokenFits status token → token_state_by token status ≡ Out → status ≡ Running
 runs_by Running token fits out = refl
 runs_by (Pending k n) token fits out =

@@ -83,7 +83,7 @@ counter_by Running nodes = ap At (ap (λ k. get_or (map (λ n. n.number) nodes) 
 counter_by (Pending k n) nodes = refl
 counter_by (Completed e) nodes = refl
 
--- the counter of a row is that of its frame
+-- a row and its frame have the same counter
 pub counter_same : {M : Type 0} → (going : Bool) (f : Frame) (r : IterationRow M) → IsRowOf going f r → row_counter r.status r.numbers ≡ counter_of f.status f.nodes
 counter_same going f r h = ap (λ w. row_counter w r.numbers) h.status ∙ ap (row_counter f.status) h.numbers ∙ counter_by f.status f.nodes
 
@@ -116,7 +116,7 @@ ended_by Running nodes = let l = length-map nodes (λ (n : Node). n.number) in (
 ended_by (Pending k n) nodes = ((λ x. x), (λ x. x))
 ended_by (Completed e) nodes = ((λ x. x), (λ x. x))
 
--- instance 0 of a row has ended exactly if that of its frame has
+-- instance 0 of a row has ended exactly if instance 0 of its frame has
 pub ended_first_same : {M : Type 0} → (going : Bool) (f : Frame) (r : IterationRow M) → IsRowOf going f r → RowEndedFirst r.status r.numbers ↔ EndedFirstInstance f.status f.nodes
 ended_first_same going f r h = subst (λ w. RowEndedFirst w r.numbers ↔ EndedFirstInstance f.status f.nodes) (sym h.status) (subst (λ ns. RowEndedFirst f.status ns ↔ EndedFirstInstance f.status f.nodes) (sym h.numbers) (ended_by f.status f.nodes))
 

@@ -98,7 +98,7 @@ module _ {M : Type 0} (Whole : SyntaxTree → M → Type 0) (ReadyAt : SyntaxTre
   pub within : i < length b.rows
   within = row_at_within b.rows i r at_row
 
-  -- the row is that of the frame
+  -- the row matches the frame
   pub row_matches : IsRowOf (not c.stopped) f r
   row_matches =
       let old = row_of_frame (not c.stopped) c.frames b.rows i f h.rows.each may.is in

@@ -192,7 +192,7 @@ module _ {M : Type 0} (Whole : SyntaxTree → M → Type 0) (ReadyAt : SyntaxTre
   within : t.iteration < length traces
   within = let l = row_at_within b.rows t.iteration r at in let e = length-map b.rows (λ (z : IterationRow M). z.traces) in omega (arith, l, e)
 
-  -- the row is that of the frame
+  -- the row matches the frame
   row_matches : IsRowOf (not c.stopped) f r
   row_matches =
       let old = row_of_frame (not c.stopped) c.frames b.rows t.iteration f h.rows.each out.token.running.is in

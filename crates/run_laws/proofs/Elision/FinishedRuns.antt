@@ -1,4 +1,4 @@
--- The traces of a finished run without a race are those of the serial elision.
+-- A finished run without a race has the traces of the serial elision.
 use Rattle.std.proofs.Common.{ℕ, ◌≡◌, List, [], true, false, ◌+◌, ◌⊎◌, ◌∷◌, Some, length, ◌<◌, arith, subst, refl, inl, inr, suc, map, ◌≤◌}
 use Rattle.std.proofs.Common.{zero, ap, ◌++◌, sym, ◌∙◌, append-nil}
 use Rattle.std.proofs.lemmas.Bool.{cases_Bool, cases_lt, false≢true}
@@ -41,7 +41,7 @@ IsWhole p i (f ∷ fs) =
     IsEnded p i f × (((closes_loop f.trace ≡ true) × (fs ≡ []))
     ⊎ ((closes_loop f.trace ≡ false) × IsWhole p (i + 1) fs))
 
--- iterations that have ended, of which only the last closes the loop
+-- iterations that have ended, and only the last of them closes the loop
 whole_from : (p : Pipeline) (i : ℕ) (fs : List Frame)
     → ((j : ℕ) (f : Frame) → frame_at fs j ≡ Some f → IsEnded p (i + j) f)
     → ((j : ℕ) (f : Frame) → frame_at fs j ≡ Some f → j + 1 < length fs → closes_loop f.trace ≡ false)

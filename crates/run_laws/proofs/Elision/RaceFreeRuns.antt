@@ -16,7 +16,7 @@ use Rattle.run_laws.proofs.RunStates.FrameAccesses.{accesses_by_column}
 use Rattle.run_laws.proofs.RunStates.RunAccesses.{run_located, accesses_of-located_from, among_located_frames}
 use Rattle.run_laws.specs.SerialLaws.{RaceFreeRunsAreSerial}
 
--- the columns of whole iterations are those of their traces
+-- whole iterations have the columns of their traces
 columns_of_traces : (p : Pipeline) (i : ℕ) (fs : List Frame) → IsWhole p i fs
     → map (λ f. f.nodes) fs ≡ map column_of (map (λ f. f.trace) fs)
 columns_of_traces p i [] w = absurd w
@@ -28,7 +28,7 @@ columns_of_traces p i (f ∷ fs) w =
     ] in
     ap (λ l. l ∷ map (λ (h : Frame). h.nodes) fs) (sym one) ∙ ap (λ l. column_of f.trace ∷ l) rest
 
--- their ends are those of their traces
+-- they end as their traces do
 ends_of_traces : (p : Pipeline) (i : ℕ) (fs : List Frame) → IsWhole p i fs
     → map (λ f. end_of_status f.status) fs ≡ map trace_end (map (λ f. f.trace) fs)
 ends_of_traces p i [] w = absurd w

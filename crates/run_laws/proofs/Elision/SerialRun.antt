@@ -26,7 +26,7 @@ use Rattle.run_laws.proofs.RunStates.Completed.{AllCompleted}
 use Rattle.run_laws.proofs.RunStates.Frames.{frame_at_last}
 use Rattle.run_laws.specs.SerialLaws.{SerialElisionIsARun}
 
--- the iterations from here on have run to their ends, and the last closes the loop
+-- this iteration and those after it have run to their ends, and the last closes the loop
 record HasRunAll (p : Pipeline) (limit : ℕ) (events : List Event) (fs : List Frame) (accesses : List NodeAccess)
     (traces : List (List Action)) : Type 0 where
   frames : List Frame
@@ -137,7 +137,7 @@ memory-located before accesses i actions =
 unless-same : {A : Type 0} (b c : Bool) (xs : List A) → b ≡ c → unless b xs ≡ unless c xs
 unless-same b c xs e = ap (λ t. unless t xs) e
 
--- the iterations from here on run as in the elision
+-- this iteration and those after it run as in the elision
 run_iterations : (p : Pipeline) (limit : ℕ) → IsWellFormed p → 0 < limit
     → (n : ℕ) (events : List Event) (fs : List Frame) (accesses : List NodeAccess)
     → Run p limit events (completed_state fs accesses) → AllCompleted fs → AllContinueLoop fs

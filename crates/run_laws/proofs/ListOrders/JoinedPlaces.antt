@@ -113,7 +113,7 @@ joined_by_rises Continue k found = omega arith
 joined_by_rises Wait k None = omega arith
 joined_by_rises Wait k (Some j) = omega arith
 
--- the joined index of an instance is at least that of the one above it
+-- the joined index does not fall from an instance to the one below it
 joined_next : (left right : List Node) (k : ℕ) → joined left right k ≤ joined left right (suc k)
 joined_next left right k =
     joined_by_rises (node_at right (suc k)).kind (joined left right k)

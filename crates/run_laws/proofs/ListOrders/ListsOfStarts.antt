@@ -151,7 +151,7 @@ module _ (columns : List (List Node)) (starts : List NodeId) (ok : AreColumns co
         omega (arith, p, near));
   }
 
-  -- without a left parent, reach is that of the instance above
+  -- without a left parent, reach is the same as for the instance above
   down_via : (x y k : ℕ) → left_parent columns x (suc y) ≡ None → k < x
       → reach columns x (suc y) k ≡ reach columns x y k
   down_via zero y k e l = absurd (omega arith)

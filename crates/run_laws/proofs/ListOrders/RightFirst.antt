@@ -18,7 +18,7 @@ pub record IsRightFirst (number element : ℕ → ℕ → ℕ) (reach : ℕ → 
   -- an untaken right placeholder is right after its instance
   pub beside : (i j : ℕ) → number i j < m → ((k l : ℕ) → number k l < m → element k l ≢ 1 + 2 * number i j)
       → pos (1 + 2 * number i j) ≡ pos (element i j) + 1
-  -- the down placeholder of a column's last instance is after the instances that precede it and those of later
+  -- the down placeholder of a column's last instance is after the instances that precede it, and after the instances of later
   -- columns
   pub before : (i j k l : ℕ) → number i j < m → number k l < m → m ≤ number k (suc l) → (i < k → j ≤ reach k l i)
       → pos (element i j) < pos (2 + 2 * number k l)

@@ -1,4 +1,4 @@
--- Events of which the control part, the programs and the replies are each right are a run.
+-- Events are a run if the control part, the programs and the replies are each right.
 use Rattle.std.proofs.Common.{ℕ, List, ◌≡◌, ◌∷◌, ◌++◌, subst, sym, false, ap, ◌∙◌, [], append-nil, append_assoc, refl, map, true}
 use Rattle.pipe_model.specs.Runs.Allowed.{OffersAt, ProgramAllows, ControlAllows, Allowed, IsRunning, ClosesLoop}
 use Rattle.pipe_model.specs.Pipelines.Behaviour.{Action, Performs, Offers, behaviour_after_all, Staged, Ended, Accessed}
@@ -132,7 +132,7 @@ all_fronts p limit events c w (Stop ∷ rest) front q h =
     ∙ sym (append_assoc front (Stop ∷ []) rest))
     (control_step p limit events front rest Stop c w q refl refl refl h)
 
--- the columns of the outlines are those of the frames
+-- the outlines and the frames have the same columns
 columns-outlines : (fs : List Frame) → map (λ f. f.nodes) (outlines fs) ≡ map (λ f. f.nodes) fs
 columns-outlines [] = refl
 columns-outlines (f ∷ fs) = ap (λ l. f.nodes ∷ l) (columns-outlines fs)
@@ -162,7 +162,7 @@ same_finished s c e h =
       going = e.stopped ∙ h.going;
     }
 
--- events of which each part is right are a run
+-- events are a run if each part of them is right
 pub assembled_is_run : AssembledIsRun
 assembled_is_run p limit events c w =
     let h = all_fronts p limit events c w events [] refl (record {

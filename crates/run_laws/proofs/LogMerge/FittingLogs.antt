@@ -1,4 +1,4 @@
--- Logs of which a merge by tickets is a run.
+-- When the merge of logs by tickets is a run.
 use Rattle.std.specs.Prelude.{List, ℕ, Some, ◌≡◌, ◌<◌, ℤ, map, ◌%◌, ◌∷◌, ◌++◌}
 use Rattle.pipe_model.specs.Pipelines.Behaviour.{Staged, Ended, Accessed, Performs}
 use Rattle.pipe_model.specs.Runs.ControlRun.{ControlRun}

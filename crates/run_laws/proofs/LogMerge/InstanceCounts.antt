@@ -146,12 +146,12 @@ count_begun fs F i j n last new none = elim (cases_eq i j) [
       ]))
 ]
 
--- the counts of the events are those of the frames
+-- the events and the frames have the same counts
 pub record IsCountedAt (es : List Event) (s : State) (i : ℕ) : Type 0 where
   pub starts : start_count i es ≡ started_in (frame_at s.frames i)
   pub ends : end_count i es ≡ ended_in (frame_at s.frames i)
 
--- the counts stay those of the frames after every event
+-- after every event the counts are still those of the frames
 counted_after : (limit : ℕ) (es : List Event) (s : State) (e : Event) (i : ℕ) → is_access e ≡ false → IsSound s.frames
     → ControlAllows limit s e → IsCountedAt es s i → IsCountedAt (es ++ e ∷ []) (next_state s e) i
 counted_after limit es s (Begin j) i n sound h c =
@@ -216,7 +216,7 @@ counted_after limit es s Stop i n sound h c =
     let c2 = c.ends in
     record { starts = omega (arith, a, c1); ends = omega (arith, b, c2) }
 
--- in every control run the counts of the events are those of the frames
+-- in every control run the events and the frames have the same counts
 pub control_counts : {limit : ℕ} {es : List Event} {c : State} → ControlRun limit es c → (i : ℕ) → IsCountedAt es c i
 control_counts EmptyControlRun i = record { starts = refl; ends = refl }
 control_counts {limit} (ControlRunThen {events = es} {c = d} r e n g h) i =

@@ -24,7 +24,7 @@ end_tickets-append i (b ∷ xs) ys =
     ap (λ l. end_ticket i b.event b.ticket ++ l) (end_tickets-append i xs ys)
     ∙ sym (append_assoc (end_ticket i b.event b.ticket) (end_tickets i xs) (end_tickets i ys))
 
--- an index below the length of the first part is that of one of its tickets
+-- an index below the length of the first part is the index of one of its tickets
 pub ticket_left : (xs ys : List ℕ) (n : ℕ) → n < length xs → (t : ℕ) × (ticket_at (xs ++ ys) n ≡ Some t) × Among t xs
 ticket_left [] ys n l = absurd (omega (arith, l))
 ticket_left (x ∷ xs) ys zero l = (x, refl, Here)
@@ -55,7 +55,7 @@ one_ticket : (b : Bool) (t u : ℕ) → Among u (if_ticket b t) → u ≡ t
 one_ticket true t u m = only_one u t m
 one_ticket false t u m = absurd (none_among u m)
 
--- the ticket of a start is that of its event
+-- the ticket of a start is the ticket of its event
 start_ticket_is : (i : ℕ) (e : Event) (t u : ℕ) → Among u (start_ticket i e t) → u ≡ t
 start_ticket_is i (Begin j) t u m = one_ticket (j == i) t u m
 start_ticket_is i (Enter j) t u m = one_ticket (j == i) t u m
@@ -64,7 +64,7 @@ start_ticket_is i (Advance j k n) t u m = absurd (none_among u m)
 start_ticket_is i (Finish j e) t u m = absurd (none_among u m)
 start_ticket_is i Stop t u m = absurd (none_among u m)
 
--- the ticket of an end is that of its event
+-- the ticket of an end is the ticket of its event
 end_ticket_is : (i : ℕ) (e : Event) (t u : ℕ) → Among u (end_ticket i e t) → u ≡ t
 end_ticket_is i (Begin j) t u m = absurd (none_among u m)
 end_ticket_is i (Enter j) t u m = absurd (none_among u m)

@@ -32,7 +32,7 @@ end_actions-tickets i (b ∷ bs) = by_event (end_actions-tickets i bs) b.event
     by_event rest (Finish j e) = if_end-ticket (j == i) b.ticket (Ended e) (end_actions i bs) (end_tickets i bs) rest
     by_event rest Stop = rest
 
--- two rising lists of which the first is before the second
+-- two rising lists, the first of which is before the second
 rises_join : (xs ys : List TimedAction) → TicketsRise xs → TicketsRise ys
     → ((x y : TimedAction) → Among x xs → Among y ys → x.ticket < y.ticket) → TicketsRise (xs ++ ys)
 rises_join [] ys r q h = q
@@ -41,7 +41,7 @@ rises_join (x ∷ xs) ys r q h = (
   rises_join xs ys r.1 q (λ u v m n. h u v (Later x m) n),
 )
 
--- the traces from instance k on rise, and are after its start
+-- the traces of instance k and of later ones rise, and are after its start
 record IsLaidInOrder (book : List BookEntry) (made : ℕ → ℕ → List TimedAction) (i k : ℕ)
     (es : List TimedAction) : Type 0 where
   rises : TicketsRise (laid_traces (made i) k es)

@@ -1,4 +1,4 @@
--- The actions of an iteration in a merge are those of its logs.
+-- In a merge an iteration has the actions of its logs.
 use Rattle.std.proofs.Common.{Bool, ℕ, List, true, [], ◌∷◌, false, ◌==◌, ◌++◌, map, ◌≡◌, refl, sym, ap, ◌∙◌, inl, inr, subst}
 use Rattle.std.proofs.lemmas.Bool.{false≢true, eqb-true, eq-eqb}
 use Rattle.pipe_model.specs.Pipelines.Behaviour.{Action, Staged, Ended, Accessed}

@@ -315,7 +315,7 @@ module _ (down right : NodeId → ℕ) where
       abbrev pub IsRight : Option FoundRace → Type 0
       IsRight found = IsRightInOrders down right accesses found
 
-      -- the accesses from number n on
+      -- access number n and those after it
       pub record IsRest (n : ℕ) (xs : List NotedAccess) : Type 0 where
         pub long : length accesses ≡ n + length xs
         pub each : (t : ℕ) → t < length xs → access_at accesses (n + t) ≡ access_at xs t
@@ -359,7 +359,7 @@ module _ (down right : NodeId → ℕ) where
               subst (λ z. KindsConflict (access_at accesses place).kind z) (sym (kind_at n x kind at))
               (subst (λ (a : NotedAccess). KindsConflict a.kind kind) (sym s) c)
 
-      -- the first race from number n on
+      -- the first race of access number n or a later one
       pub first_race_from_is : (xs : List NotedAccess) (n : ℕ) (kept : AccessHistory) → IsRest n xs → IsHistory n kept
           → ((m k : ℕ) → m < n → RacesInOrders down right accesses m k → ⊥)
           → IsRight (found_race_from down right n kept xs)

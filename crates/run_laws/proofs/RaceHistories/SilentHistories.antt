@@ -66,7 +66,7 @@ histories_decide_races p limit events s r = (
       (histories_find_the_first_race p limit events s r cell) free),
 )
 
--- the law of runs in which nothing is found
+-- a finished run in which the histories find nothing is the serial elision
 pub nothing_found_is_serial : NothingFoundIsSerial
 nothing_found_is_serial p limit events s r closes over none =
     race_free_runs_are_serial p limit events s r closes over ((histories_decide_races p limit events s r).0 none)

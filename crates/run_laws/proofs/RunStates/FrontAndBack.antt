@@ -20,7 +20,7 @@ run_state_is EmptyRun = refl
 run_state_is (RunThen {events = es} {s = t} r e h) =
     ap (λ u. next_state u e) (run_state_is r) ∙ sym (state_from-push initial_state es e)
 
--- a run goes on with events that are allowed from its state on
+-- a run goes on with events that are allowed after its state
 run_goes_on : (p : Pipeline) (limit : ℕ) (es : List Event) (s : State) (more : List Event) → Run p limit es s
     → AllowedFrom p limit s more → Run p limit (es ++ more) (state_from s more)
 run_goes_on p limit es s [] r g = rw append-nil r
@@ -28,7 +28,7 @@ run_goes_on p limit es s (e ∷ more) r g =
     subst (λ l. Run p limit l (state_from (next_state s e) more)) (append_assoc es (e ∷ []) more)
     (run_goes_on p limit (es ++ e ∷ []) (next_state s e) more (RunThen r e g.0) g.1)
 
--- events that are allowed from a state on, and one more
+-- events that are allowed after a state, and one more
 allowed_from-push : (p : Pipeline) (limit : ℕ) (s : State) (es : List Event) (e : Event) → AllowedFrom p limit s es
     → Allowed p limit (state_from s es) e → AllowedFrom p limit s (es ++ e ∷ [])
 allowed_from-push p limit s [] e g h = (h, tt)

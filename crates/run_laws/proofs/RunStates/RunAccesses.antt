@@ -1,4 +1,4 @@
--- The accesses of a run are those of its iterations, each with its instance.
+-- A run has the accesses of its iterations, each with its instance.
 use Rattle.std.proofs.Common.{List, ℕ, Some, ◌≡◌, ◌⊎◌, inl, subst, inr, ◌∙◌, suc, length, ap, arith, ◌+◌, [], ◌∷◌, ◌++◌, map, refl}
 use Rattle.std.proofs.lemmas.Bool.{cases_eq}
 use Rattle.std.proofs.lemmas.List.{map-append}
@@ -32,7 +32,7 @@ pub record StandsInFrame (fs : List Frame) (x : NodeAccess) : Type 0 where
   pub is : frame_at fs place ≡ Some frame
   pub made : Among x (located place 0 frame.trace)
 
--- the accesses of the state are those of its frames
+-- the state has the accesses of its frames
 pub record HasLocatedAccesses (s : State) : Type 0 where
   pub spread : (x : NodeAccess) → Among x s.accesses → StandsInFrame s.frames x
   pub gathered : (x : NodeAccess) → StandsInFrame s.frames x → Among x s.accesses
@@ -155,7 +155,7 @@ located_after p limit s (Finish i e) h t k =
     record { spread = q.spread; gathered = q.gathered }
 located_after p limit s Stop h t k = record { spread = k.spread; gathered = k.gathered }
 
--- in every run the accesses are those of the frames
+-- every run has the accesses of its frames
 pub run_located : {p : Pipeline} {limit : ℕ} {events : List Event} {s : State} → Run p limit events s
     → HasLocatedAccesses s
 run_located EmptyRun = record {

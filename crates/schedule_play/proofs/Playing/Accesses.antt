@@ -63,7 +63,7 @@ module _ (code : FlatCode) (cells : ℕ) (v : PlayState) (h : IsPlay code cells 
   pub within : i < length v.running
   within = let a = frame_at_within s.frames i f is in let b = h.running.count in omega (arith, a, b)
 
-  -- the token's index is that of the last instance
+  -- the token's index is the index of the last instance
   pub index_here : k.token.index ≡ current_index (frame_at s.frames i)
   index_here =
       let there = same_frame (state_of v.book).frames s.frames i f (sym (same_control code cells v h).frames) is in

@@ -1,4 +1,4 @@
--- A schedule is that of every run with the same control part.
+-- All runs with the same control part have the same schedule.
 use Rattle.std.proofs.Common.{◌≡◌, ◌∙◌, ap, sym, subst, refl, ℕ, zero, suc, ℤ, ◌+◌, ◌-◌, ◌<◌, List, [], ◌∷◌, ◌++◌, Bool, length, if◌then◌else◌}
 use Rattle.std.proofs.lemmas.List.{length-map}
 use Rattle.pipe_model.specs.declared.node.Kind.{Kind}

@@ -82,7 +82,7 @@ module _ (code : FlatCode) (cells : ℕ) (v : PlayState) (h : IsPlay code cells 
         now = omega (arith, longer, a, b, now);
       }
 
-  -- an iteration with the same traces of which no instance ends
+  -- an iteration with the same traces, and none of its instances ends
   pub fits_still : (e : Event) (log : List BookEntry) (traces : List (List (List Entry))) (tokens : List TokenState) → ControlAllows limit s e → is_access e ≡ false
       → events_of log ≡ events_of v.book.log ++ e ∷ [] → (j : ℕ) → EndsNoneOf j e
       → item_or Spent tokens j ≡ item_or Spent v.book.tokens j → item_or [] traces j ≡ item_or [] v.book.traces j
@@ -107,7 +107,7 @@ module _ (code : FlatCode) (cells : ℕ) (v : PlayState) (h : IsPlay code cells 
 
   -- ---- the next state
 
-  -- what is kept after an event, if the parts are those of the run with it
+  -- what is kept after an event, if the parts belong to the run with this event
   module _ (e : Event) (allowed : Allowed p limit s e) (going : (next_state s e).stopped ≡ false) where
     after : state_after (v.events ++ e ∷ []) ≡ next_state s e
     after = state_after-push v.events e

@@ -29,7 +29,7 @@ starts code cells v workers choices turns h none = record {
       ∙ sym (ap (λ es. es ++ played_from (pipeline_played v) v.book.limit workers choices (turns - 0) 0 (state_after es)) none);
 }
 
--- the pipeline is that of the beginning
+-- the pipeline is the one at the beginning
 same_pipeline : (old v : PlayState) → KeepsProgram old v → pipeline_played v ≡ pipeline_played old
 same_pipeline old v k = ap₂ (λ q input. pipeline_after_init (tree_of q) input) k.program k.input
 

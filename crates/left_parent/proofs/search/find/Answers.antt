@@ -1,4 +1,4 @@
--- The index before the partition point is that of the last number up to s.
+-- The index before the partition point is the index of the last number up to s.
 use Rattle.std.proofs.Common.{rules, arith, ◌-◌}
 use Rattle.std.proofs.lemmas.List.Sorted.{IsPartitionPoint-from_clause}
 use Rattle.std.specs.Prelude.{int_le}

@@ -1,4 +1,4 @@
--- The starts and the counts are those of the events so far.
+-- The starts and the counts describe the events so far.
 use Rattle.std.proofs.Common.{◌≡◌, ◌≤◌, ℕ, length, slice_index}
 use Rattle.pipe_model.specs.Orders.Starts.{starts_of}
 use Rattle.order_2d.specs.LogStarts.{counts_in}

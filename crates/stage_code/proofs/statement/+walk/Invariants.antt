@@ -12,7 +12,7 @@ decreases-put_block l = 4 * statement_counts (statements_of l.block.now.statemen
 abbrev pub decreases-put_statement : goal.decreases-put_statement
 decreases-put_statement l = 4 * statement_count (statement_of l.s.now)
 
--- the code so far and that of the rest is the code of the whole
+-- the code so far and the code of the rest are the code of the whole
 abbrev pub invariant-put_block-loop-s : goal.invariant-put_block-loop-s
 invariant-put_block-loop-s l = record {
   code : l.code.items ++ statements_code (range_of 2 l.cells) l.locals (length l.code.items) (statements_of (drop l.s-index l.s-items))

@@ -1,4 +1,4 @@
--- The order of two elements is that of their labels.
+-- Two elements are in the order of their labels.
 use Rattle.std.proofs.Common.{◌≤◌, length, ap, arith, ◌∙◌}
 use Rattle.std.proofs.lemmas.Grind.{get_or_default_zero}
 use Rattle.om_list.specs.LabelledList.{LabelledList}

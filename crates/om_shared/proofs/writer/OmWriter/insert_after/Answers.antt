@@ -1,4 +1,4 @@
--- The labels of the words are those of the links, before and after the insertion.
+-- The words and the links have the same labels, before and after the insertion.
 use Rattle.om_shared.proofs.WordLabels.{word_labels_are, words_are_chosen, words_rise}
 use Rattle.om_shared.proofs.writer.OmWriter.insert_after.Goals as goal
 
