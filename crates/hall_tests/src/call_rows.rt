@@ -7,7 +7,7 @@ ghost use Rattle.hall_tests.specs.Workers.{IsWorkerOf};
 ghost use Rattle.pipe_hall.specs.WorkerSeats.{hall_name};
 ghost use Rattle.pipe_model.specs.Language.SyntaxTree.{tree_of};
 
-use crate::call_rows::Who::{First, Second};
+use crate::call_rows::Caller::{First, Second};
 use crate::closing::{Logs, close_logs};
 use crate::opening::open;
 use crate::sources::{PREFIX_SUMS, Prepared, RACING, prepare};
@@ -30,13 +30,13 @@ use std::test::Fail;
 
 // One of two workers.
 #[derive(Clone, Copy, PartialEq, Eq, Debug)]
-enum Who {
+enum Caller {
     First,
     Second,
 }
 
 // A worker, its call and the result.
-type Row = (Who, Call, Seen);
+type Row = (Caller, Call, Seen);
 
 // The first row whose result is another one, with that result, and the logs of the closed hall.
 #[derive(Drop)]
@@ -60,7 +60,7 @@ impl<'a, B: RunCode> Workers<'a, B> {
         rt: &R,
         code: &Code,
         input: &Numbers,
-        who: Who,
+        caller: Caller,
         call: Call,
     ) -> (Self, Seen)
         requires drives { CanDrive B.code (hall_name self.first.seat.hall) code.now input.now }
@@ -70,12 +70,12 @@ impl<'a, B: RunCode> Workers<'a, B> {
         ensures second { IsWorkerOf B.code (hall_name self.entry.first.seat.hall) result.0.second.seat result.0.second.token }
     {
         let Workers { first, second } = self;
-        match who {
-            Who::First => {
+        match caller {
+            Caller::First => {
                 let (first, seen) = first.make(alloc, rt, code, input, call);
                 (Workers { first, second }, seen)
             }
-            Who::Second => {
+            Caller::Second => {
                 let (second, seen) = second.make(alloc, rt, code, input, call);
                 (Workers { first, second }, seen)
             }
@@ -99,8 +99,8 @@ impl<'a, B: RunCode> Workers<'a, B> {
     {
         let mut workers = self;
         let mut other = None;
-        for (index, (who, call, seen)) in rows.iter().enumerate() {
-            let (after, got) = workers.make(alloc, rt, code, input, *who, *call);
+        for (index, (caller, call, seen)) in rows.iter().enumerate() {
+            let (after, got) = workers.make(alloc, rt, code, input, *caller, *call);
             workers = after;
             if got != *seen {
                 other = Some((index, got));
