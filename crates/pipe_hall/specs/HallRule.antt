@@ -49,7 +49,7 @@ pub record IsPlaced {M : Type 0} (words : List ℕ) (homes : List (mathlib.Core.
   pub home : slice_index words i ≡ 0 → get_elem? homes i ≡ some (some (slot_of x))
   pub away : slice_index words i ≢ 0 → (slice_index words i ≡ 1) × (get_elem? homes i ≡ some none)
 
--- what seat j knows is right. `number` is the number of the seat that stands for an iteration, and `holder` that of the seat that has
+-- what seat j knows is right. `number` is the number of the seat of an iteration's running instance, and `holder` that of the seat that has
 -- taken a lock
 pub record IsRightView (words : List ℕ) (b : BookState) (shard : ℕ → ShardValue) (seats : ℕ → Option InstanceData) (number holder : ℕ → ℕ)
     (j : ℕ) (v : SeatView) : Type 0 where

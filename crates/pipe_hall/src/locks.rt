@@ -49,7 +49,7 @@ pub(crate) const STRIDE: usize = 8;
 // looks. A lock is held for a microsecond or less, unless its thread was put off the processor.
 const SHORT_LOOKS: u32 = 200;
 
-// Pauses for a moment after so many looks at a lock that is taken.
+// Pauses for a moment after this number of looks at a lock that is taken.
 fn pause(looks: u32) {
     if looks < SHORT_LOOKS {
         hint::spin_loop();
