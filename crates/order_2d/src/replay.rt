@@ -13,7 +13,7 @@ ghost use Rattle.pipe_model.specs.Races.Columns.{IsNodeOf};
 ghost use Rattle.pipe_model.specs.declared.node.NodeId.{NodeId as PlainNodeId};
 
 use crate::parents::{column_numbers, left_index};
-use crate::started::{Row, StartedNode, above, joined_index, left_marks, marks_of};
+use crate::started::{StartedColumn, StartedNode, above, joined_index, left_marks, marks_of};
 use crate::starts::{MOST_STARTS, starts_of_log};
 use crate::two_orders::TwoOrders;
 use om_list::om_list::OmList;
@@ -35,7 +35,7 @@ pub struct Replayed {
     /// The marks of each instance, in the same order.
     pub marks: Vec<Marks>,
     /// The instances of each column, in order, with their marks.
-    pub rows: Vec<Row>,
+    pub rows: Vec<StartedColumn>,
 }
 
 // Starts an instance with these parents; with none it is the first.
@@ -56,7 +56,7 @@ fn start_next(
     orders: &mut TwoOrders<OmList>,
     columns: &[Column],
     numbers: &[Numbers],
-    rows: &[Row],
+    rows: &[StartedColumn],
     starts: &[NodeId],
     m: usize,
 ) -> StartedNode
@@ -78,7 +78,11 @@ fn start_next(
 }
 
 // Appends a started instance to the row of its column.
-fn push_started(rows: &mut Vec<Row>, iteration: u32, node: StartedNode) -> Result<(), NoMemory>
+fn push_started(
+    rows: &mut Vec<StartedColumn>,
+    iteration: u32,
+    node: StartedNode,
+) -> Result<(), NoMemory>
     requires { iteration < length rows.old.items }
     ensures { OnOk result (rows.new.items ≡ slice_set rows.old.items iteration (row_at rows.old.items iteration ++ node ∷ [])) }
 {
@@ -88,7 +92,7 @@ fn push_started(rows: &mut Vec<Row>, iteration: u32, node: StartedNode) -> Resul
 }
 
 // An empty row for each column, with room for its instances.
-fn empty_rows(alloc: Global, columns: &[Column]) -> Result<Vec<Row>, NoMemory>
+fn empty_rows(alloc: Global, columns: &[Column]) -> Result<Vec<StartedColumn>, NoMemory>
     ensures { IfOk result (λ rows. rows.items ≡ no_rows columns.now) }
 {
     let mut rows = Vec::with_capacity(alloc, columns.len())?;
@@ -105,7 +109,7 @@ fn start_all(
     numbers: &[Numbers],
     starts: &[NodeId],
     orders: &mut TwoOrders<OmList>,
-) -> Result<(Vec<Marks>, Vec<Row>), NoMemory>
+) -> Result<(Vec<Marks>, Vec<StartedColumn>), NoMemory>
     requires run { CanReplay (nodes_of_columns columns.now) starts.now numbers.now }
     requires lists { HasLists (nodes_of_columns columns.now) starts.now 0 orders.old }
     ensures lists { OnOk result (HasLists (nodes_of_columns columns.now) starts.now (length starts.now) orders.new) }

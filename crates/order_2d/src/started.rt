@@ -17,10 +17,10 @@ pub struct StartedNode {
 }
 
 /// The started instances of a column, in order.
-pub type Row = ListOf<StartedNode>;
+pub type StartedColumn = ListOf<StartedNode>;
 
 /// Returns the instance above `x`, if `x` is not a head.
-pub(crate) fn above(rows: &[Row], x: NodeId) -> Option<StartedNode>
+pub(crate) fn above(rows: &[StartedColumn], x: NodeId) -> Option<StartedNode>
     requires begun { x.iteration < length rows.now }
     requires started { (k : ℕ) → x.index ≡ k + 1 → k < length (row_at rows.now x.iteration) }
     ensures none { x.index ≡ 0 → result ≡ None }
@@ -44,7 +44,7 @@ pub(crate) fn marks_of(node: Option<StartedNode>) -> Option<Marks>
 }
 
 /// Returns the marks of the left parent of `x`, whose index in the left column is given.
-pub(crate) fn left_marks(rows: &[Row], x: NodeId, left: Option<u32>) -> Option<Marks>
+pub(crate) fn left_marks(rows: &[StartedColumn], x: NodeId, left: Option<u32>) -> Option<Marks>
     requires begun { x.iteration < length rows.now }
     requires column { (j : ℕ) → left ≡ Some j → 0 < x.iteration }
     requires started { (j : ℕ) → left ≡ Some j → j < length (row_at rows.now (x.iteration - 1)) }
