@@ -32,7 +32,7 @@ use crate::folding::{count_of, fold_left, lets_enter, needs_left};
 use crate::ledger::Tickets;
 use crate::payload::Payload;
 use crate::row::Iteration;
-use crate::rows::{first_to_go_on, is_alive, last_has_ended_first, may_enter};
+use crate::rows::{begins_alive, first_to_go_on, is_alive, last_has_ended_first, may_enter};
 use crate::start::{left_place, start_below, start_head};
 use dep_fold::folded::Folded;
 use om_shared::writer::OmWriter;
@@ -492,7 +492,8 @@ impl<M: Payload<L>, L: ListWriter + Drop> Book<M, L> {
     /// Returns the first that holds: the run was stopped; it is finished; the token of the least
     /// iteration that was left ready, or that may enter the stage that it has named, after its event
     /// `Enter`; the next iteration may begin; nothing, which it returns only while a token is out. Looks
-    /// at the alive iterations in order, and once at each that has ended since the last call.
+    /// at the alive iterations in order, up to the one that it returns, and at most at as many that have
+    /// ended as may be alive; now and then it drops those.
     pub fn rescue(&mut self) -> Rescue<M>
         ensures returned { RescueReturns self.old.limit (state_of self.old) (IsReady self.old) result }
         ensures book { self.new ≡ after_rescue self.old result }
@@ -541,12 +542,17 @@ impl<M: Payload<L>, L: ListWriter + Drop> Book<M, L> {
         last_has_ended_first(self.rows.as_slice())
     }
 
-    // Drops the iterations that have ended from the list of alive ones.
+    // Drops the iterations that have ended from the list of alive ones, if the first one has, or if the
+    // list is long. So the list is not gone through for each call, and never has more than twice as many
+    // iterations as may be alive, and one.
     fn drop_ended(&mut self)
         ensures { self.new ≡ self.old }
     {
         let rows = self.rows.as_slice();
-        self.alive.retain(|iteration| is_alive(rows, *iteration));
+        let most = 2 * self.throttle as usize;
+        if self.alive.len() > most || !begins_alive(rows, self.alive.as_slice()) {
+            self.alive.retain(|iteration| is_alive(rows, *iteration));
+        }
     }
 
     // The token of an iteration that was left ready, or may enter the stage that it has named.

@@ -82,6 +82,14 @@ pub fn is_alive<M>(rows: &[Iteration<M>], iteration: u32) -> bool
     !row.has_ended()
 }
 
+/// Returns whether the first of these iterations, if there is one, has not ended.
+pub fn begins_alive<M>(rows: &[Iteration<M>], alive: &[u32]) -> bool {
+    match alive.first() {
+        None => true,
+        Some(iteration) => is_alive(rows, *iteration),
+    }
+}
+
 /// Returns the first iteration that was left ready, or that may enter the stage that it has named.
 /// Looks only at the listed ones, in order.
 pub fn first_to_go_on<M>(rows: &[Iteration<M>], alive: &[u32]) -> Option<u32>
