@@ -56,7 +56,7 @@ impl CleanSink {
     pub fn take(&mut self, part: &[u8]) -> WritePart
         requires { 0 < length part.now }
         ensures outcome { result ≢ WritePart.NoMemory → result ≡ WritePart.Took (min (length part.now) self.old.most) }
-        ensures takes { TakesSome result part.now }
+        ensures some { TakesSome result part.now }
         ensures taken { self.new ≡ record self.old { taken = taken_after result part.now self.old.taken } }
     {
         let n = part.len().min(self.most as usize);
@@ -80,7 +80,7 @@ impl Sink for CleanSink {
     fn write_part(&mut self, part: &[u8]) -> WritePart
         requires { 0 < length part.now }
         ensures never { is_write_fault result ≡ false }
-        ensures takes { TakesSome result part.now }
+        ensures some { TakesSome result part.now }
         ensures taken { self.new ≡ record self.old { taken = taken_after result part.now self.old.taken } }
         ensures outcome { result ≢ WritePart.NoMemory → result ≡ WritePart.Took (min (length part.now) self.old.most) }
     {
@@ -129,7 +129,7 @@ impl Sink for MemSink {
     fn write_part(&mut self, part: &[u8]) -> WritePart
         requires { 0 < length part.now }
         ensures cause { CountsFault (is_write_fault result) self.old.plan.faults self.new.plan.faults }
-        ensures takes { TakesSome result part.now }
+        ensures some { TakesSome result part.now }
         ensures taken { self.new.sink ≡ record self.old.sink { taken = taken_after result part.now self.old.sink.taken } }
         ensures plan { self.new.plan ≡ after_call self.old.plan }
         ensures fails { (result ≡ WritePart.Failed) ↔ (fails_next self.old.plan ≡ true) }

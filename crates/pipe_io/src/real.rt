@@ -149,7 +149,7 @@ impl<R: Print> Sink for RealSink<R> {
     fn write_part(&mut self, part: &[u8]) -> WritePart
         ensures cause { CountsFault (is_write_fault result) self.old.faults self.new.faults }
         ensures count { self.new.faults ≡ count_after (is_write_fault result) self.old.faults }
-        ensures takes { TakesSome result part.now }
+        ensures some { TakesSome result part.now }
         ensures needs_no_memory { result ≢ WritePart.NoMemory }
     {
         let most = part.len().min(u32::MAX as usize);

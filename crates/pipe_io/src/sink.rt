@@ -30,6 +30,6 @@ pub trait Sink {
     fn write_part(&mut self, part: &[u8]) -> WritePart
         requires { 0 < length part.now }
         ensures cause { CountsFault (is_write_fault result) (faults self.old) (faults self.new) }
-        ensures takes { TakesSome result part.now }
+        ensures some { TakesSome result part.now }
         ensures taken { taken self.new ≡ option_map (taken_after result part.now) (taken self.old) };
 }

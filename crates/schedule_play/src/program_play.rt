@@ -166,7 +166,7 @@ fn play_prepared(
 fn most_instances(limits: Limits) -> u64
     requires { HasRangesOfLimits limits }
     ensures count { result ≡ natural limits.iterations * natural limits.stages + 1 }
-    ensures bounded { result ≤ 268435457 }
+    ensures few { result ≤ 268435457 }
 {
     limits.iterations as u64 * limits.stages as u64 + 1
 }
@@ -175,7 +175,7 @@ fn most_instances(limits: Limits) -> u64
 fn turns_of_instance(limits: Limits) -> u64
     requires { HasRangesOfLimits limits }
     ensures count { result ≡ 2 * natural limits.steps + 2 }
-    ensures bounded { result ≤ 2000002 }
+    ensures few { result ≤ 2000002 }
 {
     2 * limits.steps as u64 + 2
 }

@@ -22,8 +22,8 @@ pub fn part_trap(place: TrapPlace, end: Option<ColumnEnd>) -> Option<TrapAt>
 
 // Returns the place of the last instance of an iteration.
 fn last_place(iteration: u32, column: &Column) -> TrapPlace
-    requires nonempty { 0 < length column.now.nodes }
-    requires bounded { length column.now.nodes ≤ 4294967296 }
+    requires some { 0 < length column.now.nodes }
+    requires few { length column.now.nodes ≤ 4294967296 }
     ensures { result ≡ column_traps.last_place iteration column.now }
 {
     let nodes = column.nodes.as_slice();
@@ -38,8 +38,8 @@ fn last_place(iteration: u32, column: &Column) -> TrapPlace
 /// Returns the trap of iteration `iteration`, if its column ends with one. The column has an
 /// instance.
 pub fn column_trap(iteration: u32, column: &Column) -> Option<TrapAt>
-    requires nonempty { 0 < length column.now.nodes }
-    requires bounded { length column.now.nodes ≤ 4294967296 }
+    requires some { 0 < length column.now.nodes }
+    requires few { length column.now.nodes ≤ 4294967296 }
     ensures { result ≡ column_traps.column_trap iteration column.now }
 {
     part_trap(last_place(iteration, column), column.end)
@@ -49,8 +49,8 @@ pub fn column_trap(iteration: u32, column: &Column) -> Option<TrapAt>
 /// instance.
 pub fn least_trap(columns: &[Column]) -> Option<TrapAt>
     requires count { length columns.now ≤ 4294967296 }
-    requires nonempty { All (λ column. 0 < length column.nodes) columns.now }
-    requires bounded { All (λ column. length column.nodes ≤ 4294967296) columns.now }
+    requires some { All (λ column. 0 < length column.nodes) columns.now }
+    requires few { All (λ column. length column.nodes ≤ 4294967296) columns.now }
     ensures { result ≡ column_traps.least_trap 0 columns.now }
 {
     let mut trap = None;

@@ -4,8 +4,8 @@ use Rattle.pipe_model.specs.Language.SyntaxTree.{tree_of}
 use Rattle.pipe_check.proofs.Regions.{few_cells, cells_fail, at_init, init_fits, init_fails, at_test, test_fits, test_fails, at_body, body_fits, body_fails, at_last}
 use Rattle.pipe_check.proofs.program.check_marks.Goals as goal
 
-pub of-requires-clause-bounded : goal.of-requires-clause-bounded
-of-requires-clause-bounded c = rw c.as_slice.ensures (few_cells (tree_of c.args.program.now) c.requires)
+pub of-requires-clause-few : goal.of-requires-clause-few
+of-requires-clause-few c = rw c.as_slice.ensures (few_cells (tree_of c.args.program.now) c.requires)
 
 pub returns-in_err-cells-clause-err : goal.returns-in_err-cells-clause-err
 returns-in_err-cells-clause-err c =

@@ -19,8 +19,8 @@ detect-requires-clause-own g c =
     (c.in_ok-columns.ensures ∙ ap made_columns c.as_slice.ensures) (ensured.accesses ∙ c.requires.play.accesses ∙ ap (λ es. (state_after es).accesses) (sym ensured.events)) in
     can.own
 
-pub detect-requires-clause-bounded : goal.detect-requires-clause-bounded
-detect-requires-clause-bounded g c =
+pub detect-requires-clause-few : goal.detect-requires-clause-few
+detect-requires-clause-few g c =
     let v = c.args.player in
     let accepted = c.requires.accepted in
     let ensured = c.into_run-events.ensures in
