@@ -6,7 +6,7 @@ use Rattle.pipe_model.specs.Language.SyntaxTree.{SyntaxTree}
 use Rattle.stage_code.specs.CodeOfTrees.{part_code, iteration_code, flat_code}
 use Rattle.stage_code.specs.FlatCode.{FlatCode}
 use Rattle.stage_code.specs.declared.instr.Instr.{Instr}
-use Rattle.stage_code.proofs.TreesInBounds.{HasAt}
+use Rattle.stage_code.specs.Decoding.{HasAt}
 
 pub first_at : (code : List Instr) (at : ℕ) (a b : List Instr) → HasAt code at (a ++ b) → HasAt code at a
 first_at code at [] b h = tt

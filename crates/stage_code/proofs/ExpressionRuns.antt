@@ -9,7 +9,8 @@ use Rattle.pipe_model.specs.Language.Evaluation.{CellRange, Local, evaluate, loc
 use Rattle.pipe_model.specs.Language.SyntaxTree.{Expression, Number, Name, Element, And, Or, Binary, Unary, More, Take, Iter}
 use Rattle.stage_code.specs.CodeOfTrees.{expression_code, name_code, element_code}
 use Rattle.stage_code.specs.Slots.{slot_of, one_later}
-use Rattle.stage_code.proofs.TreesInBounds.{HasAt, IsKnown, HasCells, StaysInBounds}
+use Rattle.stage_code.specs.Decoding.{HasAt}
+use Rattle.stage_code.proofs.TreesInBounds.{IsKnown, HasCells, StaysInBounds}
 use Rattle.stage_code.specs.Instructions.{CodeState, CodeSetting, goes_to, read_effect, from_slot, act}
 use Rattle.stage_code.specs.Following.{Follows, Gets, GoesOn}
 use Rattle.stage_code.proofs.CodeParts.{first_at, rest_at}

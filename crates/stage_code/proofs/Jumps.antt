@@ -13,7 +13,7 @@ use Rattle.stage_code.specs.Slots.{slot_of, locals_after}
 use Rattle.stage_code.specs.declared.instr.Instr.{Instr}
 use Rattle.stage_code.specs.declared.instr.Instr.TheVariants as instrs
 use Rattle.stage_code.proofs.CodeParts.{first_at, rest_at, has_all}
-use Rattle.stage_code.proofs.TreesInBounds.{HasAt}
+use Rattle.stage_code.specs.Decoding.{HasAt}
 
 -- an instruction at an index is no jump backward, or leads to a step
 abbrev LeadsOn : List Instr → ℕ → Instr → Type 0

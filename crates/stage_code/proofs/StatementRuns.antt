@@ -16,7 +16,8 @@ use Rattle.pipe_model.specs.Language.Evaluation.{StagePosition, CellRange, Envir
 use Rattle.pipe_model.specs.Language.SyntaxTree.{Expression, Statement, Let, Assign, AssignElement, Emit, If, While, Stage, NextStage, Statements, Empty, Then}
 use Rattle.stage_code.specs.CodeOfTrees.{expression_code, assign_code, assign_element_code, stage_code, next_stage_code, statement_code, statements_code, iteration_code, part_code}
 use Rattle.stage_code.specs.Slots.{slot_of, locals_after, locals_at_end}
-use Rattle.stage_code.proofs.TreesInBounds.{HasAt, IsKnown, HasCells, StaysInBounds, StatementStaysInBounds, StatementsStayInBounds}
+use Rattle.stage_code.specs.Decoding.{HasAt}
+use Rattle.stage_code.proofs.TreesInBounds.{IsKnown, HasCells, StaysInBounds, StatementStaysInBounds, StatementsStayInBounds}
 use Rattle.stage_code.specs.Instructions.{write_effect, with_stack, CodeState, Next, Stuck, CodeSetting, goes_to, set_slot, in_stage, after_loop_test, act}
 use Rattle.stage_code.specs.Following.{Follows, Sets, GoesOn, Raises, Finishes}
 use Rattle.stage_code.proofs.CodeParts.{first_at, rest_at}

@@ -7,11 +7,6 @@ use Rattle.stage_code.specs.Instructions.{Bounds}
 use Rattle.stage_code.specs.Slots.{slot_of, locals_after}
 use Rattle.stage_code.specs.declared.instr.Instr.{Instr}
 
--- the instructions are in the code, beginning at this index
-abbrev pub HasAt : List Instr → ℕ → List Instr → Type 0
-HasAt code at [] = Unit {0}
-HasAt code at (i ∷ is) = (slice_get code at ≡ Some i) × HasAt code (at + 1) is
-
 -- a name without an index has a slot, or its first cell is served
 abbrev pub IsKnown : Bounds → Option ℕ → Option CellRange → Type 0
 IsKnown b (Some slot) range = Unit {0}

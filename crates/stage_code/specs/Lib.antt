@@ -1,3 +1,4 @@
+pub mod Decoding
 pub mod Instructions
 pub mod Following
 pub mod Jumps

@@ -4,6 +4,7 @@
 mod cell_ranges;
 pub mod code;
 pub mod code_bounds;
+pub mod decoded;
 mod expression;
 mod height;
 pub mod instr;

@@ -91,7 +91,7 @@ fn lower_program(alloc: Global, program: &Program) -> Result<Code, NoMemory>
     let last = place(&instrs);
     put_part(alloc, &mut instrs, &cells, &program.last)?;
     let depth = greatest_height(program);
-    Ok(Code::new(instrs, 0, pipe, last, depth, program.limits))
+    Code::new(alloc, instrs, 0, pipe, last, depth, program.limits)
 }
 
 /// Returns the flat code of an accepted program: from the start of each part it does what the

@@ -10,4 +10,5 @@ mod operators;
 pub mod pending;
 mod refusing;
 mod run;
+mod simple;
 mod stack;

@@ -1,11 +1,11 @@
-use Rattle.std.proofs.Common.{◌≡◌, ◌∙◌, ◌≤◌, [], List, sym, subst, arith}
+use Rattle.std.proofs.Common.{◌≡◌, ◌∙◌, ◌≤◌, [], IfOk, List, sym, subst, arith}
 use Rattle.pipe_model.specs.declared.bounds.TheConstants.{MOST_CELLS}
 use Rattle.pipe_model.specs.declared.tree.Declaration.{Declaration}
 use Rattle.pipe_model.specs.Language.CheckingRules.{cell_total}
 use Rattle.pipe_model.specs.Language.Programs.{range_of}
 use Rattle.pipe_model.specs.Language.SyntaxTree.{tree_of}
 use Rattle.stage_code.specs.CellRanges.{AreNew}
-use Rattle.stage_code.specs.FlatCode.{IsSoundCode}
+use Rattle.stage_code.specs.FlatCode.{FlatCode, IsSoundCode}
 use Rattle.stage_code.proofs.Lowering.{ready, init_fits, pipe_fits, last_fits, flat_is, flat_sound}
 use Rattle.stage_code.proofs.lower.lower_program.Goals as goal
 
@@ -71,8 +71,8 @@ pub returns : goal.returns
 returns c =
     let program = c.args.program.now in
     let table : c.in_ok-cells.cells ≡ program.cells = c.in_ok-cells.ensures ∙ c.as_slice.ensures in
-    c.new.ensures
-    ∙ flat_is (tree_of program) c.in_ok-cells.cells c.new-instrs.result.items c.put_part.new.code.items c.put_iteration.new.code.items
+    subst (λ (made : FlatCode). IfOk c.new.result (λ code. code ≡ made))
+    (flat_is (tree_of program) c.in_ok-cells.cells c.new-instrs.result.items c.put_part.new.code.items c.put_iteration.new.code.items
     c.put_part-2.new.code.items
     c.place-pipe.result c.place-last.result c.greatest_height-depth.result table c.new-instrs.ensures.items c.in_ok-put_part.ensures c.place-pipe.ensures
-    c.in_ok-put_iteration.ensures c.place-last.ensures c.in_ok-put_part-2.ensures c.greatest_height-depth.ensures
+    c.in_ok-put_iteration.ensures c.place-last.ensures c.in_ok-put_part-2.ensures c.greatest_height-depth.ensures) c.new.ensures
