@@ -138,16 +138,16 @@ run_one : (o : Option InstanceData) (l : List ShardEntry) (e : ShardEntry) → a
 run_one None l e = refl
 run_one (Some d) l e = ap (λ es. Some (after_entries d es)) (drop_more l e)
 
-module _ (who : Who) (f : TokenFields) (is : who ≡ record { node = at f.iteration f.index; marks = f.marks }) (now c : ℕ) (same_now : now ≡ f.now) (write : Option ℤ) (x y : ShardValue) (old new : List Entry) where
+module _ (who : Who) (f : TokenFields) (is : who ≡ record { node = at f.iteration f.index; marks = f.marks }) (now joined c : ℕ) (same_now : now ≡ f.now) (same_joined : joined ≡ f.joined) (write : Option ℤ) (x y : ShardValue) (old new : List Entry) where
   -- the shard is as before, or the access was made
-  pub either_made : (o : Option Entry) (d : InstanceData) → d.fields ≡ f → IfNone o ((y ≡ x) × (new ≡ old)) → IfSome o (IsMadeNow who now c write x y old new) → (y ≡ x) ⊎ MadeBy d (c % 16) x y
+  pub either_made : (o : Option Entry) (d : InstanceData) → d.fields ≡ f → IfNone o ((y ≡ x) × (new ≡ old)) → IfSome o (IsMadeNow who joined now c write x y old new) → (y ≡ x) ⊎ MadeBy d (c % 16) x y
   either_made None d e h k = inl h.0
   either_made (Some a) d e h k =
       let w : who ≡ record { node = at d.fields.iteration d.fields.index; marks = d.fields.marks } = is ∙ ap (λ (g : TokenFields). let u : Who = record { node = at g.iteration g.index; marks = g.marks } in u) (sym e) in
       inr (record {
         ticket = a.ticket;
         access = a.access;
-        made = subst (λ (u : Who). IsMade u a.ticket a.access x y) w k.made;
+        made = subst (λ n. IsMade (record { node = at d.fields.iteration d.fields.index; marks = d.fields.marks }) n a.ticket a.access x y) (same_joined ∙ ap (λ (g : TokenFields). g.joined) (sym e)) (subst (λ (u : Who). IsMade u joined a.ticket a.access x y) w k.made);
         own = ap (λ n. n % 16) k.cell;
         there = subst (λ n. n < x.cells.shard.cells) (sym k.cell) k.there;
         next = k.next ∙ ap (next_ticket x.last) (same_now ∙ ap (λ (g : TokenFields). g.now) (sym e));
@@ -156,7 +156,7 @@ module _ (who : Who) (f : TokenFields) (is : who ≡ record { node = at f.iterat
 
   -- the seat has one access more, if it was made
   pub run_done : (o : Option Entry) (v w : SeatView) → w.held ≡ [] → w.constants ≡ v.constants → w.seen ≡ v.seen → w.met ≡ v.met → w.tokens ≡ v.tokens → v.held ≡ [] → w.run ≡ after_log v.run x.log y.log
-      → IfNone o ((y ≡ x) × (new ≡ old)) → IfSome o (IsMadeNow who now c write x y old new) → w ≡ ran v o
+      → IfNone o ((y ≡ x) × (new ≡ old)) → IfSome o (IsMadeNow who joined now c write x y old new) → w ≡ ran v o
   run_done None v w held constants seen met tokens none_held run h k =
       let r : w.run ≡ v.run = run ∙ (ap (λ (z : ShardValue). after_log v.run x.log z.log) h.0 ∙ run_same v.run x.log) in
       let t : w.held ≡ v.held = held ∙ sym none_held in
@@ -167,7 +167,7 @@ module _ (who : Who) (f : TokenFields) (is : who ≡ record { node = at f.iterat
       λ j. record { constants = constants j; seen = seen j; met = met j; run = r j; held = t j; tokens = tokens j }
 
   -- what was done to the trace
-  pub trace_done : (o : Option Entry) → IfNone o ((y ≡ x) × (new ≡ old)) → IfSome o (IsMadeNow who now c write x y old new) → TraceAfter c write old new o
+  pub trace_done : (o : Option Entry) → IfNone o ((y ≡ x) × (new ≡ old)) → IfSome o (IsMadeNow who joined now c write x y old new) → TraceAfter c write old new o
   trace_done None h k = h.1
   trace_done (Some e) h k = (k.asked, k.trace)
 

@@ -21,7 +21,7 @@ use Rattle.pipe_model.specs.Runs.RunLogs.{columns_after, state_after}
 use Rattle.pipe_model.specs.Runs.State.{Frame, State, frame_at, fresh_frame, initial_state, next_state, own_columns}
 use Rattle.pipe_model.specs.Runs.TicketLogs.{end_ticket, end_tickets, if_ticket, start_tickets, ticket_at}
 use Rattle.pipe_model.specs.Runs.TicketOrder.{end_ticket_of, start_ticket_of}
-use Rattle.pipe_frame.specs.RunningTokens.{IsTokenOf}
+use Rattle.pipe_frame.specs.RunningTokens.{IsTokenOf, left_joined}
 use Rattle.pipe_frame.specs.TokenFields.{TokenFields}
 use Rattle.run_laws.proofs.ListOrders.SoundStarts.{control_starts_sound}
 use Rattle.run_laws.proofs.ListOrders.StartsOfRuns.{IsStartSound, grew_begin, grew_enter}
@@ -33,7 +33,7 @@ use Rattle.frame_book.specs.BookStates.{BookState, HasRisingTickets, IsOut, Kept
 use Rattle.frame_book.specs.GivenTokens.{IsOutOf}
 use Rattle.frame_book.specs.TokenLaws.{EndsNoneOf}
 use Rattle.frame_book.proofs.BookLogs.LogEntries.{below_last, events_of_with, starts_of-push, state_after-push}
-use Rattle.frame_book.proofs.StartedInstances.GrownMarks.{marks_same}
+use Rattle.frame_book.proofs.StartedInstances.GrownMarks.{left_joined_same, marks_same}
 use Rattle.frame_book.proofs.StartedInstances.OtherTokens.{tokens_stay_until_their_ends}
 use Rattle.pipe_hall.specs.SeatViews.{HallConstants, InstanceData, constants_of}
 use Rattle.pipe_hall.specs.Logs.{book_trace, trace_by}
@@ -153,6 +153,16 @@ marks_stay limit s starts (Finish j e) i k sound may quiet l = ap₂ (λ c t. in
 marks_stay limit s starts (Access j a) i k sound may quiet l = absurd (let q : true ≡ false = quiet in cc)
 marks_stay limit s starts Stop i k sound may quiet l = ap (λ t. instance_marks (own_columns s) t i k) (append-nil starts)
 
+-- their joined indices
+joins_stay : (limit : ℕ) (s : State) (starts : List NodeId) (e : Event) (i k : ℕ) → IsStartSound s.frames starts → ControlAllows limit s e → is_access e ≡ false → k < length (nodes_at (own_columns s) i)
+    → left_joined (own_columns (next_state s e)) i k ≡ left_joined (own_columns s) i k
+joins_stay limit s starts (Begin j) i k sound may quiet l = left_joined_same s.frames (next_state s (Begin j)).frames starts (at j 0) sound (grew_begin limit s j starts may sound) i k l
+joins_stay limit s starts (Enter j) i k sound may quiet l = left_joined_same s.frames (next_state s (Enter j)).frames starts (at j (length (nodes_at (own_columns s) j))) sound (grew_enter s j starts may sound) i k l
+joins_stay limit s starts (Advance j m n) i k sound may quiet l = ap (λ c. left_joined c i k) (columns-action s.frames j _ _)
+joins_stay limit s starts (Finish j e) i k sound may quiet l = ap (λ c. left_joined c i k) (columns-action s.frames j _ _)
+joins_stay limit s starts (Access j a) i k sound may quiet l = absurd (let q : true ≡ false = quiet in cc)
+joins_stay limit s starts Stop i k sound may quiet l = refl
+
 -- ---- calls without an event
 
 -- a book with the same log
@@ -170,6 +180,7 @@ module _ (b c : BookState) (i : ℕ) (constants : constants_of c ≡ constants_o
     ends = λ j k end ne e. subst (λ l. end_ticket_of l j k ≡ Some end) log e;
     starts = λ x h. subst (λ l. IsStarted (starts_of (events_of l)) x) (sym log) h;
     marks = λ x h. ap (λ l. instance_marks (columns_after (events_of l)) (starts_of (events_of l)) x.iteration x.index) log;
+    joins = λ x h. ap (λ l. left_joined (columns_after (events_of l)) x.iteration x.index) log;
   }
 
 -- ---- calls with an event
@@ -213,6 +224,8 @@ module _ (b c : BookState) (i : ℕ) (e : Event) (now : ℕ) (constants : consta
     starts = λ x h. subst (λ l. IsStarted l x) (sym starts_are) (number_stays (starts_of (events_of b.log)) (started_by (state_of b) e) x.iteration x.index h);
     marks = λ x h. ap₂ (λ cs l. instance_marks cs l x.iteration x.index) (ap own_columns state_is) starts_are
         ∙ marks_stay c.limit (state_of b) (starts_of (events_of b.log)) e x.iteration x.index sound_before last_event.allows last_event.quiet (sound_before.ordered.inside x h).1;
+    joins = λ x h. ap (λ s. left_joined (own_columns s) x.iteration x.index) state_is
+        ∙ joins_stay c.limit (state_of b) (starts_of (events_of b.log)) e x.iteration x.index sound_before last_event.allows last_event.quiet (sound_before.ordered.inside x h).1;
   }
 
 -- ---- tickets

@@ -21,10 +21,11 @@ use Rattle.run_laws.proofs.LogMerge.InstanceTickets.{start_tickets-append}
 use Rattle.access_history.specs.declared.history.History.{History}
 use Rattle.access_history.specs.declared.history.Who.{Who}
 use Rattle.access_history.specs.KeptInstances.{AgreeOn, AllKept}
+use Rattle.access_history.specs.KnownOrder.{AgreeOnKnown}
 use Rattle.frame_book.specs.BookStates.{BookState, IsOut, item_or, timed_access}
 use Rattle.pipe_hall.specs.SeatViews.{HallConstants, InstanceData, ShardValue}
 use Rattle.pipe_hall.specs.Logs.{trace_by, of_shard, with_at}
-use Rattle.pipe_hall.specs.BookParts.{HasSeats, IsTimelyToken, KnowsInstance, IsTimelyTrace, StartedBy, marks_in}
+use Rattle.pipe_hall.specs.BookParts.{HasSeats, IsTimelyToken, KnowsInstance, IsTimelyTrace, StartedBy, joined_in, marks_in}
 use Rattle.pipe_hall.specs.ShardParts.{down_list, right_list, HasShard, IsCellHistory, IsOfLog, IsShardOf, history_at, who_of}
 use Rattle.pipe_hall.specs.BookCalls.{IsIterationAfter, IsBookCall}
 use Rattle.pipe_hall.proofs.Boards.{with_here, with_else}
@@ -51,17 +52,20 @@ all_kept P Q h f a = record { writer = by h.writer a.writer; rightmost = by h.ri
     by None p = tt
     by (Some w) p = f w p
 
-module _ (marks marks' : NodeId → Marks) (log : List ShardEntry) (same : (e : ShardEntry) → Among e log → marks' e.node ≡ marks e.node) where
+module _ (marks marks' : NodeId → Marks) (joined joined' : NodeId → ℕ) (log : List ShardEntry) (same : (e : ShardEntry) → Among e log → marks' e.node ≡ marks e.node)
+    (joins : (e : ShardEntry) → Among e log → joined' e.node ≡ joined e.node) where
   who_same : (e : ShardEntry) → Among e log → who_of marks' e ≡ who_of marks e
   who_same e m = ap (λ (k : Marks). let w : Who = record { node = e.node; marks = k } in w) (same e m)
 
-  cell_history_same : (lists : SeenLists) (c : ℕ) (h : History) → IsCellHistory marks lists log c h → IsCellHistory marks' lists log c h
+  cell_history_same : (lists : SeenLists) (c : ℕ) (h : History) → IsCellHistory marks joined lists log c h → IsCellHistory marks' joined' lists log c h
   cell_history_same lists c h q = record {
     kept = all_kept (IsOfLog marks log) (IsOfLog marks' log) h (λ w p. (p.0, p.1, p.2 ∙ sym (who_same p.0 p.1))) q.kept;
-    after = λ down right agree. q.after down right (λ e f a b. subst (λ (x : Who). AgreeOn (down_list lists) (right_list lists) down right x (who_of marks f)) (who_same e a) (subst (λ (y : Who). AgreeOn (down_list lists) (right_list lists) down right (who_of marks' e) y) (who_same f b) (agree e f a b)));
+    after = λ down right agree known. q.after down right
+        (λ e f a b. subst (λ (x : Who). AgreeOn (down_list lists) (right_list lists) down right x (who_of marks f)) (who_same e a) (subst (λ (y : Who). AgreeOn (down_list lists) (right_list lists) down right (who_of marks' e) y) (who_same f b) (agree e f a b)))
+        (λ e f a b. subst (λ n. AgreeOnKnown (Some n) down right e.node f.node) (joins e a) (known e f a b));
   }
 
-  pub shard_same : (before : List Access) (store : InitialStore) (k : ℕ) (x : ShardValue) → x.log ≡ log → IsShardOf before store marks k x → IsShardOf before store marks' k x
+  pub shard_same : (before : List Access) (store : InitialStore) (k : ℕ) (x : ShardValue) → x.log ≡ log → IsShardOf before store marks joined k x → IsShardOf before store marks' joined' k x
   shard_same before store k x is h = record {
     number = h.number;
     part = h.part;
@@ -75,8 +79,8 @@ module _ (marks marks' : NodeId → Marks) (log : List ShardEntry) (same : (e : 
     bound = h.bound;
     seen = λ e m. subst (λ (z : Marks). AreIn (down_list x.lists) (right_list x.lists) z) (sym (same e (subst (λ l. Among e l) is m))) (h.seen e m);
     room = h.room;
-    histories = λ slot. subst (λ l. IsCellHistory marks' x.lists l (k + 16 * slot) (history_at x.histories slot)) (sym is)
-        (cell_history_same x.lists (k + 16 * slot) (history_at x.histories slot) (subst (λ l. IsCellHistory marks x.lists l (k + 16 * slot) (history_at x.histories slot)) is (h.histories slot)));
+    histories = λ slot. subst (λ l. IsCellHistory marks' joined' x.lists l (k + 16 * slot) (history_at x.histories slot)) (sym is)
+        (cell_history_same x.lists (k + 16 * slot) (history_at x.histories slot) (subst (λ l. IsCellHistory marks joined x.lists l (k + 16 * slot) (history_at x.histories slot)) is (h.histories slot)));
   }
 
 -- ---- a call
@@ -144,8 +148,8 @@ module _ (b c : BookState) (back given : Option InstanceData) (seats : ℕ → O
 
   pub shard_after_call : (before : List Access) (k : ℕ) (x : ShardValue) → HasShard before b seats k x → HasShard before c seats' k x
   shard_after_call before k x q = record {
-    shard = subst (λ (a : HallConstants). IsShardOf before (store_of (tree_of a.program)) (marks_in c) k x) (sym t.moves.constants)
-        (shard_same (marks_in b) (marks_in c) x.log (λ e m. t.moves.marks e.node (q.started e m)) before (store_of (tree_of b.program)) k x refl q.shard);
+    shard = subst (λ (a : HallConstants). IsShardOf before (store_of (tree_of a.program)) (marks_in c) (joined_in c) k x) (sym t.moves.constants)
+        (shard_same (marks_in b) (marks_in c) (joined_in b) (joined_in c) x.log (λ e m. t.moves.marks e.node (q.started e m)) (λ e m. t.moves.joins e.node (q.started e m)) before (store_of (tree_of b.program)) k x refl q.shard);
     identities = subst (λ (a : HallConstants). (x.lists.down ≡ a.lists.down) × (x.lists.right ≡ a.lists.right)) (sym t.moves.constants) q.identities;
     named = q.named;
     traces = λ j n. q.traces j n ∙ ap (of_shard k) (dite (ℕ_discrete j i)

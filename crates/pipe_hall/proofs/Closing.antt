@@ -11,7 +11,7 @@ use Rattle.pipe_model.specs.Orders.OrderList.{StandsBefore, list_of_log}
 use Rattle.pipe_model.specs.Orders.Starts.{starts_of}
 use Rattle.pipe_model.specs.Orders.TwoOrders.{down_place, right_place}
 use Rattle.pipe_model.specs.Runs.RunLogs.{columns_after}
-use Rattle.pipe_hall.specs.BookParts.{marks_in}
+use Rattle.pipe_hall.specs.BookParts.{HasSeats, joined_in, marks_in}
 use Rattle.pipe_hall.specs.ShardParts.{HasShard}
 use Rattle.pipe_hall.specs.Closing.{EndedHall, HasHistories, HasLearned, HasSeenAll, no_shard, shard_in}
 use Rattle.pipe_hall.specs.Steps.{ClosedHall, HoldsAll, holding}
@@ -19,6 +19,7 @@ use Rattle.pipe_model.specs.declared.event.Event.{Event}
 use Rattle.pipe_model.specs.Language.Programs.{store_of}
 use Rattle.pipe_model.specs.Language.SyntaxTree.{tree_of}
 use Rattle.pipe_hall.proofs.BookCalls.{set_other}
+use Rattle.pipe_hall.proofs.KnownBefore.{known_before}
 use Rattle.pipe_hall.proofs.Sharding.{shard_met}
 
 -- the seat has taken the book and the first k shards
@@ -63,20 +64,20 @@ holds_all start v b xs h = record { book = h.book; shards = h.each }
 
 -- ---- histories
 
-pub histories_at_end : (before : List Access) (b : BookState) (seats : ℕ → Option InstanceData) (k : ℕ) (x : ShardValue) → HasShard before b seats k x → HasSeenAll b x.lists → HasHistories b k x
-histories_at_end before b seats k x h all slot =
+pub histories_at_end : (before : List Access) (b : BookState) (seats : ℕ → Option InstanceData) (k : ℕ) (x : ShardValue) → HasSeats b seats → HasShard before b seats k x → HasSeenAll b x.lists → HasHistories b k x
+histories_at_end before b seats k x s h all slot =
     let starts = starts_of (events_of b.log) in
     let columns = columns_after (events_of b.log) in
     (h.shard.histories slot).after (down_place starts) (right_place columns starts) (λ e f me mf. record {
       in_down = subst (λ l. StandsBefore (list_of_log l) (marks_in b f.node).down_first (marks_in b e.node).down_first ↔ (down_place starts f.node < down_place starts e.node)) (sym all.0) ((λ p. p), (λ p. p));
       in_right = subst (λ l. StandsBefore (list_of_log l) (marks_in b f.node).right_first (marks_in b e.node).right_first ↔ (right_place columns starts f.node < right_place columns starts e.node)) (sym all.1) ((λ p. p), (λ p. p));
-    })
+    }) (λ e f me mf. known_before b s.control e.node f.node (h.started e me) (h.started f mf))
 
 -- ---- learning
 
 pub learned_shard : (before : List Access) (b : BookState) (seats : ℕ → Option InstanceData) (k : ℕ) (x y : ShardValue) → HasLearned b x y → HasShard before b seats k x → HasShard before b seats k y
 learned_shard before b seats k x y l h = subst (HasShard before b seats k) (sym l.is) (record {
-  shard = shard_met before (store_of (tree_of b.program)) (marks_in b) k x l.lists l.grown h.shard;
+  shard = shard_met before (store_of (tree_of b.program)) (marks_in b) (joined_in b) k x l.lists l.grown h.shard;
   identities = (l.grown.identities.0 ∙ h.identities.0, l.grown.identities.1 ∙ h.identities.1);
   named = ((h.named.0.0, h.named.0.1, l.grown.identities.0 ∙ h.named.0.2), (h.named.1.0, h.named.1.1, l.grown.identities.1 ∙ h.named.1.2));
   traces = h.traces;
@@ -120,7 +121,7 @@ module _ (start : HallStart) (seen : List Event) (b : BookState) (shard new : �
   learned_hall = record {
     closed = record { seats = h.seats; constants = h.constants; has_seats = h.has_seats; has_shards = new_shards; seen = h.seen };
     all = has_seen;
-    histories = λ k l. histories_at_end start.before b h.seats k (new k) (new_shards k l) (has_seen k l);
+    histories = λ k l. histories_at_end start.before b h.seats k (new k) h.has_seats (new_shards k l) (has_seen k l);
   }
 
 -- the tickets of a closed hall's shards are bounded

@@ -297,6 +297,7 @@ both_turns b m c back given t u same =
         ends = λ j k end ne h. v.ends j k end ne (w.ends j k end (other j ne) h);
         starts = λ x h. w.starts x (v.starts x h);
         marks = λ x h. w.marks x (v.starts x h) ∙ v.marks x h;
+        joins = λ x h. w.joins x (v.starts x h) ∙ v.joins x h;
       };
       own = t.own;
       free = t.free;

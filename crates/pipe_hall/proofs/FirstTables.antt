@@ -24,7 +24,7 @@ use Rattle.pipe_model.specs.declared.ticket.ShardEntry.{ShardEntry}
 use Rattle.pipe_model.specs.Races.DeterminacyRaces.{Among}
 use Rattle.pipe_hall.specs.Logs.{accesses_of, noted_to, of_node}
 use Rattle.pipe_hall.specs.HallRule.{Board, IsHall, IsRightView, first_view, place, slot_of, value_at, width}
-use Rattle.pipe_hall.specs.BookParts.{HasSeats, marks_in}
+use Rattle.pipe_hall.specs.BookParts.{HasSeats, joined_in, marks_in}
 use Rattle.pipe_hall.specs.ShardParts.{HasShard, HaveIdentities, IsCellHistory, last_of}
 use Rattle.pipe_hall.specs.NewShards.{IsNewShard, shard_slots, spaced}
 use Rattle.pipe_hall.specs.Closing.{shard_in}
@@ -79,9 +79,9 @@ module _ (p : Program) (input : List ℤ) (limit : ℕ) (lists : ListIdentities)
           bound = (let z = h.last in omega (arith, z));
           seen = λ e m. absurd (none_in e m);
           room = h.room;
-          histories = λ slot. subst (λ (y : History). IsCellHistory (marks_in b) x.lists x.log (k + 16 * slot) y) (sym (h.histories slot)) (record {
+          histories = λ slot. subst (λ (y : History). IsCellHistory (marks_in b) (joined_in b) x.lists x.log (k + 16 * slot) y) (sym (h.histories slot)) (record {
             kept = record { writer = tt; rightmost = tt; downmost = tt };
-            after = λ down right agree. subst (λ l. IsHistoryAfter down right (noted_to (k + 16 * slot) l) nothing_kept) (sym log) (record { kept = refl; report = refl });
+            after = λ down right agree known. subst (λ l. IsHistoryAfter down right (noted_to (k + 16 * slot) l) nothing_kept) (sym log) (record { kept = refl; report = refl });
           });
         };
         identities = (ap (λ (l : SeenLists). l.down) h.lists ∙ of.0, ap (λ (l : SeenLists). l.right) h.lists ∙ of.1);

@@ -10,6 +10,7 @@ pub mod TakenBooks
 pub mod PayloadSeats
 pub mod Rescuing
 pub mod Accessing
+pub mod KnownBefore
 pub mod Closing
 pub mod Raising
 pub mod Freeing

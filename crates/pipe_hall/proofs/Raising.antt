@@ -21,7 +21,7 @@ use Rattle.frame_book.proofs.BookLogs.LogEntries.{last_ticket_raised}
 use Rattle.pipe_model.specs.Runs.RunLogs.{columns_after, state_after}
 use Rattle.pipe_model.specs.Runs.TicketLogs.{start_ticket, end_ticket, start_tickets, end_tickets, ticket_at}
 use Rattle.pipe_model.specs.Runs.TicketOrder.{start_ticket_of, end_ticket_of}
-use Rattle.pipe_frame.specs.RunningTokens.{IsTokenOf}
+use Rattle.pipe_frame.specs.RunningTokens.{IsTokenOf, left_joined}
 use Rattle.frame_book.specs.BookStates.{BookState, events_of, last_ticket, state_of, with_last_raised}
 use Rattle.frame_book.proofs.Keeping.RaiseStop.{events_raised, length_raised, rise_raised}
 use Rattle.pipe_hall.specs.SeatViews.{HallConstants, HallStart, InstanceData, ShardValue, constants_of, start_of}
@@ -96,7 +96,7 @@ module _ (b : BookState) (least : ℕ) (last : LastStops b.log) where
 
   pub raised_shard : (seats : ℕ → Option InstanceData) (before : List Access) (k : ℕ) (x : ShardValue) → HasShard before b seats k x → HasShard before (raised b least) seats k x
   raised_shard seats before k x h = record {
-    shard = subst (λ es. IsShardOf before (store_of (tree_of b.program)) (λ (y : NodeId). instance_marks (columns_after es) (starts_of es) y.iteration y.index) k x) (sym same) h.shard;
+    shard = subst (λ es. IsShardOf before (store_of (tree_of b.program)) (λ (y : NodeId). instance_marks (columns_after es) (starts_of es) y.iteration y.index) (λ (y : NodeId). left_joined (columns_after es) y.iteration y.index) k x) (sym same) h.shard;
     identities = h.identities;
     named = h.named;
     traces = λ i n. h.traces i n ∙ ap (of_shard k) (sym (trace_is (seats i) i n));

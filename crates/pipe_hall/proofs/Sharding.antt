@@ -23,13 +23,14 @@ use Rattle.pipe_model.proofs.Members.{among_left, among_right, among_either, amo
 use Rattle.pipe_frame.specs.Ties.{SeenLists}
 use Rattle.access_history.specs.declared.history.Who.{Who}
 use Rattle.access_history.specs.KeptInstances.{AgreeOn, IsEither, IsHistoryAfter}
+use Rattle.access_history.specs.KnownOrder.{AgreeOnKnown}
 use Rattle.cell_store.specs.ShardState.{IsStateAfter}
 use Rattle.frame_book.specs.BookStates.{BookState, events_of, timed_access}
 use Rattle.pipe_hall.specs.SeatViews.{InstanceData, ShardValue}
 use Rattle.pipe_hall.specs.Logs.{accesses_of, book_trace, entry_of, noted_to, of_node, of_shard, trace_by, with_at}
 use Rattle.pipe_hall.specs.Accesses.{GrowLists, IsAccessed}
-use Rattle.pipe_hall.specs.BookParts.{HasSeats, KnowsInstance, marks_in}
-use Rattle.pipe_hall.specs.ShardParts.{AgreeOnLog, HasShard, IsCellHistory, IsOfLog, IsShardOf, down_list, right_list, history_at, last_of, who_of}
+use Rattle.pipe_hall.specs.BookParts.{HasSeats, KnowsInstance, joined_in, marks_in}
+use Rattle.pipe_hall.specs.ShardParts.{AgreeOnKnownLog, AgreeOnLog, HasShard, IsCellHistory, IsOfLog, IsShardOf, down_list, right_list, history_at, last_of, who_of}
 use Rattle.pipe_hall.proofs.Boards.{with_here, with_else, among_cons}
 use Rattle.pipe_hall.proofs.CallEffects.{all_kept}
 
@@ -112,8 +113,8 @@ last_more (f ∷ (g ∷ es)) e = last_more (g ∷ es) e
 
 -- ---- the shard
 
-module _ (before : List Access) (store : InitialStore) (marks : NodeId → Marks) (k : ℕ) (x y : ShardValue) (who : Who) (ticket : ℕ) (a : Access)
-    (h : IsShardOf before store marks k x) (q : IsAccessed who ticket a x y) (own : a.cell.0 % 16 ≡ k) (declared : a.cell.0 < x.cells.shard.cells) (mine : who.marks ≡ marks who.node)
+module _ (before : List Access) (store : InitialStore) (marks : NodeId → Marks) (joined : NodeId → ℕ) (k : ℕ) (x y : ShardValue) (who : Who) (index ticket : ℕ) (a : Access)
+    (h : IsShardOf before store marks joined k x) (q : IsAccessed who index ticket a x y) (own : a.cell.0 % 16 ≡ k) (declared : a.cell.0 < x.cells.shard.cells) (mine : who.marks ≡ marks who.node) (joins : index ≡ joined who.node)
     (known : AreIn (down_list x.lists) (right_list x.lists) who.marks) (later : x.last < ticket) (bound : ticket ≤ 2 ^ 62) where
   abbrev e : ShardEntry
   e = record { ticket = ticket; node = who.node; access = a }
@@ -143,6 +144,9 @@ module _ (before : List Access) (store : InitialStore) (marks : NodeId → Marks
         in_right = ((λ p. w.in_right.0 (r.1 p)), (λ p. r.0 (w.in_right.1 p)));
       }
 
+  known_old : (down right : NodeId → ℕ) → AgreeOnKnownLog joined y.log down right → AgreeOnKnownLog joined x.log down right
+  known_old down right known f g mf mg = known f g (in_old f mf) (in_old g mg)
+
   kept_old : (w : Who) → IsOfLog marks x.log w → IsOfLog marks y.log w
   kept_old w p = (p.0, in_old p.0 p.1, p.2)
 
@@ -151,18 +155,18 @@ module _ (before : List Access) (store : InitialStore) (marks : NodeId → Marks
   kept_new o (Some w) ho hp = ⊎_elim (λ (s : w ≡ who). (e, in_new, s ∙ who_is)) (λ (s : o ≡ Some w). kept_old w (subst (λ z. IfSome z (IsOfLog marks x.log)) s ho)) hp
 
   -- the history of another cell
-  other_history : (slot : ℕ) → slot ≢ a.cell.0 / 16 → IsCellHistory marks y.lists y.log (k + 16 * slot) (history_at y.histories slot)
+  other_history : (slot : ℕ) → slot ≢ a.cell.0 / 16 → IsCellHistory marks joined y.lists y.log (k + 16 * slot) (history_at y.histories slot)
   other_history slot ne =
       let old = h.histories slot in
       let c : a.cell.0 ≢ k + 16 * slot = λ s. ne (let z = own in omega (arith, s, z)) in
       let same : noted_to (k + 16 * slot) y.log ≡ noted_to (k + 16 * slot) x.log = ap (noted_to (k + 16 * slot)) q.log ∙ noted_other (k + 16 * slot) x.log e c in
       let hist : history_at y.histories slot ≡ history_at x.histories slot = q.noted.others slot ne in
-      subst (λ z. IsCellHistory marks y.lists y.log (k + 16 * slot) z) (sym hist) (record {
+      subst (λ z. IsCellHistory marks joined y.lists y.log (k + 16 * slot) z) (sym hist) (record {
         kept = all_kept (IsOfLog marks x.log) (IsOfLog marks y.log) (history_at x.histories slot) kept_old old.kept;
-        after = λ down right agree. subst (λ l. IsHistoryAfter down right l (history_at x.histories slot)) (sym same) (old.after down right (agree_old down right agree));
+        after = λ down right agree known. subst (λ l. IsHistoryAfter down right l (history_at x.histories slot)) (sym same) (old.after down right (agree_old down right agree) (known_old down right known));
       })
 
-  own_history : IsCellHistory marks y.lists y.log (k + 16 * (a.cell.0 / 16)) (history_at y.histories (a.cell.0 / 16))
+  own_history : IsCellHistory marks joined y.lists y.log (k + 16 * (a.cell.0 / 16)) (history_at y.histories (a.cell.0 / 16))
   own_history =
       let slot = a.cell.0 / 16 in
       let old = h.histories slot in
@@ -174,13 +178,19 @@ module _ (before : List Access) (store : InitialStore) (marks : NodeId → Marks
           rightmost = kept_new (history_at x.histories slot).rightmost (history_at y.histories slot).rightmost old.kept.rightmost q.noted.each.rightmost;
           downmost = kept_new (history_at x.histories slot).downmost (history_at y.histories slot).downmost old.kept.downmost q.noted.each.downmost;
         };
-        after = λ down right agree. subst (λ l. IsHistoryAfter down right l (history_at y.histories slot)) (sym same)
+        after = λ down right agree known. subst (λ l. IsHistoryAfter down right l (history_at y.histories slot)) (sym same)
             (q.noted.step down right
             (all_kept (IsOfLog marks x.log) (AgreeOn (down_list x.lists) (right_list x.lists) down right who) (history_at x.histories slot)
             (λ w p. agree_kept down right agree w p) old.kept)
-            (noted_to (k + 16 * slot) x.log) (old.after down right (agree_old down right agree)));
+            (all_kept (IsOfLog marks x.log) (λ w. AgreeOnKnown (Some index) down right who.node w.node) (history_at x.histories slot)
+            (λ w p. known_kept down right known w p) old.kept)
+            (noted_to (k + 16 * slot) x.log) (old.after down right (agree_old down right agree) (known_old down right known)));
       }
     where
+      known_kept : (down right : NodeId → ℕ) → AgreeOnKnownLog joined y.log down right → (w : Who) → IsOfLog marks x.log w → AgreeOnKnown (Some index) down right who.node w.node
+      known_kept down right known w p =
+          subst (λ n. AgreeOnKnown (Some n) down right who.node w.node) (sym joins) (subst (λ (u : Who). AgreeOnKnown (Some (joined who.node)) down right who.node u.node) (sym p.2) (known e p.0 in_new (in_old p.0 p.1)))
+
       agree_kept : (down right : NodeId → ℕ) → AgreeOnLog marks y.lists y.log down right → (w : Who) → IsOfLog marks x.log w → AgreeOn (down_list x.lists) (right_list x.lists) down right who w
       agree_kept down right agree w p =
           let both = agree e p.0 in_new (in_old p.0 p.1) in
@@ -195,7 +205,7 @@ module _ (before : List Access) (store : InitialStore) (marks : NodeId → Marks
           } in
           subst (λ (u : Who). AgreeOn (down_list x.lists) (right_list x.lists) down right u w) (sym who_is) (subst (λ (u : Who). AgreeOn (down_list x.lists) (right_list x.lists) down right (who_of marks e) u) (sym p.2) old)
 
-  pub shard_accessed : IsShardOf before store marks k y
+  pub shard_accessed : IsShardOf before store marks joined k y
   shard_accessed = record {
     number = q.number ∙ h.number;
     part = rw q.part h.part;
@@ -215,13 +225,13 @@ module _ (before : List Access) (store : InitialStore) (marks : NodeId → Marks
         (λ g n. (let z = h.seen g n in record { down = q.noted.lists.down.elements (marks g.node).down_first z.down; right = q.noted.lists.right.elements (marks g.node).right_first z.right }))
         (subst (λ (m : Marks). AreIn (down_list y.lists) (right_list y.lists) m) mine (record { down = q.noted.lists.down.elements who.marks.down_first known.down; right = q.noted.lists.right.elements who.marks.right_first known.right })) f (subst (λ l. Among f l) q.log m);
     room = (let z = h.room in let w = q.noted.len in let p = ap (λ (s : _). s.cells) q.part in omega (arith, z, w, p));
-    histories = λ slot. dite (ℕ_discrete slot (a.cell.0 / 16)) (λ s. subst (λ n. IsCellHistory marks y.lists y.log (k + 16 * n) (history_at y.histories n)) (sym s) own_history) (λ ne. other_history slot ne);
+    histories = λ slot. dite (ℕ_discrete slot (a.cell.0 / 16)) (λ s. subst (λ n. IsCellHistory marks joined y.lists y.log (k + 16 * n) (history_at y.histories n)) (sym s) own_history) (λ ne. other_history slot ne);
   }
 
 -- a shard whose passes have seen more
-pub shard_met : (before : List Access) (store : InitialStore) (marks : NodeId → Marks) (k : ℕ) (x : ShardValue) (lists : SeenLists) → GrowLists x.lists lists
-    → IsShardOf before store marks k x → IsShardOf before store marks k (record x { lists = lists })
-shard_met before store marks k x lists g h = record {
+pub shard_met : (before : List Access) (store : InitialStore) (marks : NodeId → Marks) (joined : NodeId → ℕ) (k : ℕ) (x : ShardValue) (lists : SeenLists) → GrowLists x.lists lists
+    → IsShardOf before store marks joined k x → IsShardOf before store marks joined k (record x { lists = lists })
+shard_met before store marks joined k x lists g h = record {
   number = h.number;
   part = h.part;
   cells = h.cells;
@@ -236,7 +246,7 @@ shard_met before store marks k x lists g h = record {
   room = h.room;
   histories = λ slot. (let old = h.histories slot in record {
     kept = old.kept;
-    after = λ down right agree. old.after down right (λ e f me mf. (
+    after = λ down right agree known. old.after down right (λ e f me mf. (
         let w = agree e f me mf in
         let se = h.seen e me in
         let sf = h.seen f mf in
@@ -245,7 +255,7 @@ shard_met before store marks k x lists g h = record {
         record {
           in_down = ((λ p. w.in_down.0 (d.1 p)), (λ p. d.0 (w.in_down.1 p)));
           in_right = ((λ p. w.in_right.0 (r.1 p)), (λ p. r.0 (w.in_right.1 p)));
-        }));
+        })) known;
   });
 }
 
@@ -344,7 +354,7 @@ module _ (before : List Access) (b : BookState) (seats : ℕ → Option Instance
   -- the shard of the cell
   pub own_shard : (k : ℕ) (x y : ShardValue) → a.cell.0 % 16 ≡ k → HasShard before b seats k x → y.log ≡ x.log ++ record { ticket = ticket; node = at i d.fields.index; access = a } ∷ []
       → (y.lists.down ≡ x.lists.down) × (y.lists.right ≡ x.lists.right) → IsStarted (starts_of (events_of b.log)) (at i d.fields.index)
-      → IsShardOf before (store_of (tree_of b.program)) (marks_in b) k y → HasShard before b seats' k y
+      → IsShardOf before (store_of (tree_of b.program)) (marks_in b) (joined_in b) k y → HasShard before b seats' k y
   own_shard k x y own q log lists begun new = record {
     shard = new;
     identities = (lists.0 ∙ q.identities.0, lists.1 ∙ q.identities.1);

@@ -30,7 +30,7 @@ use Rattle.frame_book.specs.BookStates.{BookState, IsOut, events_of, state_of}
 use Rattle.pipe_hall.specs.SeatViews.{HallConstants, HallStart, InstanceData, ShardValue, SlotValue, TheBook, TheShard, constants_of, nothing_known}
 use Rattle.pipe_hall.specs.Logs.{with_at}
 use Rattle.pipe_hall.specs.Accesses.{MadeBy, next_ticket}
-use Rattle.pipe_hall.specs.BookParts.{HasSeats, KnowsInstance, marks_in}
+use Rattle.pipe_hall.specs.BookParts.{HasSeats, KnowsInstance, joined_in, marks_in}
 use Rattle.pipe_hall.specs.ShardParts.{HasShard}
 use Rattle.pipe_hall.specs.HallRule.{Board, IsHall, place, slot_of, value_at, view_of, width}
 use Rattle.pipe_hall.specs.Steps.{ViewAndSlots, IsSnapshot, holding, takes_slot, takes_value, after_book, new_instance, returns_book, returns_book_and_token, after_shard, after_entries, after_log, returns_shard, meets, with_longer, HoldsAll, ClosedHall, without_run, run_seat, worker_seat, with_run, joined}
@@ -330,8 +330,8 @@ module _ (M : Type 0) (start : HallStart) where
       let x1 : ShardValue = record x { lists = g.made.met } in
       let q = g.made.accessed in
       let hs = h.has_shards k l in
-      let old1 = shard_met start.before (store_of (tree_of h.book.program)) (marks_in h.book) k x g.made.met g.made.grown hs.shard in
-      let new = shard_accessed start.before (store_of (tree_of h.book.program)) (marks_in h.book) k x1 y who g.ticket g.access old1 q g.own g.there ir.out.token.marks g.made.known past_shard g.bound in
+      let old1 = shard_met start.before (store_of (tree_of h.book.program)) (marks_in h.book) (joined_in h.book) k x g.made.met g.made.grown hs.shard in
+      let new = shard_accessed start.before (store_of (tree_of h.book.program)) (marks_in h.book) (joined_in h.book) k x1 y who d.fields.joined g.ticket g.access old1 q g.own g.there ir.out.token.marks ir.out.token.joined g.made.known past_shard g.bound in
       let e : ShardEntry = record { ticket = g.ticket; node = who.node; access = g.access } in
       let d' = run_accessed d g.ticket g.access in
       let w : View = view_of (after_shard v.it x y) in

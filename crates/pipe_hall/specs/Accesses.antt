@@ -14,6 +14,7 @@ use Rattle.cell_store.specs.ShardState.{IsStateAfter, IsOfShard}
 use Rattle.access_history.specs.declared.history.History.{History}
 use Rattle.access_history.specs.declared.history.Who.{Who}
 use Rattle.access_history.specs.KeptInstances.{AgreeOnKept, IsHistoryAfter, KeepsAmong, KeptAreIn}
+use Rattle.access_history.specs.KnownOrder.{AgreeOnKnownKept}
 use Rattle.pipe_hall.specs.SeatViews.{InstanceData, ShardValue}
 use Rattle.pipe_hall.specs.ShardParts.{down_list, right_list, history_at}
 
@@ -35,37 +36,37 @@ pub record CanBegin (x : ShardValue) (c : ℕ) : Type 0 where
   pub slot : c / 16 < length x.histories
   pub kept : KeptAreIn (down_list x.lists) (right_list x.lists) (history_at x.histories (c / 16))
 
--- one more access is noted, by any orders that agree with the lists
-abbrev pub IsNotedStep : Who → AccessKind → SeenLists → History → History → Type 0
-IsNotedStep who kind old h k = (down right : NodeId → ℕ) → AgreeOnKept (down_list old) (right_list old) down right who h
+-- one more access is noted, by any orders that agree with the lists, and in which the kept instances that count as before this one are;
+-- those of the left column are known up to `joined`
+abbrev pub IsNotedStep : Who → ℕ → AccessKind → SeenLists → History → History → Type 0
+IsNotedStep who joined kind old h k = (down right : NodeId → ℕ) → AgreeOnKept (down_list old) (right_list old) down right who h
+    → AgreeOnKnownKept (Some joined) down right who.node h
     → (accesses : List NotedAccess) → IsHistoryAfter down right accesses h → IsHistoryAfter down right (accesses ++ noted_access who.node kind ∷ []) k
 
 -- one more access is noted in the history at a slot
-pub record IsNoted (who : Who) (kind : AccessKind) (slot : ℕ) (old new : SeenLists) (histories after : List History) : Type 0 where
+pub record IsNoted (who : Who) (joined : ℕ) (kind : AccessKind) (slot : ℕ) (old new : SeenLists) (histories after : List History) : Type 0 where
   pub lists : GrowLists old new
   pub len : length after ≡ length histories
   pub others : (n : ℕ) → n ≢ slot → history_at after n ≡ history_at histories n
   pub each : KeepsAmong (history_at histories slot) who (history_at after slot)
-  pub step : (down right : NodeId → ℕ) → AgreeOnKept (down_list old) (right_list old) down right who (history_at histories slot)
-      → (accesses : List NotedAccess) → IsHistoryAfter down right accesses (history_at histories slot)
-      → IsHistoryAfter down right (accesses ++ noted_access who.node kind ∷ []) (history_at after slot)
+  pub step : IsNotedStep who joined kind old (history_at histories slot) (history_at after slot)
 
 -- the access is made, at this ticket
-pub record IsAccessed (who : Who) (ticket : ℕ) (a : Access) (x y : ShardValue) : Type 0 where
+pub record IsAccessed (who : Who) (joined ticket : ℕ) (a : Access) (x y : ShardValue) : Type 0 where
   pub number : y.number ≡ x.number
   pub part : y.cells.shard ≡ x.cells.shard
   pub cells : (store : InitialStore) (before : List Access) → IsStateAfter store before x.cells → IsStateAfter store (before ++ a ∷ []) y.cells
   pub reply : (store : InitialStore) (before : List Access) → IsStateAfter store before x.cells → HasReply store before a
   pub log : y.log ≡ x.log ++ record { ticket = ticket; node = who.node; access = a } ∷ []
   pub last : y.last ≡ ticket
-  pub noted : IsNoted who a.kind (a.cell.0 / 16) x.lists y.lists x.histories y.histories
+  pub noted : IsNoted who joined a.kind (a.cell.0 / 16) x.lists y.lists x.histories y.histories
 
 -- the same, after the shard's passes have seen what those of the token had seen
-pub record IsMade (who : Who) (ticket : ℕ) (a : Access) (x y : ShardValue) : Type 0 where
+pub record IsMade (who : Who) (joined ticket : ℕ) (a : Access) (x y : ShardValue) : Type 0 where
   pub met : SeenLists
   pub grown : GrowLists x.lists met
   pub known : AreIn (down_list met) (right_list met) who.marks
-  pub accessed : IsAccessed who ticket a (record x { lists = met }) y
+  pub accessed : IsAccessed who joined ticket a (record x { lists = met }) y
 
 -- the ticket of an access: one more than the shard's last and than that of the token
 abbrev pub next_ticket : ℕ → ℕ → ℕ
@@ -75,17 +76,17 @@ next_ticket last now = max last now + 1
 pub record MadeBy (d : InstanceData) (k : ℕ) (x y : ShardValue) : Type 0 where
   pub ticket : ℕ
   pub access : Access
-  pub made : IsMade (record { node = at d.fields.iteration d.fields.index; marks = d.fields.marks }) ticket access x y
+  pub made : IsMade (record { node = at d.fields.iteration d.fields.index; marks = d.fields.marks }) d.fields.joined ticket access x y
   pub own : access.cell.0 % 16 ≡ k
   pub there : access.cell.0 < x.cells.shard.cells
   pub next : ticket ≡ next_ticket x.last d.fields.now
   pub bound : ticket ≤ 2 ^ 62
 
 -- the access that was asked for is made, with the next ticket, and is in the trace
-pub record IsMadeNow (who : Who) (now c : ℕ) (write : Option ℤ) (x y : ShardValue) (old new : List Entry) (e : Entry) : Type 0 where
+pub record IsMadeNow (who : Who) (joined now c : ℕ) (write : Option ℤ) (x y : ShardValue) (old new : List Entry) (e : Entry) : Type 0 where
   pub asked : IsAsked c write e.access
   pub cell : e.access.cell.0 ≡ c
-  pub made : IsMade who e.ticket e.access x y
+  pub made : IsMade who joined e.ticket e.access x y
   pub there : c < x.cells.shard.cells
   pub next : e.ticket ≡ next_ticket x.last now
   pub bound : e.ticket ≤ 2 ^ 62

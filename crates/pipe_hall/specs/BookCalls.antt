@@ -11,7 +11,7 @@ use Rattle.pipe_frame.specs.TokenFields.{TokenFields}
 use Rattle.frame_book.specs.BookStates.{BookState, HasRisingTickets, IsOut, Spent, events_of, item_or, state_of}
 use Rattle.pipe_hall.specs.SeatViews.{InstanceData, constants_of}
 use Rattle.pipe_hall.specs.Logs.{trace_by}
-use Rattle.pipe_hall.specs.BookParts.{HasSeats, IsTimelyToken, KnowsInstance, IsTimelyTrace, marks_in}
+use Rattle.pipe_hall.specs.BookParts.{HasSeats, IsTimelyToken, KnowsInstance, IsTimelyTrace, joined_in, marks_in}
 
 -- the log has grown by these entries, and the other iterations are as they were
 pub record LeavesOthers (b c : BookState) (i : ℕ) : Type 0 where
@@ -25,6 +25,7 @@ pub record LeavesOthers (b c : BookState) (i : ℕ) : Type 0 where
   pub ends : (j k end : ℕ) → j ≢ i → end_ticket_of c.log j k ≡ Some end → end_ticket_of b.log j k ≡ Some end
   pub starts : (x : NodeId) → IsStarted (starts_of (events_of b.log)) x → IsStarted (starts_of (events_of c.log)) x
   pub marks : (x : NodeId) → IsStarted (starts_of (events_of b.log)) x → marks_in c x ≡ marks_in b x
+  pub joins : (x : NodeId) → IsStarted (starts_of (events_of b.log)) x → joined_in c x ≡ joined_in b x
 
 -- what is known of iteration i afterwards
 pub record IsIterationAfter (b : BookState) (back : Option InstanceData) (c : BookState) (given : Option InstanceData) (i : ℕ) : Type 0 where

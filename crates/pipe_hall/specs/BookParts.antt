@@ -12,6 +12,7 @@ use Rattle.pipe_model.specs.Runs.ControlRun.{ControlRun}
 use Rattle.pipe_model.specs.Runs.RunLogs.{columns_after}
 use Rattle.pipe_model.specs.Runs.TicketLogs.{TimedAction, TicketsRise}
 use Rattle.pipe_model.specs.Runs.TicketOrder.{start_ticket_of, end_ticket_of}
+use Rattle.pipe_frame.specs.RunningTokens.{left_joined}
 use Rattle.pipe_frame.specs.TokenFields.{TokenFields}
 use Rattle.frame_book.specs.BookStates.{BookState, HasRisingTickets, IsOut, Spent, Kept, events_of, item_or, made, replies_at, state_of, timed_access}
 use Rattle.frame_book.specs.GivenTokens.{IsOutOf}
@@ -20,6 +21,10 @@ use Rattle.pipe_hall.specs.SeatViews.{InstanceData}
 -- the marks of an instance that has started
 abbrev pub marks_in : BookState → NodeId → Marks
 marks_in b x = instance_marks (columns_after (events_of b.log)) (starts_of (events_of b.log)) x.iteration x.index
+
+-- the last index of the left column that precedes it
+abbrev pub joined_in : BookState → NodeId → ℕ
+joined_in b x = left_joined (columns_after (events_of b.log)) x.iteration x.index
 
 -- instance k of iteration i has started, at a ticket of at most `now`
 pub record StartedBy (log : List BookEntry) (i k now : ℕ) : Type 0 where

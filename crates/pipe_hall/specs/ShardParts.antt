@@ -1,5 +1,5 @@
 -- The parts of a hall's rule that speak of a shard.
-use Rattle.std.specs.Prelude.{◌≡◌, ℕ, List, [], ◌∷◌, ◌++◌, ◌+◌, ◌*◌, ◌%◌, ◌^◌, ◌<◌, ◌≤◌, length, Option, AllPairs, slice_index_or}
+use Rattle.std.specs.Prelude.{◌≡◌, ℕ, List, [], ◌∷◌, ◌++◌, ◌+◌, ◌*◌, ◌%◌, ◌^◌, ◌<◌, ◌≤◌, length, Option, Some, AllPairs, slice_index_or}
 use Rattle.pipe_model.specs.declared.access.Access.{Access}
 use Rattle.pipe_model.specs.declared.marks.Marks.{Marks}
 use Rattle.pipe_model.specs.declared.node.NodeId.{NodeId}
@@ -16,10 +16,11 @@ use Rattle.cell_store.specs.ShardState.{IsStateAfter}
 use Rattle.access_history.specs.declared.history.History.{History}
 use Rattle.access_history.specs.declared.history.Who.{Who}
 use Rattle.access_history.specs.KeptInstances.{AgreeOn, AllKept, IsHistoryAfter, nothing_kept}
+use Rattle.access_history.specs.KnownOrder.{AgreeOnKnown}
 use Rattle.frame_book.specs.BookStates.{BookState, events_of}
 use Rattle.pipe_hall.specs.SeatViews.{InstanceData, ShardValue}
 use Rattle.pipe_hall.specs.Logs.{of_node, of_shard, trace_by, accesses_of, noted_to}
-use Rattle.pipe_hall.specs.BookParts.{marks_in}
+use Rattle.pipe_hall.specs.BookParts.{joined_in, marks_in}
 
 -- the two order lists that were seen
 abbrev pub down_list : SeenLists → List ℕ
@@ -37,14 +38,18 @@ abbrev pub AgreeOnLog : (NodeId → Marks) → SeenLists → List ShardEntry →
 AgreeOnLog marks lists log down right = (e f : ShardEntry) → Among e log → Among f log
     → AgreeOn (down_list lists) (right_list lists) down right (who_of marks e) (who_of marks f)
 
+-- of two instances of the log, the orders have one before the other where an access counts it so without a question to the lists
+abbrev pub AgreeOnKnownLog : (NodeId → ℕ) → List ShardEntry → (NodeId → ℕ) → (NodeId → ℕ) → Type 0
+AgreeOnKnownLog joined log down right = (e f : ShardEntry) → Among e log → Among f log → AgreeOnKnown (Some (joined e.node)) down right e.node f.node
+
 -- a kept instance is that of an entry
 abbrev pub IsOfLog : (NodeId → Marks) → List ShardEntry → Who → Type 0
 IsOfLog marks log w = (e : ShardEntry) × Among e log × (w ≡ who_of marks e)
 
--- the history of cell c is that of the accesses in the log, by any two orders that agree with the lists
-pub record IsCellHistory (marks : NodeId → Marks) (lists : SeenLists) (log : List ShardEntry) (c : ℕ) (h : History) : Type 0 where
+-- the history of cell c is that of the accesses in the log, by any two orders that agree with the lists and with what is known without them
+pub record IsCellHistory (marks : NodeId → Marks) (joined : NodeId → ℕ) (lists : SeenLists) (log : List ShardEntry) (c : ℕ) (h : History) : Type 0 where
   pub kept : AllKept (IsOfLog marks log) h
-  pub after : (down right : NodeId → ℕ) → AgreeOnLog marks lists log down right → IsHistoryAfter down right (noted_to c log) h
+  pub after : (down right : NodeId → ℕ) → AgreeOnLog marks lists log down right → AgreeOnKnownLog joined log down right → IsHistoryAfter down right (noted_to c log) h
 
 -- the history at a slot of the shard
 abbrev pub history_at : List History → ℕ → History
@@ -57,7 +62,7 @@ last_of (e ∷ []) = e.ticket
 last_of (e ∷ (f ∷ es)) = last_of (f ∷ es)
 
 -- a shard after the accesses of its log, and accesses before the run
-pub record IsShardOf (before : List Access) (store : InitialStore) (marks : NodeId → Marks) (k : ℕ) (x : ShardValue) : Type 0 where
+pub record IsShardOf (before : List Access) (store : InitialStore) (marks : NodeId → Marks) (joined : NodeId → ℕ) (k : ℕ) (x : ShardValue) : Type 0 where
   pub number : x.number ≡ k
   pub part : (x.cells.shard.number ≡ k) × (x.cells.shard.shards ≡ 16)
   pub cells : IsStateAfter store (before ++ accesses_of x.log) x.cells
@@ -70,7 +75,7 @@ pub record IsShardOf (before : List Access) (store : InitialStore) (marks : Node
   pub bound : x.last ≤ 2 ^ 62
   pub seen : (e : ShardEntry) → Among e x.log → AreIn (down_list x.lists) (right_list x.lists) (marks e.node)
   pub room : x.cells.shard.cells ≤ k + 16 * length x.histories
-  pub histories : (slot : ℕ) → IsCellHistory marks x.lists x.log (k + 16 * slot) (history_at x.histories slot)
+  pub histories : (slot : ℕ) → IsCellHistory marks joined x.lists x.log (k + 16 * slot) (history_at x.histories slot)
 
 -- both lists have identities
 abbrev pub HaveIdentities : SeenLists → Type 0
@@ -78,7 +83,7 @@ HaveIdentities l = ((d : ℕ) × (ds : List ℕ) × (l.down ≡ d ∷ ds)) × ((
 
 -- shard k beside the book and the seats: it has the entries of their traces, and no others
 pub record HasShard (before : List Access) (b : BookState) (seats : ℕ → Option InstanceData) (k : ℕ) (x : ShardValue) : Type 0 where
-  pub shard : IsShardOf before (store_of (tree_of b.program)) (marks_in b) k x
+  pub shard : IsShardOf before (store_of (tree_of b.program)) (marks_in b) (joined_in b) k x
   pub identities : (x.lists.down ≡ b.lists.down) × (x.lists.right ≡ b.lists.right)
   pub named : HaveIdentities x.lists
   pub traces : (i n : ℕ) → of_node i n x.log ≡ of_shard k (trace_by b (seats i) i n)

@@ -41,6 +41,7 @@ fn access_by<R: Wait, M: Carrier>(
     hall: &Locks<M>,
     run: &mut Seat<Slot<M>, View>,
     who: Who,
+    joined: u32,
     now: u64,
     passes: &mut TwoPasses,
     trace: &mut Trace,
@@ -48,7 +49,7 @@ fn access_by<R: Wait, M: Carrier>(
     write: Option<i64>,
 ) -> Option<Entry>
     requires own { run.old.table_id ≡ hall.now.table.shared.table_id }
-    requires runs { (f : TokenFields) × RunsAs run.old.me f × (who ≡ record { node = at f.iteration f.index; marks = f.marks }) × (now ≡ f.now) }
+    requires runs { (f : TokenFields) × RunsAs run.old.me f × (who ≡ record { node = at f.iteration f.index; marks = f.marks }) × (now ≡ f.now) × (joined ≡ f.joined) }
     requires cell { cell.0 < length (store_of (hall_of run.old.table_id run.old.me).tree).values }
     requires lists { AreSeenLists (Some passes.old) (hall_of run.old.table_id run.old.me).lists.down (hall_of run.old.table_id run.old.me).lists.right }
     requires known { AreElementsOf passes.old.down_log passes.old.right_log who.marks }
@@ -60,7 +61,7 @@ fn access_by<R: Wait, M: Carrier>(
     let number = cell.0 % SHARDS;
     let mut shard = hall.take_shard(rt, run, number);
     let lent = shard.get_mut();
-    let done = lent.access(rt, who, now, cell, write, passes, trace);
+    let done = lent.access(rt, who, joined, now, cell, write, passes, trace);
     hall.return_shard(run, number, shard);
     done
 }
@@ -92,12 +93,14 @@ fn access_for<R: Wait, M: Carrier>(
         },
         marks: token.marks,
     };
+    let joined = token.joined;
     let now = token.now;
     let done = access_by(
         rt,
         hall,
         run,
         who,
+        joined,
         now,
         token.payload.passes(),
         trace,

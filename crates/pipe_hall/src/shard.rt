@@ -93,12 +93,14 @@ fn apply(cells: &mut Cells, access: Access)
     }
 }
 
-// Notes an access in a history.
+// Notes an access in a history. Of kept instances above `who`, and of those of the left column at an
+// index of at most `joined`, the lists are not asked.
 fn note_at<R: Wait>(
     rt: &R,
     history: &mut History,
     passes: &mut TwoPasses,
     who: Who,
+    joined: u32,
     kind: AccessKind,
 )
     requires kept { KeptAreIn (down_list passes.old) (right_list passes.old) history.old }
@@ -106,10 +108,10 @@ fn note_at<R: Wait>(
     ensures down { KeepsOrder (down_list passes.old) (down_list passes.new) }
     ensures right { KeepsOrder (right_list passes.old) (right_list passes.new) }
     ensures each { KeepsAmong history.old who history.new }
-    ensures step { IsNotedStep who kind passes.old history.old history.new }
+    ensures step { IsNotedStep who joined kind passes.old history.old history.new }
     ensures identities { (passes.new.down ≡ passes.old.down) × (passes.new.right ≡ passes.old.right) }
 {
-    history.note(who, kind, &mut Asking { rt, passes });
+    history.note_joined(who, Some(joined), kind, &mut Asking { rt, passes });
 }
 
 // Notes an access in the history of its cell.
@@ -119,14 +121,15 @@ fn note_in<R: Wait>(
     passes: &mut TwoPasses,
     slot: usize,
     who: Who,
+    joined: u32,
     kind: AccessKind,
 )
     requires there { slot < length histories.old.items }
     requires kept { KeptAreIn (down_list passes.old) (right_list passes.old) (history_at histories.old.items slot) }
     requires new { AreIn (down_list passes.old) (right_list passes.old) who.marks }
-    ensures noted { IsNoted who kind slot passes.old passes.new histories.old.items histories.new.items }
+    ensures noted { IsNoted who joined kind slot passes.old passes.new histories.old.items histories.new.items }
 {
-    note_at(rt, &mut histories[slot], passes, who, kind);
+    note_at(rt, &mut histories[slot], passes, who, joined, kind);
 }
 
 impl Shard {
@@ -135,6 +138,7 @@ impl Shard {
         &mut self,
         rt: &R,
         who: Who,
+        joined: u32,
         now: u64,
         cell: CellId,
         write: Option<i64>,
@@ -145,7 +149,7 @@ impl Shard {
         requires lists { (self.old.lists.down ≡ passes.old.down) × (self.old.lists.right ≡ passes.old.right) }
         requires known { AreElementsOf passes.old.down_log passes.old.right_log who.marks }
         ensures none { IfNone result ((self.new ≡ self.old) × (trace.new ≡ trace.old)) }
-        ensures made { IfSome result (IsMadeNow who now cell.0 write self.old self.new trace.old trace.new) }
+        ensures made { IfSome result (IsMadeNow who joined now cell.0 write self.old self.new trace.old trace.new) }
         ensures passes { passes.new ≡ passes.old }
     {
         let most = self.last.max(now);
@@ -169,6 +173,7 @@ impl Shard {
             &mut self.passes,
             (cell.0 / SHARDS) as usize,
             who,
+            joined,
             access.kind,
         );
         self.log.push_reserved(ShardEntry {

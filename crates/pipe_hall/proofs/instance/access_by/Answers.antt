@@ -46,7 +46,7 @@ return_shard-requires-clause-made g c =
       ap (λ (k : ViewAndSlots g.row.M.Denot). k.0.it.held) t ∙ ap (λ hs. (i, TheShard x) ∷ hs) r.held,
       ⊎_elim (λ (s : c.access-done.new.self ≡ x). inl s)
           (λ (s : MadeBy r.run_data (c.args.cell.0 % 16) x c.access-done.new.self). inr (r.run_data, run_is, s))
-          (either_made c.args.who q.0 q.2 c.args.now c.args.cell.0 q.3 c.args.write x c.access-done.new.self c.args.trace.now c.access-done.new.trace c.access-done.result r.run_data r.fields e.none e.made),
+          (either_made c.args.who q.0 q.2 c.args.now c.args.joined c.args.cell.0 q.3 q.4 c.args.write x c.access-done.new.self c.args.trace.now c.access-done.new.trace c.access-done.result r.run_data r.fields e.none e.made),
     )
 
 pub returns-clause-ran : goal.returns-clause-ran
@@ -62,7 +62,7 @@ returns-clause-ran g c =
     let held = ap (λ (k : ViewAndSlots g.row.M.Denot). k.0.it.held) t ∙ ap (λ hs. (i, TheShard x) ∷ hs) r.held in
     let given = c.return_shard.ensures.given x held in
     let w : SeatView = after_shard c.take_shard-shard.new.seat.me.0.it x y in
-    given ∙ ap (λ (u : SeatView). (view_of u, [])) (run_done c.args.who q.0 q.2 c.args.now c.args.cell.0 q.3 c.args.write x y c.args.trace.now c.access-done.new.trace c.access-done.result v w refl
+    given ∙ ap (λ (u : SeatView). (view_of u, [])) (run_done c.args.who q.0 q.2 c.args.now c.args.joined c.args.cell.0 q.3 q.4 c.args.write x y c.args.trace.now c.access-done.new.trace c.access-done.result v w refl
     (ap (λ (k : ViewAndSlots g.row.M.Denot). k.0.it.constants) t) (ap (λ (k : ViewAndSlots g.row.M.Denot). k.0.it.seen) t) (ap (λ (k : ViewAndSlots g.row.M.Denot). k.0.it.met) t) (ap (λ (k : ViewAndSlots g.row.M.Denot). k.0.it.tokens) t) r.held
     (ap (λ (k : ViewAndSlots g.row.M.Denot). after_log k.0.it.run x.log y.log) t) e.none e.made)
 
@@ -70,4 +70,4 @@ pub returns-clause-trace : goal.returns-clause-trace
 returns-clause-trace g c =
     let q = c.requires.runs in
     let e = c.access-done.ensures in
-    trace_done c.args.who q.0 q.2 c.args.now c.args.cell.0 q.3 c.args.write c.get_mut-lent.result.now c.access-done.new.self c.args.trace.now c.access-done.new.trace c.access-done.result e.none e.made
+    trace_done c.args.who q.0 q.2 c.args.now c.args.joined c.args.cell.0 q.3 q.4 c.args.write c.get_mut-lent.result.now c.access-done.new.self c.args.trace.now c.access-done.new.trace c.access-done.result e.none e.made

@@ -20,7 +20,7 @@ returns g c =
         len = length-set hs slot new;
         others = λ n ne. set_other hs slot n new nothing_kept ne;
         each = subst (λ (k : History). KeepsAmong (get_or hs slot nothing_kept) c.args.who k) (sym after) (subst (λ (h : History). KeepsAmong h c.args.who new) old c.note_at.ensures.each);
-        step = subst (λ (k : History). IsNotedStep c.args.who c.args.kind c.args.passes.now (get_or hs slot nothing_kept) k) (sym after) (subst (λ (h : History). IsNotedStep c.args.who c.args.kind c.args.passes.now h new) old c.note_at.ensures.step);
+        step = subst (λ (k : History). IsNotedStep c.args.who c.args.joined c.args.kind c.args.passes.now (get_or hs slot nothing_kept) k) (sym after) (subst (λ (h : History). IsNotedStep c.args.who c.args.joined c.args.kind c.args.passes.now h new) old c.note_at.ensures.step);
       };
     }
 

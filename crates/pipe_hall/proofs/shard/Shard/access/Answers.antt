@@ -45,8 +45,8 @@ returns-clause-made g c =
           reply = subst (λ (y : ShardValue). (store : InitialStore) (before : List Access) → IsStateAfter store before y.cells → HasReply store before a) view c.asked-access.ensures.reply;
           log = c.push_reserved.ensures.items ∙ ap (λ z. z ++ record { ticket = c.max-most.result + 1; node = c.args.who.node; access = a } ∷ []) (c.reserve.ensures.items ∙ ap (λ (y : ShardValue). y.log) view);
           last = refl;
-          noted = subst (λ z. IsNoted c.args.who a.kind (z / 16) met c.note_in.new.passes c.args.self.now.histories c.note_in.new.histories.items) (sym c.asked-access.ensures.cell)
-              (subst (λ (y : ShardValue). IsNoted c.args.who a.kind (c.args.cell.0 / 16) met c.note_in.new.passes y.histories c.note_in.new.histories.items) view c.note_in.ensures.noted);
+          noted = subst (λ z. IsNoted c.args.who c.args.joined a.kind (z / 16) met c.note_in.new.passes c.args.self.now.histories c.note_in.new.histories.items) (sym c.asked-access.ensures.cell)
+              (subst (λ (y : ShardValue). IsNoted c.args.who c.args.joined a.kind (c.args.cell.0 / 16) met c.note_in.new.passes y.histories c.note_in.new.histories.items) view c.note_in.ensures.noted);
         };
       };
       there = c.requires.ready.there;
