@@ -1,11 +1,10 @@
 -- Trees whose code stays in bounds: names are known, and there is room for the stack, the slots and the cells. And code that is part of other code.
-use Rattle.std.specs.Prelude.{◌≡◌, ℕ, suc, ◌+◌, ◌<◌, ◌≤◌, List, [], ◌∷◌, length, Option, Some, None, slice_get}
+use Rattle.std.specs.Prelude.{ℕ, suc, ◌+◌, ◌<◌, ◌≤◌, List, length, Option, Some, None}
 use Rattle.pipe_model.specs.declared.bounds.TheConstants.{MOST_LOCALS}
 use Rattle.pipe_model.specs.Language.Evaluation.{CellRange}
 use Rattle.pipe_model.specs.Language.SyntaxTree.{Expression, Number, Name, Element, And, Or, Binary, Unary, More, Take, Iter, Statement, Let, Assign, AssignElement, Emit, If, While, Stage, NextStage, Statements, Empty, Then}
 use Rattle.stage_code.specs.Instructions.{Bounds}
 use Rattle.stage_code.specs.Slots.{slot_of, locals_after}
-use Rattle.stage_code.specs.declared.instr.Instr.{Instr}
 
 -- a name without an index has a slot, or its first cell is served
 abbrev pub IsKnown : Bounds → Option ℕ → Option CellRange → Type 0

@@ -25,17 +25,17 @@ impl Frozen for Brand {
     ghost served = { 0 };
 }
 
-/// In place of a memory of type `M`: refuses every access, so an instruction that would make one is then
-/// pending. Nothing of it is there when the program runs. It is a type of its own for each `M`, so that the
-/// loop over instructions has one caller for each, of which it becomes a part: then the state of the instance
-/// is in registers.
+/// In place of a memory: refuses every access, so an instruction that would make one is then pending. Nothing
+/// of it is there when the program runs. It is a type of its own for each `K`, so that the loop over
+/// instructions has one caller for each, of which it becomes a part: then the state of the instance is in
+/// registers.
 #[derive(Drop)]
-pub struct Refusing<M, F: Frozen> {
-    of: PhantomData<M>,
+pub struct Refusing<K, F: Frozen> {
+    of: PhantomData<K>,
     frozen: PhantomData<F>,
 }
 
-impl<M: Memory, F: Frozen> Refusing<M, F> {
+impl<K, F: Frozen> Refusing<K, F> {
     // Returns a memory that refuses every access.
     pub fn new() -> Self {
         Refusing {
@@ -45,7 +45,7 @@ impl<M: Memory, F: Frozen> Refusing<M, F> {
     }
 }
 
-impl<M: Memory, F: Frozen> Memory for Refusing<M, F> {
+impl<K, F: Frozen> Memory for Refusing<K, F> {
     ghost use Rattle.std.specs.Prelude.{true};
 
     ghost made = { λ m. F.made };
