@@ -144,6 +144,7 @@ module _ (before : List Access) (store : InitialStore) (marks : NodeId → Marks
         in_right = ((λ p. w.in_right.0 (r.1 p)), (λ p. r.0 (w.in_right.1 p)));
       }
 
+  -- so do those that agree with what is known without the lists
   known_old : (down right : NodeId → ℕ) → AgreeOnKnownLog joined y.log down right → AgreeOnKnownLog joined x.log down right
   known_old down right known f g mf mg = known f g (in_old f mf) (in_old g mg)
 

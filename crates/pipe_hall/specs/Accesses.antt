@@ -36,8 +36,8 @@ pub record CanBegin (x : ShardValue) (c : ℕ) : Type 0 where
   pub slot : c / 16 < length x.histories
   pub kept : KeptAreIn (down_list x.lists) (right_list x.lists) (history_at x.histories (c / 16))
 
--- one more access is noted, by any orders that agree with the lists, and in which the kept instances that count as before this one are;
--- those of the left column are known up to `joined`
+-- one more access is noted, by any orders that agree with the lists, and that have a kept instance before this one where it counts so
+-- without a question: above it, or in the left column at an index of at most `joined`
 abbrev pub IsNotedStep : Who → ℕ → AccessKind → SeenLists → History → History → Type 0
 IsNotedStep who joined kind old h k = (down right : NodeId → ℕ) → AgreeOnKept (down_list old) (right_list old) down right who h
     → AgreeOnKnownKept (Some joined) down right who.node h
